@@ -1,23 +1,13 @@
 -- What a clause of an exported call says once the call's result is known.
-use Rattle.std.proofs.Common.{◌≡◌, ◌≤◌, ◌⊎◌, ℕ, arith, subst, MutBor}
-use Rattle.std.specs.Prelude.{Option, Some, None, Result, Ok, Err, IsSomeAnd, IfSome}
+use Rattle.std.specs.Prelude.{◌≡◌, ◌≤◌, ◌⊎◌}
+use Rattle.g1_c.specs.{ℕ, arith, subst, MutBor, Option, Some, None, Result, Ok, Err, IsSomeAnd, IfSome, Pause, Refusal, OfKind, kind_word, refusal_word, TellsRefusal, Tells, Answers, IsHeapRefused, IsRoleRefused, refl, sym, OfRole, IfRole, SaysNoMember, IsSameHeap, OfPaused, SaysNoHeap, SaysNotPaused, IsCalled, role_ok, role_of, role_why, role_if, visit_same, called_ok, called_why, called_same}
 use Rattle.std.specs.Fn.{FnOnceReturnsAtMut}
 use denote.Param.Members.{Once}
-use Rattle.g1_race.specs.Over.{Pause}
-use Rattle.g1_handles.specs.declared.code.Refusal.{Refusal}
 use Rattle.g1_handles.specs.declared.heap.racing_heap.RacingHeap.{RacingHeap}
 use Rattle.g1_handles.specs.declared.member.Role.{Ghosts}
 use Rattle.g1_handles.specs.declared.member.Member.{Member}
 use Rattle.g1_layout.specs.declared.kind.Kind.{Kind}
-use Rattle.g1_handles.specs.Codes.{OfKind, kind_word, refusal_word}
-use Rattle.g1_c.specs.Calls.{TellsRefusal}
-use Rattle.g1_handles.specs.Racing.{OfRole, IfRole}
-use Rattle.g1_handles.specs.Refusals.{SaysNoMember}
 use Rattle.g1_handles.specs.Visits.{IsVisit}
-use Rattle.g1_handles.specs.Life.{IsSameHeap, OfPaused, SaysNoHeap, SaysNotPaused}
-use Rattle.g1_handles.specs.HeapCalls.{IsCalled}
-use Rattle.g1_handles.proofs.VisitLemmas.{role_ok, role_of, role_why, role_if, visit_same}
-use Rattle.g1_handles.proofs.CalledLemmas.{called_ok, called_why, called_same}
 
 module _ {V : Type 0} (most word : ℕ) (old new : Option V) (Untold : Type 0) (Why : Refusal → Type 0) where
   -- what a call did is no refusal
@@ -30,6 +20,20 @@ module _ {V : Type 0} (most word : ℕ) (old new : Option V) (Untold : Type 0) (
 
   pub tells : (r : Refusal) → word ≡ refusal_word r → Untold → Why r → new ≡ old → TellsRefusal most word old new Untold Why
   tells r is untold why same = record { untold = λ _. untold; why = λ _. (r, is, why); same = λ _. same }
+
+-- a question whose answer is told
+module _ {V A : Type 0} (word : ℕ) (told : A) (old new : Option V) (Untold : Type 0) (Is : A → Type 0) (Why : Refusal → Type 0) where
+  answers : (answer : Result A Refusal) → Tells answer word told Untold → ((a : A) → answer ≡ Ok a → Is a) → ((r : Refusal) → answer ≡ Err r → Why r) → new ≡ old → Answers word told Untold old new Is Why
+  answers (Ok a) (done, is) so why same = record {
+    answer = λ _. subst Is (sym is) (so a refl);
+    refusal = tells_none 0 word old new Untold Why (omega (arith, done));
+    same = same;
+  }
+  answers (Err r) (is, more, untold) so why same = record {
+    answer = λ zero. absurd (omega (arith, zero, more));
+    refusal = tells 0 word old new Untold Why r is untold (why r refl) same;
+    same = same;
+  }
 
 -- what is so of two values is so of what they equal
 moved : {V : Type 0} (P : V → V → Type 0) {p q x y : V} → p ≡ x → q ≡ y → P p q → P x y
@@ -128,3 +132,29 @@ module _ {F A : Type 0} (h : Once F (MutBor Pause × Unit {0}) (Result A Refusal
       → ((p q : MutBor Pause) → h.post f (p, tt) (r, (q, tt)) → q.now ≡ p.now) → new ≡ old
   heap_same old new r is so =
       called_same Done old new r (λ p q call. moved (λ x y. y ≡ x) call.shows call.leaves (so call.shown call.left call.met)) is
+
+  pub heap_answers : (R : Pause → Pause → A → Type 0) (Why : Pause → Refusal → Type 0) (old new : Option RacingHeap) (answer : Result A Refusal) (word : ℕ) (told : A) (Untold : Type 0)
+      → IsCalled Done old answer new → Tells answer word told Untold
+      → ((a : A) (p q : MutBor Pause) → h.post f (p, tt) (Ok a, (q, tt)) → R p.now q.now a)
+      → ((r : Refusal) (p q : MutBor Pause) → h.post f (p, tt) (Err r, (q, tt)) → Why p.now r)
+      → ((r : Result A Refusal) (p q : MutBor Pause) → h.post f (p, tt) (r, (q, tt)) → q.now ≡ p.now)
+      → Answers word told Untold old new (λ a. IsSameHeap old new (λ o n. R o n a)) (IsHeapRefused old Why)
+  heap_answers R Why old new answer word told Untold is tells so why same =
+      answers word told old new Untold (λ a. IsSameHeap old new (λ o n. R o n a)) (IsHeapRefused old Why) answer tells
+      (λ a e. heap_made (λ o n. R o n a) old new a (subst (λ r. IsCalled Done old r new) e is) (so a))
+      (λ r e. heap_refused (λ p. Why p r) old new r (subst (λ r. IsCalled Done old r new) e is) (why r))
+      (heap_same old new answer is (same answer))
+
+-- a reader's question
+module _ {P : Type 0} {g : Ghosts P} {T : Type 0} (seen : Member P g → P → T) {F A : Type 0} (h : Once F (MutBor (Member P g) × Unit {0}) (Result A Refusal × (MutBor (Member P g) × Unit {0}))) (f : F) where
+  pub role_answers : (R : T → A → Type 0) (Why : T → Refusal → Type 0) (old new : Option (Member P g)) (answer : Result A Refusal) (word : ℕ) (told : A) (Untold : Type 0)
+      → IsVisit (Made seen h f) old answer new → Tells answer word told Untold
+      → ((a : A) (m n : MutBor (Member P g)) → h.post f (m, tt) (Ok a, (n, tt)) → OfRole seen (Some m.now) (λ s. R s a))
+      → ((r : Refusal) (m n : MutBor (Member P g)) → h.post f (m, tt) (Err r, (n, tt)) → SaysNoMember (Some m.now) r ⊎ OfRole seen (Some m.now) (λ s. Why s r))
+      → ((r : Result A Refusal) (m n : MutBor (Member P g)) → h.post f (m, tt) (r, (n, tt)) → n.now ≡ m.now)
+      → Answers word told Untold old new (λ a. OfRole seen old (λ s. R s a)) (IsRoleRefused seen old Why)
+  role_answers R Why old new answer word told Untold is tells so why same =
+      answers word told old new Untold (λ a. OfRole seen old (λ s. R s a)) (IsRoleRefused seen old Why) answer tells
+      (λ a e. role_seen seen h f (λ s. R s a) old new a (subst (λ r. IsVisit (Made seen h f) old r new) e is) (so a))
+      (λ r e. role_refused seen h f (λ s. Why s r) old new r (subst (λ r. IsVisit (Made seen h f) old r new) e is) (why r))
+      (role_same h f old new answer is (same answer))

@@ -25,3 +25,4 @@
 pub mod heap;
 pub mod member;
 pub mod one_core;
+mod tell;

@@ -1,10 +1,8 @@
 -- The pairs of a core, listed by region.
-use Rattle.std.proofs.Common.{◌≡◌, ◌∙◌, ℕ, zero, suc, ◌+◌, ◌<◌, List, [], ◌∷◌, ◌++◌, length, take, map, refl, ap, sym, append_assoc, arith}
-use Rattle.std.specs.Prelude.{sum_by}
+use Rattle.std.specs.Prelude.{◌≡◌, ◌+◌, ◌<◌, ◌∷◌, ◌++◌}
+use Rattle.g1_core.specs.{◌∙◌, ℕ, zero, suc, List, [], length, take, map, refl, ap, sym, arith, sum_by, append-nil, length-append, length-map, sum_by-cons, Pairs, AreTied, list_at, pairs_from, pairs_of}
+use Rattle.std.proofs.Common.{append_assoc}
 use Rattle.std.specs.FinSet as set
-use Rattle.std.proofs.lemmas.List.{append-nil, length-append, length-map}
-use Rattle.std.proofs.lemmas.List.Sums.{sum_by-cons}
-use Rattle.g1_sets.specs.Pairs.{Pairs, AreTied, list_at, pairs_from, pairs_of}
 use Rattle.g1_sets.proofs.PairLemmas.{in_set, to_set}
 use Rattle.g1_sets.proofs.TotalLemmas.{total_is}
 use Rattle.g1_core.proofs.SetLemmas.{same_pairs}

@@ -1,15 +1,8 @@
 -- References, marks and pairs that are taken over one by one.
-use Rattle.std.proofs.Common.{◌≡◌, inl, inr, ℕ, zero, suc, ◌+◌, ◌<◌, Bool, true, false, List, [], ◌∷◌, ◌++◌, length, take, drop, set as list_set, get_or, Contains, refl, sym, ap, ◌∙◌, subst, arith, replicate}
+use Rattle.std.specs.Prelude.{◌≡◌, ◌+◌, ◌<◌, ◌∷◌, ◌++◌}
+use Rattle.g1_core.specs.{inl, inr, ℕ, zero, suc, Bool, true, false, List, [], length, take, drop, get_or, Contains, refl, sym, ap, ◌∙◌, subst, arith, replicate, or_cases, or_left, or_right, false_from_ne_true, get_or-map, length-map, length-replicate, take_more, Contains-append_left, Contains-append_right, Contains-append_cases, pair_cmp, PairSet, Mark, Clean, Dirty, of_card, pending_of, mark_for, marks_for}
+use Rattle.std.proofs.Common.{set as list_set}
 use Rattle.std.specs.FinSet as set
-use Rattle.std.proofs.lemmas.Bool.{or_cases, or_left, or_right, false_from_ne_true}
-use Rattle.std.proofs.lemmas.List.{get_or-map, length-map, length-replicate, take_more}
-use Rattle.std.proofs.lemmas.List.Elements.{Contains-append_left, Contains-append_right, Contains-append_cases}
-use Rattle.g1_layout.specs.Sets.{pair_cmp, PairSet}
-use Rattle.g1_heap.specs.declared.mark.Mark.{Mark}
-use Rattle.g1_heap.specs.declared.mark.Mark.TheVariants.{Clean, Dirty}
-use Rattle.g1_sets.specs.Pairs.{of_card}
-use Rattle.g1_core.specs.Machine.{pending_of}
-use Rattle.g1_core.specs.Adoption.{mark_for, marks_for}
 use Rattle.g1_core.proofs.SetLemmas.{pair_total, same_pairs, in_pairs, to_pairs}
 use Rattle.g1_core.proofs.MarkLemmas.{dirty_clean, from_pending, pending_marked, one_more}
 use Rattle.g1_core.proofs.OpeningLemmas.{all_clean}

@@ -1,20 +1,9 @@
 -- A core that is made of references, marked cards and pairs.
-use Rattle.std.proofs.Common.{◌≡◌, ℕ, zero, suc, ◌≤◌, Bool, true, false, List, [], ◌∷◌, get_or, Option, refl, sym, ap, ◌∙◌, subst, arith}
-use Rattle.std.specs.Prelude.{All}
+use Rattle.std.specs.Prelude.{◌≡◌, ◌≤◌, ◌∷◌}
+use Rattle.g1_core.specs.{ℕ, zero, suc, Bool, true, false, List, [], get_or, Option, refl, sym, ap, ◌∙◌, subst, arith, All, IsDistinct, length-replicate, Shape, card_count, pair_cmp, PairSet, Clean, Dirty, Held, Cells, AreCells, Pairs, Ring, new_ring, IsCovered, AreOutside, IsCore, AreParts, pending_of, table_from, machine_from, IsPairOf, mark_for, marks_for, table_with, adopted_machine}
 use Rattle.std.specs.FinSet as set
-use Rattle.std.specs.List.{IsDistinct}
-use Rattle.std.proofs.lemmas.List.{length-replicate}
-use Rattle.g1_layout.specs.Shape.{Shape, card_count}
-use Rattle.g1_layout.specs.Sets.{pair_cmp, PairSet}
-use Rattle.g1_heap.specs.declared.mark.Mark.{Mark}
-use Rattle.g1_heap.specs.declared.mark.Mark.TheVariants.{Clean, Dirty, Held}
-use Rattle.g1_heap.specs.Cells.{Cells, AreCells}
-use Rattle.g1_sets.specs.Pairs.{Pairs}
-use Rattle.g1_hot.specs.Ring.{Ring, new_ring}
-use Rattle.g1_core.specs.Table.{Table, IsCovered, AreOutside}
+use Rattle.g1_core.specs.Table.{Table}
 use Rattle.g1_core.specs.declared.config.Settings.{Settings}
-use Rattle.g1_core.specs.Machine.{IsCore, AreParts, pending_of, table_from, machine_from}
-use Rattle.g1_core.specs.Adoption.{IsPairOf, mark_for, marks_for, table_with, adopted_machine}
 use Rattle.g1_core.proofs.SetLemmas.{All_by_member, in_pairs, to_pairs}
 use Rattle.g1_core.proofs.MarkLemmas.{dirty_clean, from_pending, to_pending}
 
@@ -40,9 +29,7 @@ none_held true e = absurd (cc (e))
 none_held false e = absurd (cc (e))
 
 pub never_held : (marked : List Bool) (card : ℕ) → get_or (marks_for marked) card Clean ≡ Held → ⊥
-never_held [] card e = absurd (let c : ◌≡◌ {A = Mark} Clean Held = e in cc (c))
-never_held (b ∷ bs) zero e = none_held b e
-never_held (b ∷ bs) (suc card) e = never_held bs card e
+never_held marked card e = none_held (get_or marked card false) (sym (mark_at marked card) ∙ e)
 
 -- the parts of such a core
 module _ (l : Shape) (s : Settings) (refs : List (Option ℕ)) (marked : List Bool) (pairs : List (ℕ × ℕ)) (limit capacity pending : ℕ) (heap : Cells) (sets : Pairs) (ring : Ring)

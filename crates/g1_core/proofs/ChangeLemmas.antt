@@ -1,20 +1,7 @@
 -- The changes of a redirect: what one is, and what it makes of a table.
-use Rattle.std.proofs.Common.{◌≡◌, ◌≢◌, ◌⊎◌, inl, inr, ℕ, zero, suc, ◌<◌, ◌+◌, ◌*◌, Bool, true, false, cond, List, [], ◌∷◌, length, get_or, set as list_set, Option, Some, None, refl, sym, ap, ◌∙◌, subst, arith, map}
-use Rattle.std.specs.Prelude.{Contains, All, nat_eq, count_by, IfSome}
-use Rattle.std.specs.List.{IsDistinct, cons_option, enumerate_from}
-use Rattle.std.proofs.lemmas.Bool.{cases_lt, eqb-true, and_parts, true≢false, false_from_ne_true}
-use Rattle.std.proofs.lemmas.List.{get_or-set_same, get_or-set_other, get_or_past}
-use Rattle.std.proofs.lemmas.List.Elements.{All-set}
-use Rattle.g1_layout.specs.Shape.{Shape, slot_count, same_offset}
-use Rattle.g1_layout.proofs.ShapeLemmas.{same_offset_region}
-use Rattle.g1_core.specs.declared.redirection.Change.{Change}
-use Rattle.g1_core.specs.Machine.{IsCore}
-use Rattle.g1_core.specs.Table.{enters, moved_target}
-use Rattle.g1_core.specs.Redirect.{change_at, changes_of, changed}
-use Rattle.g1_heap.specs.Cells.{Cells}
-use Rattle.g1_hot.specs.Ring.{Ring}
-use Rattle.g1_sets.specs.Pairs.{Pairs}
-use Rattle.g1_core.specs.Clearing.{AreRead}
+use Rattle.std.specs.Prelude.{◌≡◌, ◌≢◌, ◌⊎◌, ◌<◌, ◌+◌, ◌*◌, ◌∷◌}
+use Rattle.g1_core.specs.{inl, inr, ℕ, zero, suc, Bool, true, false, cond, List, [], length, get_or, Option, Some, None, refl, sym, ap, ◌∙◌, subst, arith, map, Contains, All, nat_eq, count_by, IfSome, IsDistinct, cons_option, enumerate_from, cases_lt, eqb-true, and_parts, true≢false, false_from_ne_true, get_or-set_same, get_or-set_other, get_or_past, All-set, Shape, slot_count, same_offset, same_offset_region, Change, IsCore, enters, moved_target, change_at, changes_of, changed, Cells, Ring, Pairs, AreRead}
+use Rattle.std.proofs.Common.{set as list_set}
 use Rattle.g1_core.proofs.TurnLemmas.{front_apart, rest_distinct}
 use Rattle.g1_core.proofs.PlaceLemmas.{map_set, count_set, count_none, map_same}
 
@@ -132,16 +119,4 @@ of_region_to (c ∷ cards) region card (suc k, lt, e) =
 
 -- what a heap and its sets keep while it is only read
 pub read_core : (heap now : Cells) (sets : Pairs) (ring : Ring) (pending most : ℕ) → IsCore heap sets ring pending → AreRead heap now most → IsCore now sets ring pending
-read_core heap now sets ring pending most core read = subst (λ (h : Cells). IsCore h sets ring pending) (sym read.cells) (record {
-  layouts = core.layouts;
-  parts = record {
-    cells = record { shape = core.parts.cells.shape; slots = core.parts.cells.slots; places = core.parts.cells.places; cards = core.parts.cells.cards };
-    counts = core.parts.counts;
-    some = core.parts.some;
-    distinct = core.parts.distinct;
-    held = core.parts.held;
-    known = core.parts.known;
-    cover = core.parts.cover;
-    outside = core.parts.outside;
-  };
-})
+read_core heap now sets ring pending most core read = subst (λ (h : Cells). IsCore h sets ring pending) (sym read.cells) (search)

@@ -1,27 +1,12 @@
 -- A clear is a step of the plain table: the set of a region has each card that enters it.
-use Rattle.std.proofs.Common.{◌≡◌, inl, inr, ℕ, suc, ◌<◌, ◌≤◌, ◌+◌, ◌-◌, ◌*◌, true, cond, eqb, List, [], ◌∷◌, length, Some, None, refl, sym, ap, ◌∙◌, subst, arith}
-use Rattle.std.specs.Prelude.{Contains, nat_eq, not}
-use Rattle.std.specs.List.{IsDistinct}
+use Rattle.std.specs.Prelude.{◌≡◌, ◌<◌, ◌≤◌, ◌+◌, ◌-◌, ◌*◌, ◌∷◌}
+use Rattle.g1_core.specs.{inl, inr, ℕ, suc, true, cond, eqb, List, [], length, Some, None, refl, sym, ap, ◌∙◌, subst, arith, Contains, nat_eq, not, IsDistinct, nat_cmp, Equal-is, mul-le-mul, cases_lt, eq-eqb, and_from, true≢false, false_from_ne_true, card_of, CardSet, PairSet, pair_cmp, Cells, Pairs, AreTied, list_at, without, Ring, Enters, IsCovered, IsRecorded, AreOutside, IsCore, IsLater, AreParts, pending_of, table_from, state_from, machine_from, Clear, IsFirstInto, IsStep, Answers, settled, ClearReply, clear_entry, DoesClear, member_count, IsLeastOn, AreRead}
 use Rattle.std.specs.FinSet as set
-use Rattle.std.specs.Ordering.{nat_cmp}
-use Rattle.std.specs.Cmp.{Equal-is}
-use Rattle.std.proofs.Math.Nat.{mul-le-mul}
-use Rattle.std.proofs.lemmas.Bool.{cases_lt, eq-eqb, and_from, true≢false, false_from_ne_true}
-use Rattle.g1_layout.specs.Shape.{card_of}
-use Rattle.g1_layout.specs.Sets.{CardSet, PairSet, pair_cmp}
-use Rattle.g1_heap.specs.Cells.{Cells}
-use Rattle.g1_sets.specs.Pairs.{Pairs, AreTied, list_at, without}
-use Rattle.g1_hot.specs.Ring.{Ring}
-use Rattle.g1_core.specs.Table.{Table, Enters, IsCovered, IsRecorded, AreOutside}
+use Rattle.g1_core.specs.Table.{Table}
 use Rattle.g1_core.specs.declared.config.Settings.{Settings}
-use Rattle.g1_core.specs.Machine.{Machine, IsCore, IsLater, AreParts, pending_of, table_from, state_from, machine_from}
-use Rattle.g1_core.specs.declared.entry.Call.TheVariants.{Clear}
+use Rattle.g1_core.specs.Machine.{Machine}
 use Rattle.g1_core.specs.declared.entry.Reply.TheVariants as reply
-use Rattle.g1_core.specs.Run.{IsFirstInto, IsStep, Answers, settled}
-use Rattle.g1_core.specs.declared.reply.ClearReply.{ClearReply}
 use Rattle.g1_core.specs.declared.reply.ClearReply.TheVariants as clear_reply
-use Rattle.g1_core.specs.Calls.{clear_entry, DoesClear}
-use Rattle.g1_core.specs.Clearing.{member_count, IsLeastOn, AreRead}
 use Rattle.g1_core.proofs.SetLemmas.{pair_total, pair_exact}
 use Rattle.g1_core.proofs.RunLemmas.{has_slots, step_covered}
 use Rattle.g1_core.proofs.OutsideLemmas.{cleared_outside}

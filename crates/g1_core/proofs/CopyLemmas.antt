@@ -1,10 +1,8 @@
 -- A range of slots that is copied, slot by slot.
-use Rattle.std.proofs.Common.{◌≡◌, ◌≢◌, ◌⊎◌, ℕ, zero, suc, ◌+◌, ◌-◌, ◌<◌, ◌≤◌, Bool, cond, true, false, Option, None, refl, sym, ap, ◌∙◌, subst, inl, inr, arith}
-use Rattle.std.proofs.lemmas.List.{get_or-set_other}
-use Rattle.g1_core.specs.Table.{Table, target_of}
-use Rattle.g1_core.specs.Run.{stored}
-use Rattle.g1_core.specs.Copying.{copied}
-use Rattle.g1_core.specs.Machine.{Machine, IsLater}
+use Rattle.std.specs.Prelude.{◌≡◌, ◌≢◌, ◌⊎◌, ◌+◌, ◌-◌, ◌<◌, ◌≤◌}
+use Rattle.g1_core.specs.{ℕ, zero, suc, Bool, cond, true, false, Option, None, refl, sym, ap, ◌∙◌, subst, inl, inr, arith, get_or-set_other, target_of, stored, copied, IsLater}
+use Rattle.g1_core.specs.Table.{Table}
+use Rattle.g1_core.specs.Machine.{Machine}
 use Rattle.g1_core.proofs.StoresApart.{stores_apart}
 
 -- the first slot may be copied last

@@ -1,18 +1,10 @@
 -- One card of a drain: what refining it leaves, and what a refused record leaves.
-use Rattle.std.proofs.Common.{◌≡◌, ◌≢◌, ℕ, ◌<◌, ◌≤◌, ◌+◌, true, false, [], ◌∷◌, length, get_or, Option, Some, None, refl, sym, ap, ◌∙◌, subst, arith, ◌↔◌}
-use Rattle.std.specs.Prelude.{Contains, IfSome, IfNone, MatchOption, nat_eq, slice_get}
-use Rattle.std.specs.List.{IsDistinct}
+use Rattle.std.specs.Prelude.{◌≡◌, ◌≢◌, ◌<◌, ◌≤◌, ◌+◌, ◌∷◌, ◌↔◌}
+use Rattle.g1_core.specs.{ℕ, true, false, [], length, get_or, Option, Some, None, refl, sym, ap, ◌∙◌, subst, arith, Contains, IfSome, IfNone, MatchOption, nat_eq, slice_get, IsDistinct, card_count, Clean, Dirty, Cells, with_mark, with_reads, HasNoDirty, IsFirstDirty, Pairs, Ring, popped, IsPending, refined, State, AreParts, IsCore, table_from, state_from, machine_from, pending_of, gained, is_dirty, IsCardDrained, IsCardRead}
 use Rattle.std.specs.FinSet as set
-use Rattle.g1_layout.specs.Shape.{card_count}
-use Rattle.g1_heap.specs.declared.mark.Mark.TheVariants.{Clean, Dirty}
-use Rattle.g1_heap.specs.Cells.{Cells, with_mark, with_reads, HasNoDirty, IsFirstDirty}
-use Rattle.g1_sets.specs.Pairs.{Pairs}
-use Rattle.g1_hot.specs.Ring.{Ring, popped}
 use Rattle.g1_core.specs.declared.config.Settings.{Settings}
-use Rattle.g1_core.specs.Table.{Table, IsPending, refined}
-use Rattle.g1_core.specs.Machine.{State, Machine, AreParts, IsCore, table_from, state_from, machine_from, pending_of, gained}
-use Rattle.g1_core.specs.Turns.{is_dirty}
-use Rattle.g1_core.specs.Pause.{IsCardDrained, IsCardRead}
+use Rattle.g1_core.specs.Table.{Table}
+use Rattle.g1_core.specs.Machine.{Machine}
 use Rattle.g1_core.proofs.MarkLemmas.{held_clean, dirty_clean, is_card, to_pending, one_less, some_member}
 use Rattle.g1_core.proofs.PartLemmas.{cleaned_state, cleaned_parts, read_parts, IsFront, front_of, oldest_mark, left_distinct, left_stands, apart_stands, mark_dirty, is_dirty_mark, not_dirty}
 

@@ -1,19 +1,10 @@
 -- A drain, whole and short, is a step of the plain table.
-use Rattle.std.proofs.Common.{◌≡◌, inl, inr, ℕ, ◌<◌, ◌+◌, false, List, [], ◌++◌, length, refl, sym, ap, ◌∙◌, subst, arith}
-use Rattle.std.specs.Prelude.{◌&&◌, Contains, not}
+use Rattle.std.specs.Prelude.{◌≡◌, ◌<◌, ◌+◌, ◌++◌, ◌&&◌}
+use Rattle.g1_core.specs.{inl, inr, ℕ, false, List, [], length, refl, sym, ap, ◌∙◌, subst, arith, Contains, not, nat_cmp, true≢false, append-nil, length-append, set_of, Ring, reset, IsStep, drain_entry, AreMembers, refined, is_dirty, AreDirtyBelow, Drains, IsDirtyDrained, IsDirtyStopped, IsRingDrained, IsDrainOrder, IsDrainOf, IsShortDrain, IsWholeDrain, IsAllDrained, reset_machine, ring_with}
 use Rattle.std.specs.FinSet as set
-use Rattle.std.specs.Ordering.{nat_cmp}
-use Rattle.std.proofs.lemmas.Bool.{true≢false}
-use Rattle.std.proofs.lemmas.List.{append-nil, length-append}
-use Rattle.g1_layout.specs.Sets.{set_of}
-use Rattle.g1_hot.specs.Ring.{Ring, reset}
 use Rattle.g1_core.specs.declared.reply.Drained.TheVariants as answers
-use Rattle.g1_core.specs.Run.{IsStep}
-use Rattle.g1_core.specs.Calls.{drain_entry}
-use Rattle.g1_core.specs.Table.{Table, AreMembers, refined}
+use Rattle.g1_core.specs.Table.{Table}
 use Rattle.g1_core.specs.Machine.{Machine}
-use Rattle.g1_core.specs.Turns.{is_dirty}
-use Rattle.g1_core.specs.Pause.{AreDirtyBelow, Drains, IsDirtyDrained, IsDirtyStopped, IsRingDrained, IsDrainOrder, IsDrainOf, IsShortDrain, IsWholeDrain, IsAllDrained, reset_machine, ring_with}
 use Rattle.g1_core.proofs.SetLemmas.{same_cards}
 use Rattle.g1_core.proofs.TableLemmas.{refined_pending}
 use Rattle.g1_core.proofs.TurnLemmas.{to_dirty}
@@ -88,15 +79,8 @@ module _ (old : Machine) (region : ℕ) (within : region < old.state.table.layou
   module _ (mid : Machine) (all : IsAllDrained old cards mid) (new : Machine) (after : new ≡ reset_machine mid) (members : List ℕ) (are : AreMembers mid.state.table region members) where
     pub whole_drain : IsDrainOf old region (answers.Cards members listed) new
     whole_drain =
-        let whole : IsWholeDrain old cards (reset_machine mid) = record {
-          order = all.order;
-          refines = all.drains.refines;
-          table = all.drains.table;
-          nothing = all.nothing;
-          ring = ap reset (all.drains.ring ∙ ap (ring_with old.state.ring) all.left);
-          settings = all.drains.settings;
-          reads = all.drains.reads;
-        } in
+        let ring : reset mid.state.ring ≡ reset (ring_with old.state.ring []) = ap reset (all.drains.ring ∙ ap (ring_with old.state.ring) all.left) in
+        let whole : IsWholeDrain old cards (reset_machine mid) = search (all, ring) in
         subst (λ (m : Machine). IsDrainOf old region (answers.Cards members listed) m) (sym after) (subst (λ (cs : List ℕ). IsWholeDrain old cs (reset_machine mid)) (sym same) whole, are)
 
     pub whole_drain_step : (caller : ℕ) → IsStep old.state.table (drain_entry caller region (answers.Cards members listed)) new.state.table

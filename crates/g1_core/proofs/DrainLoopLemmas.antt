@@ -1,16 +1,9 @@
 -- The two loops of a drain, which count nothing: over the ring, and over the dirty cards.
-use Rattle.std.proofs.Common.{◌≡◌, ◌≢◌, inl, inr, ℕ, ◌<◌, ◌≤◌, ◌+◌, ◌^◌, Bool, true, false, List, [], ◌∷◌, ◌++◌, length, drop, Some, refl, sym, ap, ◌∙◌, subst, arith}
-use Rattle.std.specs.Prelude.{◌&&◌, Contains, slice_get, not}
+use Rattle.std.specs.Prelude.{◌≡◌, ◌≢◌, ◌<◌, ◌≤◌, ◌+◌, ◌^◌, ◌∷◌, ◌++◌, ◌&&◌}
+use Rattle.g1_core.specs.{inl, inr, ℕ, Bool, true, false, List, [], length, drop, Some, refl, sym, ap, ◌∙◌, subst, arith, Contains, slice_get, not, cases_lt, and_parts, not-true, true≢false, false_from_ne_true, append-nil, append_assoc, length_push, Contains-push, Contains-append_left, Contains-push_cases, set_of, Ring, popped, AreRefinable, IsPending, refined, State, is_dirty, ring_with, AreDirtyBelow, Drains, IsCardDrained, IsDirtyDrained, IsRingDrained}
 use Rattle.std.specs.FinSet as set
-use Rattle.std.proofs.lemmas.Bool.{cases_lt, and_parts, not-true, true≢false, false_from_ne_true}
-use Rattle.std.proofs.lemmas.List.{append-nil, append_assoc, length_push}
-use Rattle.std.proofs.lemmas.List.Elements.{Contains-push, Contains-append_left, Contains-push_cases}
-use Rattle.g1_layout.specs.Sets.{set_of}
-use Rattle.g1_hot.specs.Ring.{Ring, popped}
-use Rattle.g1_core.specs.Table.{Table, AreRefinable, IsPending, refined}
-use Rattle.g1_core.specs.Machine.{State, Machine}
-use Rattle.g1_core.specs.Turns.{is_dirty}
-use Rattle.g1_core.specs.Pause.{ring_with, AreDirtyBelow, Drains, IsCardDrained, IsDirtyDrained, IsRingDrained}
+use Rattle.g1_core.specs.Table.{Table}
+use Rattle.g1_core.specs.Machine.{Machine}
 use Rattle.g1_core.proofs.SetLemmas.{in_list, in_set, All_by_member}
 use Rattle.g1_sets.proofs.BitLemmas.{increasing_push}
 use Rattle.g1_core.proofs.TableLemmas.{refined_pending}

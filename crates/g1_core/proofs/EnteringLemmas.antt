@@ -1,22 +1,10 @@
 -- The slots of a card that enter a region, as a heap answers one after another.
-use Rattle.std.proofs.Common.{◌≡◌, ◌≢◌, inl, inr, ℕ, zero, suc, ◌<◌, ◌≤◌, ◌+◌, ◌-◌, ◌*◌, ◌^◌, true, cond, List, [], ◌∷◌, ◌++◌, get_or, Option, Some, None, refl, sym, ap, ◌∙◌, subst, arith}
-use Rattle.std.specs.Prelude.{not, IfSome}
-use Rattle.std.specs.List.{range_with_len}
-use Rattle.std.proofs.lemmas.Bool.{eqb-true, eqb-false, eq-eqb, ne_eqb, and_parts, and_from, not-true}
-use Rattle.std.proofs.lemmas.List.{append-nil}
-use Rattle.g1_layout.specs.Shape.{Shape, IsShape, slot_count, card_of, region_of, region_of_card, slot_at, same_offset}
-use Rattle.g1_layout.specs.Sets.{PairSet}
-use Rattle.g1_layout.proofs.ShapeLemmas.{card_of-row, region_of-row}
-use Rattle.g1_heap.specs.Cells.{Cells, AreCells, with_reads}
+use Rattle.std.specs.Prelude.{◌≡◌, ◌≢◌, ◌<◌, ◌≤◌, ◌+◌, ◌-◌, ◌*◌, ◌^◌, ◌∷◌, ◌++◌}
+use Rattle.g1_core.specs.{inl, inr, ℕ, zero, suc, true, cond, List, [], get_or, Option, Some, None, refl, sym, ap, ◌∙◌, subst, arith, not, IfSome, range_with_len, eqb-true, eqb-false, eq-eqb, ne_eqb, and_parts, and_from, not-true, append-nil, Shape, IsShape, slot_count, card_of, region_of, region_of_card, slot_at, same_offset, PairSet, card_of-row, region_of-row, Cells, AreCells, with_reads, Change, table_from, enters, IsLeastOn, AreRead, change_at, changes_of, slots_of}
 use Rattle.g1_heap.specs.Listing.{RefersInto}
 use Rattle.g1_heap.specs.Entering.{HasNoneInto, IsNextInto}
-use Rattle.g1_core.specs.declared.redirection.Change.{Change}
-use Rattle.g1_core.specs.Machine.{table_from}
-use Rattle.g1_core.specs.Table.{enters}
-use Rattle.g1_core.specs.Clearing.{IsLeastOn, AreRead}
-use Rattle.g1_core.specs.Redirect.{change_at, changes_of, slots_of}
 use Rattle.g1_core.proofs.ChangeLemmas.{change_cases}
-use Rattle.g1_core.proofs.LeastSlotLemmas.{NoneBefore, card_none, card_first, read_more, read_at_most}
+use Rattle.g1_core.proofs.LeastSlotLemmas.{NoneBefore, card_none, card_first, read_more}
 use Rattle.g1_core.proofs.TableLemmas.{is_slot}
 use Rattle.g1_core.proofs.WalkLemmas.{changes_next}
 
@@ -32,16 +20,6 @@ read_some old new more bound is = record {
 module _ (heap now new : Cells) (offset : ℕ) (before : AreRead heap now offset) (bound : now.reads ≤ 2 ^ 64 - 1) where
   pub walked : (found : ℕ) → offset ≤ found → new ≡ with_reads now (found + 1 - offset) → AreRead heap new (found + 1)
   walked found on is = read_more heap now new offset (found + 1 - offset) (found + 1) before (read_some now new (found + 1 - offset) bound is) (omega arith)
-
-  pub walked_within : (found : ℕ) → offset ≤ found → found < now.layout.slots → new ≡ with_reads now (found + 1 - offset) → AreRead heap new heap.layout.slots
-  walked_within found on within is =
-      let slots : now.layout.slots ≡ heap.layout.slots = ap (λ (h : Cells). h.layout.slots) before.cells in
-      read_at_most heap new (found + 1) heap.layout.slots (walked found on is) (omega arith)
-
-  pub walked_end : offset ≤ heap.layout.slots → new ≡ with_reads now (now.layout.slots - offset) → AreRead heap new heap.layout.slots
-  walked_end within is =
-      let slots : now.layout.slots ≡ heap.layout.slots = ap (λ (h : Cells). h.layout.slots) before.cells in
-      read_more heap now new offset (now.layout.slots - offset) heap.layout.slots before (read_some now new (now.layout.slots - offset) bound is) (omega arith)
 
 -- what is found lies in the heap, and its slot on the card
 pub place_within : (heap now : Cells) (most : ℕ) (l : Shape) (card from start found place : ℕ) → AreCells heap → AreRead heap now most → l ≡ heap.layout → IsNextInto now.layout now.refs card from start found place → place < slot_count l

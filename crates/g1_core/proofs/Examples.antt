@@ -1,22 +1,11 @@
 -- Worked histories on a heap of 4 regions of 2 cards of 4 slots: the definitions allow the right answers and refuse changed ones.
-use Rattle.std.proofs.Common.{◌≡◌, ℕ, ◌<◌, ◌≤◌, false, cond, List, [], ◌∷◌, Option, Some, None, refl, sym, ap, ◌∙◌, arith}
-use Rattle.std.specs.Prelude.{Contains}
+use Rattle.std.specs.Prelude.{◌≡◌, ◌<◌, ◌≤◌, ◌∷◌}
+use Rattle.g1_core.specs.{ℕ, false, cond, List, [], Option, Some, None, refl, sym, ap, ◌∙◌, arith, Contains, nat_cmp, true≢false, Shape, IsShape, Kind, SameRegion, Null, AlreadyDirty, Logged, No, opening, Holds, Enters, IsPending, Entry, Reply, Store, ClearReply, members_entry, clear_entry, IsAllowed, IsPermitted, table_of_history, drained, IsExact}
 use Rattle.std.specs.FinSet as set
-use Rattle.std.specs.Ordering.{nat_cmp}
-use Rattle.std.proofs.lemmas.Bool.{true≢false}
-use Rattle.g1_layout.specs.Shape.{Shape, IsShape}
-use Rattle.g1_layout.specs.declared.kind.Kind.{Kind}
-use Rattle.g1_layout.specs.declared.kind.Kind.TheVariants.{SameRegion, Null, AlreadyDirty, Logged}
-use Rattle.g1_core.specs.declared.reply.Fill.TheVariants.{No}
-use Rattle.g1_core.specs.Table.{Table, opening, Holds, Enters, IsPending}
-use Rattle.g1_core.specs.declared.entry.Entry.{Entry}
-use Rattle.g1_core.specs.declared.entry.Reply.{Reply}
-use Rattle.g1_core.specs.declared.entry.Call.TheVariants.{Store, Redirect}
+use Rattle.g1_core.specs.Table.{Table}
+use Rattle.g1_core.specs.declared.entry.Call.TheVariants.{Redirect}
 use Rattle.g1_core.specs.declared.entry.Reply.TheVariants as reply
-use Rattle.g1_core.specs.declared.reply.ClearReply.{ClearReply}
 use Rattle.g1_core.specs.declared.reply.ClearReply.TheVariants as clear_reply
-use Rattle.g1_core.specs.Calls.{members_entry, clear_entry}
-use Rattle.g1_core.specs.Run.{IsAllowed, IsPermitted, table_of_history, drained, IsExact}
 use Rattle.g1_core.proofs.StoreLemmas.{none_refinable}
 use Rattle.g1_core.proofs.RunLemmas.{permitted_parts, has_slots}
 use Rattle.g1_core.proofs.SinceLemmas.{drain_exact}

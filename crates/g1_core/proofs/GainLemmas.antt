@@ -1,15 +1,10 @@
 -- What refining a card adds to the recorded pairs.
-use Rattle.std.proofs.Common.{◌≡◌, ◌↔◌, inl, inr, ℕ, true, List, [], ◌∷◌, length, sym, ap, ◌∙◌, subst, arith}
-use Rattle.std.specs.Prelude.{Contains}
+use Rattle.std.specs.Prelude.{◌≡◌, ◌↔◌, ◌∷◌}
+use Rattle.g1_core.specs.{inl, inr, ℕ, true, List, [], length, sym, ap, ◌∙◌, subst, arith, Contains, cases_Bool, true≢false, or_cases, or_left, or_right, and_parts, and_from, PairSet, Cells, HoldsIn, of_card, table_from, gained}
 use Rattle.std.specs.FinSet as set
-use Rattle.std.proofs.lemmas.Bool.{cases_Bool, true≢false, or_cases, or_left, or_right, and_parts, and_from}
-use Rattle.g1_layout.specs.Sets.{PairSet}
 use Rattle.g1_layout.specs.declared.region_set.RegionSet.{RegionSet}
 use Rattle.g1_layout.specs.Regions.{HasRegion}
-use Rattle.g1_heap.specs.Cells.{Cells, HoldsIn}
-use Rattle.g1_sets.specs.Pairs.{of_card}
 use Rattle.g1_core.specs.Table.{Table}
-use Rattle.g1_core.specs.Machine.{table_from, gained}
 use Rattle.g1_core.proofs.SetLemmas.{same_pairs, in_pairs, to_pairs, of_card_from, of_card_to, pair_total, in_list, in_set}
 use Rattle.g1_core.proofs.TableLemmas.{refined_recorded, held_from_Holds, Holds_from_held}
 use Rattle.g1_core.proofs.MarkLemmas.{one_of, itself}

@@ -1,18 +1,8 @@
 -- The least slot that enters a region, and what is read to find it.
-use Rattle.std.proofs.Common.{◌≡◌, ◌≢◌, inl, inr, ℕ, ◌<◌, ◌≤◌, ◌+◌, ◌-◌, ◌*◌, min, List, [], ◌∷◌, ◌++◌, length, get_or, Option, Some, None, refl, sym, ap, ◌∙◌, subst, arith, take}
-use Rattle.std.specs.Prelude.{All, Contains, slice_get}
-use Rattle.std.proofs.Math.Nat.{mul-le-mul_right}
-use Rattle.std.proofs.lemmas.Bool.{cases_lt}
-use Rattle.std.proofs.lemmas.List.Elements.{Contains-append_cases}
+use Rattle.std.specs.Prelude.{◌≡◌, ◌≢◌, ◌<◌, ◌≤◌, ◌+◌, ◌-◌, ◌*◌, ◌∷◌, ◌++◌}
+use Rattle.g1_core.specs.{inl, inr, ℕ, min, List, [], length, get_or, Option, Some, None, refl, sym, ap, ◌∙◌, subst, arith, take, All, Contains, slice_get, mul-le-mul_right, cases_lt, Contains-append_cases, get_or_from_slice_get, IsShape, slot_count, card_count, card_of, region_of_card, slot_at, PairSet, IsInRow, row_of_card, row_of_slot, card_of_below, region_of_slot, Cells, Enters, table_from, IsLeastOn, AreRead}
 use Rattle.std.proofs.lemmas.Nat.{row_fits}
-use Rattle.std.proofs.lemmas.Option.{get_or_from_slice_get}
-use Rattle.g1_layout.specs.Shape.{IsShape, slot_count, card_count, card_of, region_of_card, slot_at}
-use Rattle.g1_layout.specs.Sets.{PairSet}
-use Rattle.g1_layout.proofs.ShapeLemmas.{IsInRow, row_of_card, row_of_slot, card_of_below, region_of_slot}
-use Rattle.g1_heap.specs.Cells.{Cells}
-use Rattle.g1_core.specs.Table.{Table, Enters}
-use Rattle.g1_core.specs.Machine.{table_from}
-use Rattle.g1_core.specs.Clearing.{IsLeastOn, AreRead}
+use Rattle.g1_core.specs.Table.{Table}
 use Rattle.g1_core.proofs.MarkLemmas.{one_of, itself}
 use Rattle.g1_core.proofs.TableLemmas.{is_slot}
 use Rattle.g1_core.proofs.WalkLemmas.{take_next}

@@ -1,16 +1,9 @@
 -- How long the lists of a reply can be.
-use Rattle.std.proofs.Common.{◌≡◌, Bool, true, false, if◌then◌else◌, ℕ, zero, suc, ◌≤◌, ◌+◌, ◌*◌, List, [], ◌∷◌, length, take, Option, Some, None, refl, ap, arith}
+use Rattle.std.specs.Prelude.{◌≡◌, if◌then◌else◌, ◌≤◌, ◌+◌, ◌*◌, ◌∷◌}
+use Rattle.g1_core.specs.{Bool, true, false, ℕ, zero, suc, List, [], length, take, Option, Some, None, refl, ap, arith, length-append, reads_after, Offer, Kept, RefineReply, AreRefinable, refined, State, Round, refined_by, hot_by, skipped_by, offer_to, turn, turns, start, IsTurned, IsIdle, AreCardsRead, DoesRefine}
 use Rattle.std.specs.FinSet as set
-use Rattle.std.proofs.lemmas.List.{length-append}
-use Rattle.g1_heap.specs.Cells.{reads_after}
-use Rattle.g1_hot.specs.declared.offer.Offer.{Offer}
-use Rattle.g1_hot.specs.declared.offer.Offer.TheVariants.{Cold, Kept, Out}
-use Rattle.g1_core.specs.declared.reply.RefineReply.{RefineReply}
-use Rattle.g1_core.specs.Table.{Table, AreRefinable, refined}
-use Rattle.g1_core.specs.Machine.{State, Machine}
-use Rattle.g1_core.specs.Turns.{Round, refined_by, hot_by, skipped_by, offer_to, turn, turns, start}
-use Rattle.g1_core.specs.Refinement.{IsTurned, IsIdle, AreCardsRead}
-use Rattle.g1_core.specs.Calls.{DoesRefine}
+use Rattle.g1_core.specs.Table.{Table}
+use Rattle.g1_core.specs.Machine.{Machine}
 use Rattle.g1_core.proofs.MarkLemmas.{one_less}
 use Rattle.g1_core.proofs.TurnLemmas.{rest_refinable}
 
@@ -25,9 +18,8 @@ refined_few t (x ∷ xs) h =
 -- a turn refines one card at most, and a card that it skips is not refined
 one_at_most : (card : ℕ) (o : Option Offer) → length (refined_by card o) + skipped_by o ≤ 1
 one_at_most card None = omega arith
-one_at_most card (Some Cold) = omega arith
 one_at_most card (Some Kept) = omega arith
-one_at_most card (Some (Out oldest)) = omega arith
+one_at_most card (Some _) = omega arith
 
 turns_few : (cards : List ℕ) (r : Round) → length (turns r cards).refined + (turns r cards).skipped ≤ length r.refined + r.skipped + length cards
 turns_few [] r = omega arith
@@ -54,9 +46,8 @@ turned_few old cards reply new h =
 -- nor does a turn count more than one hot card
 hot_one : (o : Option Offer) → hot_by o ≤ 1
 hot_one None = omega arith
-hot_one (Some Cold) = omega arith
 hot_one (Some Kept) = omega arith
-hot_one (Some (Out oldest)) = omega arith
+hot_one (Some _) = omega arith
 
 turns_hot_few : (cards : List ℕ) (r : Round) → (turns r cards).hot ≤ r.hot + length cards
 turns_hot_few [] r = omega arith

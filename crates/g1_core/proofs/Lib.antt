@@ -35,3 +35,14 @@ pub mod ReadLemmas
 pub mod VerifyLemmas
 pub mod StoresApart
 pub mod CopyLemmas
+use AdoptingLemmas.*
+use LeastSlotLemmas.*
+use MarkLemmas.*
+use OpeningLemmas.*
+use QueryLemmas.*
+use ReadLemmas.*
+use ReferenceLemmas.*
+use RefineLemmas.*
+use SoundLemmas.*
+use StoreLemmas.*
+use WalkLemmas.*

@@ -1,19 +1,8 @@
 -- The card table and the set of pending cards.
-use Rattle.std.proofs.Common.{◌≡◌, ◌≢◌, ◌⊎◌, inl, inr, ℕ, zero, suc, ◌<◌, ◌≤◌, ◌+◌, ◌-◌, Bool, true, false, cond, List, [], ◌∷◌, length, get_or, set as list_set, Some, refl, sym, ap, ◌∙◌, arith}
-use Rattle.std.specs.Prelude.{Contains, not}
-use Rattle.std.specs.List.{enumerate_from, filter_map}
+use Rattle.std.specs.Prelude.{◌≡◌, ◌≢◌, ◌⊎◌, ◌<◌, ◌≤◌, ◌+◌, ◌-◌, ◌∷◌}
+use Rattle.g1_core.specs.{inl, inr, ℕ, zero, suc, Bool, true, false, cond, List, [], length, get_or, Some, refl, sym, ap, ◌∙◌, arith, Contains, not, enumerate_from, filter_map, nat_cmp, eq_by_cmp, Equal-is, nat_cmp_total, eq_by_cmp_equiv, exact_unsigned, cases_lt, cases_eq, or_cases, or_left, or_right, and_parts, and_from, not-true, true≢false, false_from_ne_true, get_or-set_same, get_or-set_other, get_or_past, get_or_default, get_or-enumerate_from, length-enumerate_from, Mark, Clean, Dirty, Held, pending_of, marked_card, CardSet, set_of}
+use Rattle.std.proofs.Common.{set as list_set}
 use Rattle.std.specs.FinSet as set
-use Rattle.std.specs.Ordering.{nat_cmp, eq_by_cmp}
-use Rattle.std.specs.Cmp.{Equal-is}
-use Rattle.std.proofs.lemmas.Cmp.{nat_cmp_total, eq_by_cmp_equiv}
-use Rattle.std.proofs.lemmas.Map.Lookups.{exact_unsigned}
-use Rattle.std.proofs.lemmas.Bool.{cases_lt, cases_eq, or_cases, or_left, or_right, and_parts, and_from, not-true, true≢false, false_from_ne_true}
-use Rattle.std.proofs.lemmas.List.{get_or-set_same, get_or-set_other, get_or_past, get_or_default}
-use Rattle.std.proofs.lemmas.List.FromFn.{get_or-enumerate_from, length-enumerate_from}
-use Rattle.g1_heap.specs.declared.mark.Mark.{Mark}
-use Rattle.g1_heap.specs.declared.mark.Mark.TheVariants.{Clean, Dirty, Held}
-use Rattle.g1_core.specs.Machine.{pending_of, marked_card}
-use Rattle.g1_layout.specs.Sets.{CardSet, set_of}
 use Rattle.g1_core.proofs.SetLemmas.{same_cards, in_list, in_set, Kept, from_kept, to_kept}
 
 pub held_clean : (mark : Mark) → mark ≡ Held → mark ≢ Clean
@@ -37,8 +26,7 @@ marked card Held q e = (cc, λ c. cc)
 
 marks_card : (card : ℕ) (mark : Mark) → mark ≢ Clean → marked_card (card, mark) ≡ Some card
 marks_card card Clean ne = absurd (ne refl)
-marks_card card Dirty ne = refl
-marks_card card Held ne = refl
+marks_card card _ ne = refl
 
 pub from_pending : (marks : List Mark) (q : ℕ) → set.contains (pending_of marks) q ≡ true → get_or marks q Clean ≢ Clean
 from_pending marks q h =
@@ -131,8 +119,7 @@ few_listed (card ∷ cards) = few_more (set.contains (set_of cards) card) (set.l
 few_kept : (pairs : List (ℕ × Mark)) → length (filter_map marked_card pairs) ≤ length pairs
 few_kept [] = omega arith
 few_kept ((card, Clean) ∷ pairs) = omega (arith, few_kept pairs)
-few_kept ((card, Dirty) ∷ pairs) = omega (arith, few_kept pairs)
-few_kept ((card, Held) ∷ pairs) = omega (arith, few_kept pairs)
+few_kept ((card, _) ∷ pairs) = omega (arith, few_kept pairs)
 
 -- no more cards are pending than there are
 pub few_pending : (marks : List Mark) → set.len (pending_of marks) ≤ length marks

@@ -1,17 +1,15 @@
 -- What moving references from one region to another does to the plain table.
-use Rattle.std.proofs.Common.{◌≡◌, ◌≢◌, ◌⊎◌, inl, inr, ℕ, ◌<◌, ◌+◌, ◌*◌, Bool, true, false, cond, eqb, length, get_or, Option, Some, None, refl, sym, ap, ◌∙◌, subst, arith}
-use Rattle.std.specs.Prelude.{map, not, ◌&&◌, ◌||◌}
-use Rattle.std.specs.List.{filter_map, enumerate_from}
+use Rattle.std.specs.Prelude.{◌≡◌, ◌≢◌, ◌⊎◌, ◌<◌, ◌+◌, ◌*◌, ◌&&◌, ◌||◌}
+use Rattle.g1_core.specs.{inl, inr, ℕ, Bool, true, false, cond, eqb, length, get_or, Option, Some, None, refl, sym, ap, ◌∙◌, subst, arith, map, not, filter_map, enumerate_from, eqb-false, eq-eqb, ne_eqb, not-true, or_cases, or_left, or_right, and_parts, and_from, true≢false, get_or-map, length-map, get_or-enumerate_from, length-enumerate_from, Shape, card_of, region_of, region_of_card, same_offset, same_offset_region, pair_cmp, target_of, IsRecorded, Holds, IsCovered, enters, moved_target, moved_pair, moved}
 use Rattle.std.specs.FinSet as set
-use Rattle.std.proofs.lemmas.Bool.{eqb-false, eq-eqb, ne_eqb, not-true, or_cases, or_left, or_right, and_parts, and_from, true≢false}
-use Rattle.std.proofs.lemmas.List.{get_or-map, length-map}
-use Rattle.std.proofs.lemmas.List.FromFn.{get_or-enumerate_from, length-enumerate_from}
-use Rattle.g1_layout.specs.Shape.{Shape, card_of, region_of, region_of_card, same_offset}
-use Rattle.g1_layout.proofs.ShapeLemmas.{same_offset_region}
-use Rattle.g1_layout.specs.Sets.{pair_cmp}
-use Rattle.g1_core.specs.Table.{Table, target_of, IsRecorded, Holds, IsCovered, enters, moved_target, moved_pair, moved}
+use Rattle.g1_core.specs.Table.{Table}
 use Rattle.g1_core.proofs.SetLemmas.{pair_total, pair_exact, listed, unlisted, Kept, from_kept, to_kept}
 use Rattle.g1_core.proofs.TableLemmas.{region_of_slot, is_slot, slot_at, slot_of}
+
+-- the pair that a slot makes
+pub pair_if : (card to : ℕ) (p : ℕ × ℕ) (b : Bool) → cond {A = Option (ℕ × ℕ)} b (Some (card, to)) None ≡ Some p → (b ≡ true) × (◌≡◌ {A = ℕ × ℕ} (card, to) p)
+pair_if card to p true e = let same : ◌≡◌ {A = ℕ × ℕ} (card, to) p = cc in (refl, same)
+pair_if card to p false e = cc
 
 module _ (l : Shape) (from to : ℕ) where
   -- what a slot refers to afterwards: it moved, or it is as before and does not refer into the region from outside
@@ -32,12 +30,6 @@ module _ (l : Shape) (from to : ℕ) where
   target_cases : (slot place : ℕ) (o : Option ℕ) → moved_target l from to (slot, o) ≡ Some place → Moves slot place o ⊎ Stays slot place o
   target_cases slot place None e = cc
   target_cases slot place (Some old) e = target_if slot old place (enters l from (slot, Some old)) refl e
-
-  pair_if : (slot card region : ℕ) (b : Bool) → cond {A = Option (ℕ × ℕ)} b (Some (card_of l slot, to)) None ≡ Some (card, region) → (b ≡ true) × (card_of l slot ≡ card) × (to ≡ region)
-  pair_if slot card region true e =
-      let pairs : ◌≡◌ {A = ℕ × ℕ} (card_of l slot, to) (card, region) = cc in
-      (refl, ap (λ (p : ℕ × ℕ). p.0) pairs, ap (λ (p : ℕ × ℕ). p.1) pairs)
-  pair_if slot card region false e = cc
 
   -- a slot that refers into the region refers somewhere
   entering : (slot : ℕ) (o : Option ℕ) → enters l from (slot, o) ≡ true → (old : ℕ) × (o ≡ Some old)
@@ -100,15 +92,17 @@ module _ (from to : ℕ) (t : Table) where
           let few : length (enumerate_from 0 t.refs) ≡ length t.refs = length-enumerate_from 0 t.refs in
           let inside : k < length t.refs = omega arith in
           let is : moved_pair t.layout from to (k, get_or t.refs k None) ≡ Some (card, region) = ap (moved_pair t.layout from to) (slot_of t.refs k slot below at) ∙ makes in
-          let q = pair_if t.layout from to k card region (enters t.layout from (k, get_or t.refs k None) && not (eqb (region_of t.layout k) to)) is in
+          let q = pair_if (card_of t.layout k) to (card, region) (enters t.layout from (k, get_or t.refs k None) && not (eqb (region_of t.layout k) to)) is in
+          let on : card_of t.layout k ≡ card = ap (λ (p : ℕ × ℕ). p.0) q.1 in
+          let into : to ≡ region = ap (λ (p : ℕ × ℕ). p.1) q.1 in
           let b = and_parts _ _ q.0 in
           let o : (old : ℕ) × (get_or t.refs k None ≡ Some old) = entering t.layout from to k (get_or t.refs k None) b.0 in
           let enter : enters t.layout from (k, Some o.0) ≡ true = sym (ap (λ (x : Option ℕ). enters t.layout from (k, x)) o.1) ∙ b.0 in
           record {
             slot = k;
             place = same_offset t.layout o.0 to;
-            on_card = q.1;
+            on_card = on;
             refers = target_at k inside ∙ ap (λ (x : Option ℕ). moved_target t.layout from to (k, x)) o.1 ∙ ap (λ b. cond b (Some (same_offset t.layout o.0 to)) (Some o.0)) enter;
-            into = same_offset_region t.layout o.0 to some ∙ q.2;
-            outside = λ e. eqb-false _ _ (not-true _ b.1) (sym (region_of_slot t.layout k) ∙ ap (region_of_card t.layout) q.1 ∙ e ∙ sym q.2);
+            into = same_offset_region t.layout o.0 to some ∙ into;
+            outside = λ e. eqb-false _ _ (not-true _ b.1) (sym (region_of_slot t.layout k) ∙ ap (region_of_card t.layout) on ∙ e ∙ sym into);
           }

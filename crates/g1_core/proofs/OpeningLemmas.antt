@@ -1,24 +1,9 @@
 -- A new core, and a call that changes nothing.
-use Rattle.std.proofs.Common.{◌≡◌, inl, inr, ℕ, ◌<◌, ◌≤◌, List, [], get_or, None, refl, sym, ap, ◌∙◌, subst, arith, replicate}
-use Rattle.std.specs.Prelude.{IfSome}
-use Rattle.std.specs.List.{IsDistinct}
+use Rattle.std.specs.Prelude.{◌≡◌, ◌<◌, ◌≤◌}
+use Rattle.g1_core.specs.{inl, inr, ℕ, List, [], get_or, None, refl, sym, ap, ◌∙◌, subst, arith, replicate, IfSome, IsDistinct, nat_cmp, cases_lt, true≢false, length-replicate, get_or-replicate, get_or_past, All-replicate, Shape, IsShape, slot_count, card_count, Mark, Clean, new_cells, Cells, Pairs, new_pairs, Ring, new_ring, IsCovered, AreRefinable, refined, opening, new_machine, State, IsCore, AreParts, pending_of, state_from, machine_from, IsStep, RefineReply, refine_entry}
 use Rattle.std.specs.FinSet as set
-use Rattle.std.specs.Ordering.{nat_cmp}
-use Rattle.std.proofs.lemmas.Bool.{cases_lt, true≢false}
-use Rattle.std.proofs.lemmas.List.{length-replicate, get_or-replicate, get_or_past}
-use Rattle.std.proofs.lemmas.List.Elements.{All-replicate}
-use Rattle.g1_layout.specs.Shape.{Shape, IsShape, slot_count, card_count}
-use Rattle.g1_heap.specs.declared.mark.Mark.{Mark}
-use Rattle.g1_heap.specs.declared.mark.Mark.TheVariants.{Clean}
-use Rattle.g1_heap.specs.Cells.{new_cells, Cells}
-use Rattle.g1_sets.specs.Pairs.{Pairs, new_pairs}
-use Rattle.g1_hot.specs.Ring.{Ring, new_ring}
-use Rattle.g1_core.specs.Table.{Table, IsCovered, AreRefinable, refined, opening}
+use Rattle.g1_core.specs.Table.{Table}
 use Rattle.g1_core.specs.declared.config.Settings.{Settings}
-use Rattle.g1_core.specs.Machine.{new_machine, State, IsCore, AreParts, pending_of, state_from, machine_from}
-use Rattle.g1_core.specs.Run.{IsStep}
-use Rattle.g1_core.specs.declared.reply.RefineReply.{RefineReply}
-use Rattle.g1_core.specs.Calls.{refine_entry}
 use Rattle.g1_core.proofs.SetLemmas.{same_cards}
 use Rattle.g1_core.proofs.TableLemmas.{opening_covered}
 use Rattle.g1_core.proofs.OutsideLemmas.{opening_outside}

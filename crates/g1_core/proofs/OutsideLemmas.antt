@@ -1,16 +1,10 @@
 -- Recorded pairs lie outside their region.
-use Rattle.std.proofs.Common.{◌≡◌, inl, inr, ℕ, ◌<◌, List, length, Option, None, sym, ◌∙◌, subst, arith}
-use Rattle.std.specs.Prelude.{◌≢◌, All, IfSome}
+use Rattle.std.specs.Prelude.{◌≡◌, ◌<◌, ◌≢◌}
+use Rattle.g1_core.specs.{inl, inr, ℕ, List, length, Option, None, sym, ◌∙◌, subst, arith, All, IfSome, true≢false, and_parts, Shape, IsShape, slot_count, card_count, card_of, region_of, region_of_card, pair_cmp, card_of_below, region_of_below, opening, Holds, AreOutside, refined, Clear, settled}
 use Rattle.std.specs.FinSet as set
-use Rattle.std.proofs.lemmas.Bool.{true≢false, and_parts}
-use Rattle.g1_layout.specs.Shape.{Shape, IsShape, slot_count, card_count, card_of, region_of, region_of_card}
-use Rattle.g1_layout.specs.Sets.{pair_cmp}
-use Rattle.g1_layout.proofs.ShapeLemmas.{card_of_below, region_of_below}
-use Rattle.g1_core.specs.Table.{Table, opening, Holds, AreOutside, refined}
-use Rattle.g1_core.specs.declared.entry.Call.TheVariants.{Clear}
+use Rattle.g1_core.specs.Table.{Table}
 use Rattle.g1_core.specs.declared.entry.Reply.TheVariants as reply
 use Rattle.g1_core.specs.declared.reply.ClearReply.TheVariants as clear_reply
-use Rattle.g1_core.specs.Run.{settled}
 use Rattle.g1_core.proofs.TableLemmas.{is_slot, recorded_cases, Holds_from_held}
 use Rattle.g1_core.proofs.RunLemmas.{forgotten}
 

@@ -1,21 +1,8 @@
 -- The parts of a core and the state that they stand for.
-use Rattle.std.proofs.Common.{◌≡◌, ◌≢◌, inl, inr, ℕ, zero, suc, ◌<◌, ◌+◌, true, false, cond, set as list_set, List, [], ◌∷◌, ◌++◌, length, get_or, drop, Option, Some, None, refl, sym, ap, ◌∙◌, subst, arith, ◌↔◌}
-use Rattle.std.specs.Prelude.{Contains, nat_eq, slice_get}
-use Rattle.std.specs.List.{IsDistinct}
+use Rattle.std.specs.Prelude.{◌≡◌, ◌≢◌, ◌<◌, ◌+◌, ◌∷◌, ◌++◌, ◌↔◌}
+use Rattle.g1_core.specs.{inl, inr, ℕ, zero, suc, true, false, cond, List, [], length, get_or, drop, Option, Some, None, refl, sym, ap, ◌∙◌, subst, arith, Contains, nat_eq, slice_get, IsDistinct, cases_eq, false_from_ne_true, length-set, Contains-push, Contains-append_left, Contains-push_cases, card_count, PairSet, Mark, Clean, Dirty, Held, Cells, with_mark, with_reads, Offer, Ring, answer, popped, IsCovered, IsPending, refined, State, IsPlaced, AreParts, pending_of, table_from, state_from, gained, is_dirty, offer_to}
+use Rattle.std.proofs.Common.{set as list_set}
 use Rattle.std.specs.FinSet as set
-use Rattle.std.proofs.lemmas.Bool.{cases_eq, false_from_ne_true}
-use Rattle.std.proofs.lemmas.List.{length-set}
-use Rattle.std.proofs.lemmas.List.Elements.{Contains-push, Contains-append_left, Contains-push_cases}
-use Rattle.g1_layout.specs.Shape.{card_count}
-use Rattle.g1_layout.specs.Sets.{PairSet}
-use Rattle.g1_heap.specs.declared.mark.Mark.{Mark}
-use Rattle.g1_heap.specs.declared.mark.Mark.TheVariants.{Clean, Dirty, Held}
-use Rattle.g1_heap.specs.Cells.{Cells, with_mark, with_reads}
-use Rattle.g1_hot.specs.declared.offer.Offer.{Offer}
-use Rattle.g1_hot.specs.Ring.{Ring, answer, popped}
-use Rattle.g1_core.specs.Table.{IsCovered, IsPending, refined}
-use Rattle.g1_core.specs.Machine.{State, IsPlaced, AreParts, pending_of, table_from, state_from, gained}
-use Rattle.g1_core.specs.Turns.{is_dirty, offer_to}
 use Rattle.g1_core.proofs.SetLemmas.{All_by_member}
 use Rattle.g1_core.proofs.TableLemmas.{refined_covered}
 use Rattle.g1_core.proofs.OutsideLemmas.{refined_outside}
@@ -70,16 +57,7 @@ module _ (heap : Cells) (pairs : PairSet) (ring : Ring) (pending : ℕ) (parts :
 
   -- reads change nothing else
   pub read_parts : (more : ℕ) → AreParts (with_reads heap more) pairs ring pending
-  read_parts more = record {
-    cells = record { shape = parts.cells.shape; slots = parts.cells.slots; places = parts.cells.places; cards = parts.cells.cards };
-    counts = parts.counts;
-    some = parts.some;
-    distinct = parts.distinct;
-    held = parts.held;
-    known = parts.known;
-    cover = parts.cover;
-    outside = parts.outside;
-  }
+  read_parts more = search
 
   -- A pending card is refined and clean afterwards, and the ring holds just the other cards.
   module _ (ring' : Ring) (pending' card more : ℕ) (marked : mark_of card ≢ Clean) (less : pending' + 1 ≡ pending)

@@ -1,21 +1,10 @@
 -- Worked pauses on the same heap: what a drain, a question for members and a redirect may answer, before and after the first store.
-use Rattle.std.proofs.Common.{◌≡◌, inl, inr, ℕ, cond, true, List, [], ◌∷◌, Some, refl, sym, ap, ◌∙◌, subst, arith}
-use Rattle.std.specs.Prelude.{Contains}
+use Rattle.std.specs.Prelude.{◌≡◌, ◌∷◌}
+use Rattle.g1_core.specs.{inl, inr, ℕ, cond, true, List, [], Some, refl, sym, ap, ◌∙◌, subst, arith, Contains, nat_cmp, Equal-is, true≢false, and_parts, not-true, or_cases, nat_cmp_total, exact_unsigned, Kind, AlreadyDirty, Logged, CardSet, Entry, AreMembers, AreRefinable, IsPending, IsRecorded, refined, members_entry, IsAllowed, drained, kind_of, pending_after, stored, table_of_history}
 use Rattle.std.specs.FinSet as set
-use Rattle.std.specs.Ordering.{nat_cmp}
-use Rattle.std.specs.Cmp.{Equal-is}
-use Rattle.std.proofs.lemmas.Bool.{true≢false, and_parts, not-true, or_cases}
-use Rattle.std.proofs.lemmas.Cmp.{nat_cmp_total}
-use Rattle.std.proofs.lemmas.Map.Lookups.{exact_unsigned}
-use Rattle.g1_layout.specs.declared.kind.Kind.{Kind}
-use Rattle.g1_layout.specs.declared.kind.Kind.TheVariants.{AlreadyDirty, Logged}
-use Rattle.g1_layout.specs.Sets.{CardSet}
-use Rattle.g1_core.specs.declared.entry.Entry.{Entry}
 use Rattle.g1_core.specs.declared.entry.Call.TheVariants.{Redirect}
 use Rattle.g1_core.specs.declared.entry.Reply.TheVariants as reply
-use Rattle.g1_core.specs.Table.{Table, AreMembers, AreRefinable, IsPending, IsRecorded, refined}
-use Rattle.g1_core.specs.Calls.{members_entry}
-use Rattle.g1_core.specs.Run.{IsAllowed, drained, kind_of, pending_after, stored, table_of_history}
+use Rattle.g1_core.specs.Table.{Table}
 use Rattle.g1_core.proofs.StoreLemmas.{none_refinable}
 use Rattle.g1_core.proofs.RefinedLemmas.{refined_none, refinable_push}
 use Rattle.g1_core.proofs.TableLemmas.{held_from_Holds, newly_recorded, pending_before, refined_pending, refined_recorded, store_marks}

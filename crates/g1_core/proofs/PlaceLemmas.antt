@@ -1,9 +1,7 @@
 -- A list that is mapped and counted by place, once one place is written.
-use Rattle.std.proofs.Common.{◌≡◌, ℕ, zero, suc, ◌<◌, ◌+◌, Bool, true, false, cond, List, [], ◌∷◌, length, get_or, set as list_set, refl, sym, ap, ◌∙◌, arith, map}
-use Rattle.std.specs.Prelude.{count_by}
-use Rattle.std.specs.List.{enumerate_from}
-use Rattle.std.proofs.lemmas.Bool.{true≢false}
-use Rattle.std.proofs.lemmas.List.Sums.{sum_by-cons}
+use Rattle.std.specs.Prelude.{◌≡◌, ◌<◌, ◌+◌, ◌∷◌}
+use Rattle.g1_core.specs.{ℕ, zero, suc, Bool, true, false, cond, List, [], length, get_or, refl, sym, ap, ◌∙◌, arith, map, count_by, enumerate_from, sum_by-cons}
+use Rattle.std.proofs.Common.{set as list_set}
 
 -- one slot is written, in a list that is mapped and counted by place
 module _ {X Y : Type 0} (f : ℕ × X → Y) where
@@ -17,16 +15,13 @@ module _ {X Y : Type 0} (f : ℕ × X → Y) where
       ap (λ (ys : List Y). f (n, x) ∷ ys) (map_set (n + 1) xs k v d (omega arith) (sym (ap (λ (i : ℕ). f (i, v)) next) ∙ same ∙ ap (λ (i : ℕ). f (i, get_or xs k d)) next))
 
 count_first : (a b : Bool) (m : ℕ) → a ≡ false → b ≡ true → cond a 1 0 + m + 1 ≡ cond b 1 0 + m
-count_first true b m ea eb = absurd (true≢false ea)
-count_first false true m ea eb = omega arith
-count_first false false m ea eb = absurd (true≢false (sym eb))
+count_first a b m ea eb = rw (ea, eb) (omega arith)
 
 count_rest : (a : ℕ) (m n : ℕ) → m + 1 ≡ n → a + m + 1 ≡ a + n
 count_rest a m n e = omega arith
 
 count_out : (a : Bool) (m : ℕ) → a ≡ false → m ≡ 0 → cond a 1 0 + m ≡ 0
-count_out true m e z = absurd (true≢false e)
-count_out false m e z = omega arith
+count_out a m e z = rw e (omega arith)
 
 module _ {X : Type 0} (p : ℕ × X → Bool) where
   -- one less is counted

@@ -1,13 +1,8 @@
 -- A question changes nothing.
-use Rattle.std.proofs.Common.{◌≡◌, ◌<◌, ℕ, Bool, List, Option, None, refl, sym, arith}
-use Rattle.std.specs.Prelude.{All, IfSome}
+use Rattle.std.specs.Prelude.{◌≡◌, ◌<◌}
+use Rattle.g1_core.specs.{ℕ, Bool, List, Option, refl, sym, All, slot_count, card_count, Status, target_of, AreMembers, State, IsSound, IsStep, target_entry, pending_entry, members_entry, status_entry}
 use Rattle.std.specs.FinSet as set
-use Rattle.g1_layout.specs.Shape.{slot_count, card_count}
-use Rattle.g1_core.specs.declared.reply.Status.{Status}
-use Rattle.g1_core.specs.Table.{Table, target_of, AreMembers}
-use Rattle.g1_core.specs.Machine.{State, IsSound}
-use Rattle.g1_core.specs.Run.{IsStep}
-use Rattle.g1_core.specs.Calls.{target_entry, pending_entry, members_entry, status_entry}
+use Rattle.g1_core.specs.Table.{Table}
 use Rattle.g1_core.proofs.RefinedLemmas.{refined_none}
 use Rattle.g1_core.proofs.StoreLemmas.{none_refinable}
 use Rattle.g1_core.proofs.SetLemmas.{All_by_member}
@@ -26,8 +21,5 @@ module _ (caller : ℕ) (t : Table) where
   status_step status pending recorded = record { allowed = record { numbers = tt; refines = none_refinable t; answers = (refl, pending, recorded) }; after = sym (refined_none t) }
 
 -- what it answers lies in the heap
-pub target_inside : (s : State) (slot : ℕ) → IsSound s → slot < slot_count s.table.layout → IfSome (target_of s.table slot) (λ place. place < slot_count s.table.layout)
-target_inside s slot sound within = sound.places slot None (omega (arith, within, sound.slots))
-
 pub members_inside : (s : State) (region : ℕ) (cards : List ℕ) → IsSound s → AreMembers s.table region cards → All (λ card. card < card_count s.table.layout) cards
 members_inside s region cards sound are = All_by_member (λ card. card < card_count s.table.layout) cards (λ card c. (sound.recorded card region (are.recorded card c)).0)

@@ -1,28 +1,12 @@
 -- The redirect, whole and short, is a step of the plain table.
-use Rattle.std.proofs.Common.{◌≡◌, ◌≢◌, inl, ℕ, ◌<◌, ◌≤◌, ◌+◌, ◌*◌, List, ◌++◌, length, refl, sym, ap, ◌∙◌, subst, arith}
-use Rattle.std.specs.Prelude.{All, count_by}
-use Rattle.std.specs.List.{enumerate_from}
+use Rattle.std.specs.Prelude.{◌≡◌, ◌≢◌, ◌<◌, ◌≤◌, ◌+◌, ◌*◌, ◌++◌}
+use Rattle.g1_core.specs.{inl, ℕ, List, length, refl, sym, ap, ◌∙◌, subst, arith, All, count_by, enumerate_from, mul-le-mul, length-enumerate_from, count_by-le-length, slot_count, slot_count_limit, Change, State, IsCore, pending_of, table_from, state_from, machine_from, AreRefinable, refined, enters, moved, moved_count, changes_of, slots_on, changed, AreGaining, IsMoved, AreMembersRead, IsWholeRedirect, IsShortRedirect, Cells, reads_after, PairSet, Ring, reset, Pairs, AreTied, list_at, of_region, without, AreRead, member_count, redirect_entry, IsStep, IsAllDrained, IsShortDrain, reset_machine, ring_with}
 use Rattle.std.specs.FinSet as set
-use Rattle.std.proofs.Math.Nat.{mul-le-mul}
-use Rattle.std.proofs.lemmas.List.FromFn.{length-enumerate_from}
-use Rattle.std.proofs.lemmas.List.Sums.{count_by-le-length}
-use Rattle.g1_layout.specs.Shape.{slot_count}
-use Rattle.g1_layout.proofs.ShapeLemmas.{slot_count_limit}
-use Rattle.g1_core.specs.declared.redirection.Change.{Change}
-use Rattle.g1_core.specs.Machine.{Machine, State, IsCore, pending_of, table_from, state_from, machine_from}
-use Rattle.g1_core.specs.Table.{Table, AreRefinable, refined, enters, moved, moved_count}
-use Rattle.g1_core.specs.Redirect.{changes_of, slots_on, changed, AreGaining, IsMoved, AreMembersRead, IsWholeRedirect, IsShortRedirect}
+use Rattle.g1_core.specs.Machine.{Machine}
+use Rattle.g1_core.specs.Table.{Table}
 use Rattle.g1_core.proofs.ClearLemmas.{few_members}
-use Rattle.g1_heap.specs.Cells.{Cells, reads_after}
-use Rattle.g1_layout.specs.Sets.{PairSet}
-use Rattle.g1_hot.specs.Ring.{Ring, reset}
-use Rattle.g1_sets.specs.Pairs.{Pairs, AreTied, list_at, of_region, without}
 use Rattle.g1_core.specs.declared.config.Settings.{Settings}
-use Rattle.g1_core.specs.Clearing.{AreRead, member_count}
 use Rattle.g1_core.specs.declared.reply.Redirected.TheVariants as answers
-use Rattle.g1_core.specs.Calls.{redirect_entry}
-use Rattle.g1_core.specs.Run.{IsStep}
-use Rattle.g1_core.specs.Pause.{IsAllDrained, IsShortDrain, reset_machine, ring_with}
 use Rattle.g1_core.proofs.ChangeLemmas.{read_core}
 use Rattle.g1_core.proofs.ReferenceLemmas.{every_moved, slots_within, places_within, moved_core, moved_state, moved_reads}
 

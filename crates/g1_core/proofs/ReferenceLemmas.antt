@@ -1,29 +1,14 @@
 -- The changes of a region's members are all that a redirect has to move.
-use Rattle.std.proofs.Common.{◌≡◌, ◌≢◌, inl, inr, ℕ, ◌<◌, ◌*◌, Bool, true, false, cond, eqb, List, length, get_or, Option, Some, None, refl, sym, ap, ◌∙◌, subst, arith, map, Result, Ok, Err}
-use Rattle.std.specs.Prelude.{Contains, All, not, ◌&&◌, count_by, OnErr}
-use Rattle.std.specs.List.{filter_map, enumerate_from}
+use Rattle.std.specs.Prelude.{◌≡◌, ◌≢◌, ◌<◌, ◌*◌, ◌&&◌}
+use Rattle.g1_core.specs.{inl, inr, ℕ, true, cond, eqb, List, length, get_or, Option, Some, None, refl, sym, ap, ◌∙◌, subst, arith, map, Result, Ok, Err, Contains, All, not, count_by, OnErr, filter_map, enumerate_from, eqb-true, eqb-false, ne_eqb, and_parts, and_from, true≢false, not-true, length-map, length-enumerate_from, Contains-get_or, Shape, IsShape, slot_count, card_of, region_of, region_of_card, same_offset, same_offset_below, Change, IsCore, pending_of, table_from, state_from, Holds, IsCovered, IsRecorded, enters, moved_target, moved_pair, moved, change_at, changes_of, slots_of, slots_on, changed, AreGaining, Cells, PairSet, pair_cmp, Ring, Pairs, AreTied, list_at, of_region, without, AreRead}
 use Rattle.std.specs.FinSet as set
-use Rattle.std.proofs.lemmas.Bool.{eqb-true, eqb-false, ne_eqb, and_parts, and_from, true≢false, not-true}
-use Rattle.std.proofs.lemmas.List.{length-map}
-use Rattle.std.proofs.lemmas.List.FromFn.{length-enumerate_from}
-use Rattle.std.proofs.lemmas.List.Elements.{Contains-get_or}
-use Rattle.g1_layout.specs.Shape.{Shape, IsShape, slot_count, card_of, region_of, region_of_card, same_offset}
-use Rattle.g1_layout.proofs.ShapeLemmas.{same_offset_below}
-use Rattle.g1_core.specs.declared.redirection.Change.{Change}
-use Rattle.g1_core.specs.Machine.{IsCore, pending_of, table_from, state_from}
-use Rattle.g1_core.specs.Table.{Table, Holds, IsCovered, IsRecorded, enters, moved_target, moved_pair, moved}
-use Rattle.g1_core.specs.Redirect.{change_at, changes_of, slots_of, slots_on, changed, AreGaining}
+use Rattle.g1_core.specs.Table.{Table}
 use Rattle.g1_core.proofs.SetLemmas.{same_pairs, in_pairs, to_pairs, from_kept, to_kept, All_by_member}
 use Rattle.g1_core.proofs.TableLemmas.{region_of_slot, is_slot, slot_at, slot_of}
 use Rattle.g1_core.proofs.RunLemmas.{has_slots}
 use Rattle.g1_core.proofs.ClearLemmas.{met}
-use Rattle.g1_core.proofs.MovedLemmas.{moved_covered, moved_known}
+use Rattle.g1_core.proofs.MovedLemmas.{moved_covered, moved_known, pair_if}
 use Rattle.g1_core.proofs.OutsideLemmas.{holds_outside}
-use Rattle.g1_heap.specs.Cells.{Cells}
-use Rattle.g1_layout.specs.Sets.{PairSet, pair_cmp}
-use Rattle.g1_hot.specs.Ring.{Ring}
-use Rattle.g1_sets.specs.Pairs.{Pairs, AreTied, list_at, of_region, without}
-use Rattle.g1_core.specs.Clearing.{AreRead}
 use Rattle.g1_core.proofs.ChangeLemmas.{change_cases, all_moved, changed_places, of_region_from, of_region_to}
 use Rattle.g1_core.proofs.WalkLemmas.{on_card, its_slot, to_slots, distinct_slots}
 
@@ -103,15 +88,11 @@ module _ (heap : Cells) (sets : Pairs) (ring : Ring) (pending : ℕ) (core : IsC
               (to_kept (moved_pair l from to) (enumerate_from 0 heap.refs) k.1 (k.1, Some d.old) p (omega arith) (slot_at heap.refs k.1 d.old (k.1, Some d.old) d.refers) (makes ∙ ap Some is))
         ]
 
-    pair_parts : (card : ℕ) (p : ℕ × ℕ) (b : Bool) → cond {A = Option (ℕ × ℕ)} b (Some (card, to)) None ≡ Some p → (b ≡ true) × (◌≡◌ {A = ℕ × ℕ} (card, to) p)
-    pair_parts card p true e = let same : ◌≡◌ {A = ℕ × ℕ} (card, to) p = cc in (refl, same)
-    pair_parts card p false e = cc
-
     made_gains : (p : ℕ × ℕ) → set.contains (set.from_list {R = pair_cmp} (filter_map (moved_pair l from to) (enumerate_from 0 heap.refs))) p ≡ true → set.contains (of_region gaining to) p ≡ true
     made_gains p h =
         let k = from_kept (moved_pair l from to) (enumerate_from 0 heap.refs) p (in_pairs _ p h) in
         let is : moved_pair l from to (k.0, get_or heap.refs k.0 None) ≡ Some p = ap (moved_pair l from to) (slot_of heap.refs k.0 k.1 k.2 k.3) ∙ k.4 in
-        let q = pair_parts (card_of l k.0) p (enters l from (k.0, get_or heap.refs k.0 None) && not (eqb (region_of l k.0) to)) is in
+        let q = pair_if (card_of l k.0) to p (enters l from (k.0, get_or heap.refs k.0 None) && not (eqb (region_of l k.0) to)) is in
         let b = and_parts _ _ q.0 in
         let outside : region_of_card l (card_of l k.0) ≢ to = λ e. eqb-false _ _ (not-true _ b.1) (sym (region_of_slot l k.0) ∙ e) in
         elim (change_cases l from to k.0 (get_or heap.refs k.0 None)) [

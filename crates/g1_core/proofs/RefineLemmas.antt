@@ -1,21 +1,8 @@
 -- The turns of cards over the parts of a core.
-use Rattle.std.proofs.Common.{◌≡◌, ◌≢◌, inl, inr, ℕ, ◌<◌, ◌≤◌, ◌+◌, List, [], ◌∷◌, ◌++◌, length, get_or, take, Option, Some, None, refl, sym, ap, ◌∙◌, subst, arith, ◌↔◌}
-use Rattle.std.specs.Prelude.{Contains, nat_eq}
-use Rattle.std.specs.List.{IsDistinct}
-use Rattle.std.proofs.lemmas.List.{length-set}
-use Rattle.std.proofs.lemmas.List.Sums.{fold_more}
-use Rattle.g1_layout.specs.Shape.{card_count}
-use Rattle.g1_heap.specs.declared.mark.Mark.TheVariants.{Clean, Dirty, Held}
-use Rattle.g1_heap.specs.Cells.{Cells, with_mark, with_reads}
-use Rattle.g1_sets.specs.Pairs.{Pairs}
-use Rattle.g1_hot.specs.declared.offer.Offer.{Offer}
-use Rattle.g1_hot.specs.declared.offer.Offer.TheVariants.{Cold, Kept, Out}
-use Rattle.g1_hot.specs.Ring.{Ring, answer, offered, cards_after, popped}
-use Rattle.g1_layout.specs.Sets.{PairSet}
-use Rattle.g1_core.specs.Table.{refined}
+use Rattle.std.specs.Prelude.{◌≡◌, ◌≢◌, ◌<◌, ◌≤◌, ◌+◌, ◌∷◌, ◌++◌, ◌↔◌}
+use Rattle.g1_core.specs.{inl, inr, ℕ, List, [], length, get_or, take, Option, Some, None, refl, sym, ap, ◌∙◌, subst, arith, Contains, nat_eq, IsDistinct, length-set, fold_more, card_count, Clean, Dirty, Held, Cells, with_mark, with_reads, Pairs, Offer, Cold, Kept, Out, Ring, answer, offered, cards_after, popped, PairSet, refined, State, IsCore, AreParts, pending_of, table_from, state_from, machine_from, gained, Round, turn_by, turn, turns, start, offer_to, state_after, refined_by, hot_by, skipped_by}
 use Rattle.g1_core.specs.declared.config.Settings.{Settings}
-use Rattle.g1_core.specs.Machine.{Machine, State, IsCore, AreParts, pending_of, table_from, state_from, machine_from, gained}
-use Rattle.g1_core.specs.Turns.{Round, turn_by, turn, turns, start, offer_to, state_after, refined_by, hot_by, skipped_by}
+use Rattle.g1_core.specs.Machine.{Machine}
 use Rattle.g1_core.proofs.MarkLemmas.{held_clean, dirty_clean, to_pending, is_card, mark_there, some_member}
 use Rattle.g1_core.proofs.TurnLemmas.{answer_cases}
 use Rattle.g1_core.proofs.RefinedLemmas.{refined_none}

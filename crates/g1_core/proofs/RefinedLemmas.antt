@@ -1,16 +1,9 @@
 -- Refining some cards and then others.
-use Rattle.std.proofs.Common.{◌≡◌, inl, inr, ℕ, List, [], ◌∷◌, ◌++◌, sym, ap, ◌∙◌}
-use Rattle.std.specs.Prelude.{Contains, nat_eq, not}
-use Rattle.std.specs.List.{IsDistinct}
+use Rattle.std.specs.Prelude.{◌≡◌, ◌∷◌, ◌++◌}
+use Rattle.g1_core.specs.{inl, inr, ℕ, List, [], sym, ap, ◌∙◌, Contains, nat_eq, not, IsDistinct, nat_cmp, nat_eq_equiv, IsDistinct-push, eqb-true, or_cases, or_left, or_right, and_parts, and_from, not-true, true≢false, false_from_ne_true, All-push, Contains-append_left, Contains-append_right, Contains-append_cases, set_of, IsPending, AreRefinable, refined}
 use Rattle.std.specs.FinSet as set
-use Rattle.std.specs.Ordering.{nat_cmp}
-use Rattle.std.proofs.lemmas.Cmp.{nat_eq_equiv}
-use Rattle.std.proofs.lemmas.Map.Keys.{IsDistinct-push}
 use Rattle.std.proofs.lemmas.Map.Views.{Contains-from_any}
-use Rattle.std.proofs.lemmas.Bool.{eqb-true, or_cases, or_left, or_right, and_parts, and_from, not-true, true≢false, false_from_ne_true}
-use Rattle.std.proofs.lemmas.List.Elements.{All-push, Contains-append_left, Contains-append_right, Contains-append_cases}
-use Rattle.g1_layout.specs.Sets.{set_of}
-use Rattle.g1_core.specs.Table.{Table, IsPending, AreRefinable, refined}
+use Rattle.g1_core.specs.Table.{Table}
 use Rattle.g1_core.proofs.SetLemmas.{same_cards, same_pairs, in_list, in_set}
 use Rattle.g1_core.proofs.TableLemmas.{refined_pending, refined_recorded, still_pending}
 

@@ -1,21 +1,11 @@
 -- Laws of permitted runs.
-use Rattle.std.proofs.Common.{◌≡◌, ◌≢◌, inl, inr, ℕ, ◌<◌, ◌*◌, eqb, List, [], ◌∷◌, ◌++◌, refl, sym, ap, ◌∙◌, subst, arith}
-use Rattle.std.specs.Prelude.{fold, not, ◌&&◌}
-use Rattle.std.proofs.Math.Nat.{mul-pos}
+use Rattle.std.specs.Prelude.{◌≡◌, ◌≢◌, ◌<◌, ◌*◌, ◌∷◌, ◌++◌, ◌&&◌}
+use Rattle.g1_core.specs.{inl, inr, ℕ, eqb, List, [], refl, sym, ap, ◌∙◌, subst, arith, fold, not, mul-pos, append-nil, append_assoc, fold-append, and_from, ne_eqb, Shape, IsShape, card_of, region_of, PairSet, opening, IsCovered, refined, Call, Reply, Entry, Store, Clear, written, settled, Answers, IsCallOf, table_after, IsAllowed, IsStep, table_of_history, IsPermitted}
 use Rattle.std.specs.FinSet as set
-use Rattle.std.proofs.lemmas.List.{append-nil, append_assoc}
-use Rattle.std.proofs.lemmas.Grind.{fold-append}
-use Rattle.std.proofs.lemmas.Bool.{and_from, ne_eqb}
-use Rattle.g1_layout.specs.Shape.{Shape, IsShape, card_of, region_of}
-use Rattle.g1_layout.specs.Sets.{PairSet}
-use Rattle.g1_core.specs.Table.{Table, opening, IsCovered, refined}
-use Rattle.g1_core.specs.declared.entry.Call.{Call}
-use Rattle.g1_core.specs.declared.entry.Reply.{Reply}
-use Rattle.g1_core.specs.declared.entry.Entry.{Entry}
-use Rattle.g1_core.specs.declared.entry.Call.TheVariants.{Store, Clear, Redirect}
+use Rattle.g1_core.specs.Table.{Table}
+use Rattle.g1_core.specs.declared.entry.Call.TheVariants.{Redirect}
 use Rattle.g1_core.specs.declared.entry.Reply.TheVariants as reply
 use Rattle.g1_core.specs.declared.reply.ClearReply.TheVariants as clear_reply
-use Rattle.g1_core.specs.Run.{written, settled, Answers, IsCallOf, table_after, IsAllowed, IsStep, table_of_history, IsPermitted}
 use Rattle.g1_core.proofs.SetLemmas.{pair_exact}
 use Rattle.g1_core.proofs.MovedLemmas.{moved_covered}
 use Rattle.g1_core.proofs.TableLemmas.{refined_covered, stored_covered}

@@ -1,12 +1,7 @@
 -- Membership in sets of cards and of pairs.
-use Rattle.std.proofs.Common.{◌≡◌, ℕ, zero, suc, ◌<◌, true, List, [], ◌∷◌, length, get_or, Option, Some, None, refl, sym, ap, ◌∙◌, subst, arith}
-use Rattle.std.specs.Prelude.{Contains, All}
-use Rattle.std.proofs.lemmas.List.Elements.{Contains-get_or}
-use Rattle.std.specs.List.{filter_map, cons_option}
-use Rattle.std.proofs.lemmas.Cmp.{nat_cmp_total}
-use Rattle.std.proofs.lemmas.Map.Lookups.{exact_unsigned}
+use Rattle.std.specs.Prelude.{◌≡◌, ◌<◌, ◌∷◌}
+use Rattle.g1_core.specs.{ℕ, zero, suc, true, List, [], length, get_or, Option, Some, None, refl, sym, ap, ◌∙◌, subst, arith, Contains, All, Contains-get_or, filter_map, cons_option, nat_cmp_total, exact_unsigned, set_of}
 use Rattle.std.specs.FinSet as set
-use Rattle.g1_layout.specs.Sets.{set_of}
 pub use Rattle.g1_layout.proofs.SetLemmas.{pair_total, pair_exact, same_bools, same_pairs, same_cards, listed, unlisted, in_pairs, to_pairs, of_card_from, of_card_to}
 
 pub in_list : (ks : List ℕ) (q : ℕ) → set.contains (set_of ks) q ≡ true → Contains ks q

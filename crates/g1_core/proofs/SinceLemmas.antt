@@ -1,21 +1,11 @@
 -- What is recorded at the end of a run, a card has held since the last clear.
-use Rattle.std.proofs.Common.{take, ◌≡◌, ◌≢◌, ◌⊎◌, inl, inr, ℕ, true, List, [], ◌∷◌, ◌++◌, length, drop, sym, ap, ◌∙◌, subst, arith}
-use Rattle.std.specs.Prelude.{Contains, All, not}
+use Rattle.std.specs.Prelude.{◌≡◌, ◌≢◌, ◌⊎◌, ◌∷◌, ◌++◌}
+use Rattle.g1_core.specs.{take, inl, inr, ℕ, true, List, [], length, drop, sym, ap, ◌∙◌, subst, arith, Contains, All, not, nat_cmp, take_all, drop_all, take-append-le, drop-append-le, length-append, All-nil, All-push, true≢false, and_parts, eq-eqb, Shape, card_of, region_of, region_of_card, pair_cmp, opening, Holds, IsCovered, IsRecorded, refined, held, Call, Reply, Entry, Store, Clear, written, settled, table_after, IsAllowed, table_of_history, IsPermitted, Clears, ClearsBy, HeldSince, IsExact, drained}
 use Rattle.std.specs.FinSet as set
-use Rattle.std.specs.Ordering.{nat_cmp}
-use Rattle.std.proofs.lemmas.List.{take_all, drop_all, take-append-le, drop-append-le, length-append}
-use Rattle.std.proofs.lemmas.List.Elements.{All-nil, All-push}
-use Rattle.std.proofs.lemmas.Bool.{true≢false, and_parts, eq-eqb}
-use Rattle.g1_layout.specs.Shape.{Shape, card_of, region_of, region_of_card}
-use Rattle.g1_layout.specs.Sets.{pair_cmp}
-use Rattle.g1_core.specs.Table.{Table, opening, Holds, IsCovered, IsRecorded, refined, held}
-use Rattle.g1_core.specs.declared.entry.Call.{Call}
-use Rattle.g1_core.specs.declared.entry.Reply.{Reply}
-use Rattle.g1_core.specs.declared.entry.Entry.{Entry}
-use Rattle.g1_core.specs.declared.entry.Call.TheVariants.{Store, Clear, Redirect}
+use Rattle.g1_core.specs.Table.{Table}
+use Rattle.g1_core.specs.declared.entry.Call.TheVariants.{Redirect}
 use Rattle.g1_core.specs.declared.entry.Reply.TheVariants as reply
 use Rattle.g1_core.specs.declared.reply.ClearReply.TheVariants as clear_reply
-use Rattle.g1_core.specs.Run.{written, settled, table_after, IsAllowed, table_of_history, IsPermitted, Clears, ClearsBy, HeldSince, IsExact, drained}
 use Rattle.g1_core.proofs.MovedLemmas.{moved_known}
 use Rattle.g1_core.proofs.TableLemmas.{opening_covered, recorded_cases, Holds_from_held, region_of_slot}
 use Rattle.g1_core.proofs.RunLemmas.{by_push, table_of_push, forgotten, written_layout, HasSlots, step_covered, run_covered, run_layout}

@@ -1,13 +1,9 @@
 -- What every core keeps, and every call leaves.
-use Rattle.std.proofs.Common.{◌≡◌, ◌∙◌, ℕ, ◌<◌, ◌≤◌, length, Option, sym, ap, subst, arith}
-use Rattle.g1_sets.specs.Pairs.{Pairs}
-use Rattle.g1_heap.specs.Cells.{Cells}
-use Rattle.g1_hot.specs.Ring.{Ring}
+use Rattle.std.specs.Prelude.{◌≡◌, ◌<◌, ◌≤◌}
+use Rattle.g1_core.specs.{◌∙◌, ℕ, Option, sym, ap, subst, arith, Pairs, Cells, Ring, State, IsCore, IsPending, IsPlaced, card_count, table_from, IsSound, IsLater, state_from, machine_from, Entry, IsStep}
 use Rattle.g1_core.specs.declared.config.Settings.{Settings}
 use Rattle.g1_core.specs.Table.{Table}
-use Rattle.g1_core.specs.Machine.{State, Machine, IsCore, IsSound, IsLater, state_from, machine_from}
-use Rattle.g1_core.specs.declared.entry.Entry.{Entry}
-use Rattle.g1_core.specs.Run.{IsStep}
+use Rattle.g1_core.specs.Machine.{Machine}
 use Rattle.g1_core.proofs.RunLemmas.{layout_after}
 use Rattle.g1_core.proofs.MarkLemmas.{from_pending, is_card}
 use Rattle.g1_core.proofs.PartLemmas.{parts_placed}
@@ -15,15 +11,10 @@ use Rattle.g1_core.proofs.StoreLemmas.{IsStored}
 
 module _ (heap : Cells) (sets : Pairs) (ring : Ring) (pending : ℕ) (core : IsCore heap sets ring pending) where
   pub core_sound : IsSound (state_from heap sets.pairs ring)
-  core_sound = record {
-    shape = core.parts.cells.shape;
-    slots = core.parts.cells.slots;
-    places = core.parts.cells.places;
-    pending = λ card h. let below : card < length heap.marks = is_card heap.marks card (from_pending heap.marks card h) in omega (arith, below, core.parts.cells.cards);
-    recorded = core.parts.outside;
-    cover = core.parts.cover;
-    ring = parts_placed heap sets.pairs ring pending core.parts;
-  }
+  core_sound =
+      let inside : (card : ℕ) → IsPending (table_from heap sets.pairs) card → card < card_count heap.layout = λ card h. omega (arith, is_card heap.marks card (from_pending heap.marks card h), core.parts.cells.cards) in
+      let placed : IsPlaced (state_from heap sets.pairs ring) = parts_placed heap sets.pairs ring pending core.parts in
+      search (inside, placed)
 
   -- of a machine that has kept its layout, its settings and its reads
   pub core_later : (settings : Settings) (old : Machine) → heap.layout ≡ old.state.table.layout → settings ≡ old.settings → heap.reads ≡ old.reads → IsLater old (machine_from heap sets.pairs ring settings)

@@ -1,29 +1,11 @@
 -- The barrier.
-use Rattle.std.proofs.Common.{◌≡◌, ◌≢◌, ◌⊎◌, inl, inr, ℕ, ◌<◌, ◌≤◌, ◌+◌, Bool, true, false, cond, eqb, set as list_set, List, [], length, get_or, Option, Some, None, refl, sym, ap, ◌∙◌, subst, arith}
-use Rattle.std.specs.Prelude.{IfSome}
-use Rattle.std.specs.List.{IsDistinct}
+use Rattle.std.specs.Prelude.{◌≡◌, ◌≢◌, ◌⊎◌, ◌<◌, ◌≤◌, ◌+◌}
+use Rattle.g1_core.specs.{inl, inr, ℕ, Bool, true, false, cond, eqb, List, [], length, get_or, Option, Some, None, refl, sym, ap, ◌∙◌, subst, arith, IfSome, IsDistinct, cases_eq, true≢false, false_from_ne_true, length-set, All-set, Shape, slot_count, card_count, card_of, region_of, CardSet, PairSet, card_count_limit, Kind, SameRegion, AlreadyDirty, Logged, Mark, Clean, Dirty, Held, Cells, AreCells, with_ref, with_mark, Pairs, Ring, IsCovered, AreRefinable, refined, State, IsCore, AreParts, pending_of, table_from, state_from, machine_from, Store, IsStep, IsCallOf, kind_of, stored, pending_after, StoreReply, store_entry, stored_machine}
+use Rattle.std.proofs.Common.{set as list_set}
 use Rattle.std.specs.FinSet as set
-use Rattle.std.proofs.lemmas.Bool.{cases_eq, true≢false, false_from_ne_true}
-use Rattle.std.proofs.lemmas.List.{length-set}
-use Rattle.std.proofs.lemmas.List.Elements.{All-set}
-use Rattle.g1_layout.specs.Shape.{Shape, slot_count, card_count, card_of, region_of}
-use Rattle.g1_layout.specs.Sets.{CardSet, PairSet}
-use Rattle.g1_layout.proofs.ShapeLemmas.{card_count_limit}
-use Rattle.g1_layout.specs.declared.kind.Kind.{Kind}
-use Rattle.g1_layout.specs.declared.kind.Kind.TheVariants.{SameRegion, Null, AlreadyDirty, Logged}
-use Rattle.g1_heap.specs.declared.mark.Mark.{Mark}
-use Rattle.g1_heap.specs.declared.mark.Mark.TheVariants.{Clean, Dirty, Held}
-use Rattle.g1_heap.specs.Cells.{Cells, AreCells, with_ref, with_mark}
-use Rattle.g1_sets.specs.Pairs.{Pairs}
-use Rattle.g1_hot.specs.Ring.{Ring}
-use Rattle.g1_core.specs.Table.{Table, IsCovered, AreRefinable, refined}
+use Rattle.g1_core.specs.Table.{Table}
 use Rattle.g1_core.specs.declared.config.Settings.{Settings}
-use Rattle.g1_core.specs.Machine.{Machine, State, IsCore, AreParts, pending_of, table_from, state_from, machine_from}
-use Rattle.g1_core.specs.declared.entry.Call.TheVariants.{Store}
-use Rattle.g1_core.specs.Run.{IsStep, IsCallOf, kind_of, stored, pending_after}
-use Rattle.g1_core.specs.declared.reply.StoreReply.{StoreReply}
-use Rattle.g1_core.specs.Calls.{store_entry}
-use Rattle.g1_core.specs.Barrier.{stored_machine}
+use Rattle.g1_core.specs.Machine.{Machine}
 use Rattle.g1_core.proofs.TableLemmas.{stored_covered}
 use Rattle.g1_core.proofs.MarkLemmas.{held_clean, dirty_clean, dirty_held, from_pending, to_pending, pending_marked, mark_here, mark_there, few_pending, one_more}
 use Rattle.g1_core.proofs.RefinedLemmas.{refined_none}
@@ -34,9 +16,7 @@ clean_mark marks card e = false_from_ne_true _ (λ h. from_pending marks card h 
 
 pending_plain : (kind : Kind) (pending : CardSet) (card : ℕ) → kind ≢ Logged → pending_after kind pending card ≡ pending
 pending_plain Logged pending card ne = absurd (ne refl)
-pending_plain SameRegion pending card ne = refl
-pending_plain Null pending card ne = refl
-pending_plain AlreadyDirty pending card ne = refl
+pending_plain _ pending card ne = refl
 
 logged_if : (a b : Bool) → cond a SameRegion (cond b AlreadyDirty Logged) ≡ Logged → b ≡ false
 logged_if true b e = cc
@@ -66,16 +46,9 @@ module _ (heap : Cells) (pairs : PairSet) (ring : Ring) (pending : ℕ) (parts :
   }
 
   pub plain_parts : kind ≢ Logged → AreParts (with_ref heap slot target) pairs ring pending
-  plain_parts ne = record {
-    cells = written_cells;
-    counts = parts.counts;
-    some = parts.some;
-    distinct = parts.distinct;
-    held = parts.held;
-    known = parts.known;
-    cover = subst IsCovered (sym (ap (λ (s : State). s.table) (plain_state ne))) (stored_covered t slot target parts.cover);
-    outside = parts.outside;
-  }
+  plain_parts ne =
+      let cover : IsCovered (table_from (with_ref heap slot target) pairs) = subst IsCovered (sym (ap (λ (s : State). s.table) (plain_state ne))) (stored_covered t slot target parts.cover) in
+      search (written_cells, cover)
 
   module _ (logged : kind ≡ Logged) (card : ℕ) (on_card : card ≡ card_of heap.layout slot) (within : card < card_count heap.layout) (pending' : ℕ) (more : pending' ≡ pending + 1) where
     inside : card < length heap.marks

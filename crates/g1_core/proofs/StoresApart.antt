@@ -1,18 +1,9 @@
 -- Two stores into different slots may change places.
-use Rattle.std.proofs.Common.{◌≡◌, ◌≢◌, ◌⊎◌, ℕ, Bool, true, cond, Option, Some, None, refl, sym, ap, ◌∙◌, subst, inl, inr, eq-eqb}
+use Rattle.std.specs.Prelude.{◌≡◌, ◌≢◌, ◌⊎◌}
+use Rattle.g1_core.specs.{ℕ, Bool, true, cond, Option, Some, None, refl, sym, ap, ◌∙◌, subst, inl, inr, nat_cmp, Equal-is, or_cases, nat_cmp_total, set_comm, exact_unsigned, Kind, SameRegion, Null, AlreadyDirty, Logged, card_of, region_of, CardSet, IsPending, kind_of, pending_after, stored}
+use Rattle.std.proofs.Common.{eq-eqb}
 use Rattle.std.specs.FinSet as fin
-use Rattle.std.specs.Ordering.{nat_cmp}
-use Rattle.std.specs.Cmp.{Equal-is}
-use Rattle.std.proofs.lemmas.Bool.{or_cases}
-use Rattle.std.proofs.lemmas.Cmp.{nat_cmp_total}
-use Rattle.std.proofs.lemmas.List.{set_comm}
-use Rattle.std.proofs.lemmas.Map.Lookups.{exact_unsigned}
-use Rattle.g1_layout.specs.declared.kind.Kind.{Kind}
-use Rattle.g1_layout.specs.declared.kind.Kind.TheVariants.{SameRegion, Null, AlreadyDirty, Logged}
-use Rattle.g1_layout.specs.Shape.{card_of, region_of}
-use Rattle.g1_layout.specs.Sets.{CardSet}
-use Rattle.g1_core.specs.Table.{Table, IsPending}
-use Rattle.g1_core.specs.Run.{kind_of, pending_after, stored}
+use Rattle.g1_core.specs.Table.{Table}
 use Rattle.g1_core.proofs.SetLemmas.{same_cards}
 use Rattle.g1_core.proofs.TableLemmas.{pending_grows, store_marks}
 

@@ -1,19 +1,9 @@
 -- Laws of the plain table.
-use Rattle.std.proofs.Common.{◌≡◌, ◌≢◌, ◌⊎◌, inl, inr, ℕ, ◌<◌, ◌+◌, ◌/◌, Bool, true, false, cond, eqb, List, length, get_or, set as list_set, replicate, Option, Some, None, refl, sym, ap, ◌∙◌, subst, arith}
-use Rattle.std.specs.Prelude.{◌&&◌, ◌||◌, not}
-use Rattle.std.specs.List.{enumerate_from}
+use Rattle.std.specs.Prelude.{◌≡◌, ◌≢◌, ◌⊎◌, ◌<◌, ◌+◌, ◌/◌, ◌&&◌, ◌||◌}
+use Rattle.g1_core.specs.{inl, inr, ℕ, Bool, true, false, cond, eqb, List, length, get_or, replicate, Option, Some, None, refl, sym, ap, ◌∙◌, subst, arith, not, enumerate_from, div-div-eq-div-mul, mul_comm, eqb-false, ne_eqb, cases_lt, cases_eq, cases_Bool, or_cases, or_left, or_right, and_parts, and_from, nat_cmp_total, eq_by_cmp_equiv, get_or-set_same, get_or-set_other, get_or_past, get_or-replicate, length-replicate, length-set, get_or_default, get_or-enumerate_from, length-enumerate_from, Kind, SameRegion, Null, AlreadyDirty, Logged, Shape, slot_count, card_of, region_of, region_of_card, CardSet, set_of, opening, IsPending, IsRecorded, Crosses, Holds, IsCovered, pair_of, held, refined, kind_of, pending_after, stored}
+use Rattle.std.proofs.Common.{set as list_set}
 use Rattle.std.specs.FinSet as set
-use Rattle.std.proofs.Math.Nat.{div-div-eq-div-mul, mul_comm}
-use Rattle.std.proofs.lemmas.Bool.{eqb-false, ne_eqb, cases_lt, cases_eq, cases_Bool, or_cases, or_left, or_right, and_parts, and_from}
-use Rattle.std.proofs.lemmas.Cmp.{nat_cmp_total, eq_by_cmp_equiv}
-use Rattle.std.proofs.lemmas.List.{get_or-set_same, get_or-set_other, get_or_past, get_or-replicate, length-replicate, length-set, get_or_default}
-use Rattle.std.proofs.lemmas.List.FromFn.{get_or-enumerate_from, length-enumerate_from}
-use Rattle.g1_layout.specs.declared.kind.Kind.{Kind}
-use Rattle.g1_layout.specs.declared.kind.Kind.TheVariants.{SameRegion, Null, AlreadyDirty, Logged}
-use Rattle.g1_layout.specs.Shape.{Shape, slot_count, card_of, region_of, region_of_card}
-use Rattle.g1_layout.specs.Sets.{CardSet, set_of}
-use Rattle.g1_core.specs.Table.{Table, opening, IsPending, IsRecorded, Crosses, Holds, IsCovered, pair_of, held, refined}
-use Rattle.g1_core.specs.Run.{kind_of, pending_after, stored}
+use Rattle.g1_core.specs.Table.{Table}
 use Rattle.g1_core.proofs.SetLemmas.{pair_total, pair_exact, listed, unlisted, Kept, from_kept, to_kept}
 
 -- a slot's region is that of its card

@@ -1,23 +1,9 @@
 -- A round of turns refines distinct pending cards.
-use Rattle.std.proofs.Common.{◌≡◌, ◌≢◌, ◌⊎◌, inl, inr, ℕ, suc, ◌≤◌, true, cond, List, [], ◌∷◌, ◌++◌, length, get_or, take, drop, Option, Some, None, refl, sym, ap, ◌∙◌, subst, arith}
-use Rattle.std.specs.Prelude.{Contains, All, nat_eq, nat_lt, not}
-use Rattle.std.specs.List.{IsDistinct}
-use Rattle.std.proofs.lemmas.Map.Keys.{IsDistinct-tail}
+use Rattle.std.specs.Prelude.{◌≡◌, ◌≢◌, ◌⊎◌, ◌≤◌, ◌∷◌, ◌++◌}
+use Rattle.g1_core.specs.{inl, inr, ℕ, suc, true, cond, List, [], length, get_or, take, drop, Option, Some, None, refl, sym, ap, ◌∙◌, subst, arith, Contains, All, nat_eq, nat_lt, not, IsDistinct, IsDistinct-tail, cases_lt, cases_Bool, and_parts, and_from, lt-ltb, le-ltb, not-true, true≢false, false_from_ne_true, append-nil, All-push, All-contains, Offer, Cold, Kept, Out, Ring, answer, cards_after, IsPending, AreRefinable, refined, State, IsPlaced, RefineReply, IsStep, IsTurned, round_of, refine_entry, is_dirty, refined_by, state_after, Round, turn_by, turn, turns, start}
 use Rattle.std.proofs.lemmas.Map.Made.{AllPairs-from_IsDistinct}
 use Rattle.std.proofs.lemmas.Bool.Decides.{Decides-eqb}
-use Rattle.std.proofs.lemmas.Bool.{cases_lt, cases_Bool, and_parts, and_from, lt-ltb, le-ltb, not-true, true≢false, false_from_ne_true}
-use Rattle.std.proofs.lemmas.List.{append-nil}
-use Rattle.std.proofs.lemmas.List.Elements.{All-push, All-contains}
-use Rattle.g1_hot.specs.declared.offer.Offer.{Offer}
-use Rattle.g1_hot.specs.declared.offer.Offer.TheVariants.{Cold, Kept, Out}
-use Rattle.g1_hot.specs.Ring.{Ring, answer, cards_after}
-use Rattle.g1_core.specs.Table.{Table, IsPending, AreRefinable, refined}
-use Rattle.g1_core.specs.Machine.{State, IsPlaced}
-use Rattle.g1_core.specs.declared.reply.RefineReply.{RefineReply}
-use Rattle.g1_core.specs.Run.{IsStep}
-use Rattle.g1_core.specs.Refinement.{IsTurned, round_of}
-use Rattle.g1_core.specs.Calls.{refine_entry}
-use Rattle.g1_core.specs.Turns.{is_dirty, refined_by, state_after, Round, turn_by, turn, turns, start}
+use Rattle.g1_core.specs.Table.{Table}
 use Rattle.g1_core.proofs.SetLemmas.{All_by_member, in_list, in_set}
 use Rattle.g1_core.proofs.TableLemmas.{still_pending}
 use Rattle.g1_core.proofs.MarkLemmas.{one_of}

@@ -1,9 +1,8 @@
 -- The search of a check, slot by slot.
-use Rattle.std.proofs.Common.{◌≡◌, ℕ, ◌+◌, ◌-◌, ◌<◌, List, length, map, get_or, Option, None, Some, ap, sym, ◌∙◌, subst, arith}
-use Rattle.std.proofs.lemmas.List.{get_or-map}
-use Rattle.g1_core.specs.Table.{Table, target_of}
-use Rattle.g1_core.specs.Machine.{Machine, IsLater, IsOnlyRead}
-use Rattle.g1_core.specs.Verify.{IsFirst, Differs}
+use Rattle.std.specs.Prelude.{◌≡◌, ◌+◌, ◌-◌, ◌<◌}
+use Rattle.g1_core.specs.{ℕ, List, length, map, get_or, Option, None, Some, ap, sym, ◌∙◌, subst, arith, get_or-map, target_of, IsLater, IsOnlyRead, IsFirst, Differs}
+use Rattle.g1_core.specs.Table.{Table}
+use Rattle.g1_core.specs.Machine.{Machine}
 
 module _ (Q : ℕ → Type 0) (first : ℕ) where
   pub first_none : (count : ℕ) → ((k : ℕ) → k < count → Q (first + k) → ⊥) → IsFirst Q first count None

@@ -1,21 +1,7 @@
 -- The walk over the slots of some cards that collects the changes of a redirect.
-use Rattle.std.proofs.Common.{◌≡◌, ◌≢◌, inl, inr, ℕ, zero, suc, ◌<◌, ◌≤◌, ◌+◌, ◌-◌, ◌*◌, Bool, true, false, eqb, List, [], ◌∷◌, ◌++◌, length, get_or, Option, Some, None, refl, sym, ap, ◌∙◌, subst, arith, take}
-use Rattle.std.specs.Prelude.{Contains, nat_eq, not, slice_get}
-use Rattle.std.specs.List.{IsDistinct, cons_option, range_with_len}
-use Rattle.std.proofs.lemmas.Bool.{cases_eq, eqb-false, ne_eqb, true≢false, not-true}
-use Rattle.std.proofs.lemmas.List.{append-nil, append_assoc, length-append, take_more}
-use Rattle.std.proofs.lemmas.List.FromFn.{get_or-range_with_len, length-range_with_len}
+use Rattle.std.specs.Prelude.{◌≡◌, ◌≢◌, ◌<◌, ◌≤◌, ◌+◌, ◌-◌, ◌*◌, ◌∷◌, ◌++◌}
+use Rattle.g1_core.specs.{inl, inr, ℕ, zero, suc, Bool, true, false, eqb, List, [], length, get_or, Option, Some, None, refl, sym, ap, ◌∙◌, subst, arith, take, Contains, nat_eq, not, slice_get, IsDistinct, cons_option, range_with_len, cases_eq, eqb-false, ne_eqb, true≢false, not-true, append-nil, append_assoc, length-append, take_more, get_or-range_with_len, length-range_with_len, flat_map-append, filter_map-append, Contains-append_cases, Contains-append_left, Contains-append_right, Shape, IsShape, card_count, card_of, region_of_card, slot_at, Change, change_at, changes_of, slots_of, slots_on, AreGaining, get_or_from_slice_get, slice_get_within, Cells, Pairs, AreTied, list_at, AreRead, IsInRow, row_of_card, card_of-in_row}
 use Rattle.std.proofs.lemmas.List.Concat.{flat_map-cons}
-use Rattle.std.proofs.lemmas.Grind.{flat_map-append}
-use Rattle.std.proofs.lemmas.List.Elements.{filter_map-append, Contains-append_cases, Contains-append_left, Contains-append_right}
-use Rattle.g1_layout.specs.Shape.{Shape, IsShape, card_count, card_of, region_of_card, slot_at}
-use Rattle.g1_core.specs.declared.redirection.Change.{Change}
-use Rattle.g1_core.specs.Redirect.{change_at, changes_of, slots_of, slots_on, AreGaining}
-use Rattle.std.proofs.lemmas.Option.{get_or_from_slice_get, slice_get_within}
-use Rattle.g1_heap.specs.Cells.{Cells}
-use Rattle.g1_sets.specs.Pairs.{Pairs, AreTied, list_at}
-use Rattle.g1_core.specs.Clearing.{AreRead}
-use Rattle.g1_layout.proofs.ShapeLemmas.{IsInRow, row_of_card, card_of-in_row}
 use Rattle.g1_core.proofs.MarkLemmas.{one_of, itself}
 use Rattle.g1_core.proofs.TurnLemmas.{front_apart, rest_distinct}
 use Rattle.g1_core.proofs.RefinedLemmas.{push_distinct}

@@ -1,10 +1,8 @@
 -- A core that is made of references, marked cards and pairs.
-use Rattle.std.specs.Prelude.{◌≢◌, ◌<◌, ℕ, Bool, true, false, List, Option, map}
+use Rattle.std.specs.Prelude.{◌≢◌, ◌<◌}
+use Rattle.g1_core.specs.Prelude.{ℕ, Bool, true, false, List, Option, map, Shape, card_count}
+use Rattle.g1_core.specs.Prelude.{region_of_card, Mark, Clean, Dirty, new_ring}
 use Rattle.std.specs.FinSet as set
-use Rattle.g1_layout.specs.Shape.{Shape, card_count, region_of_card}
-use Rattle.g1_heap.specs.declared.mark.Mark.{Mark}
-use Rattle.g1_heap.specs.declared.mark.Mark.TheVariants.{Clean, Dirty}
-use Rattle.g1_hot.specs.Ring.{new_ring}
 use Rattle.g1_core.specs.Table.{Table}
 use Rattle.g1_core.specs.declared.config.Settings.{Settings}
 use Rattle.g1_core.specs.Machine.{Machine, pending_of}

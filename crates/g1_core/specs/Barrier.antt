@@ -1,8 +1,6 @@
 -- What a store does to the core and to the lent log.
-use Rattle.std.specs.Prelude.{ℕ, List, [], Option, Some, None, false}
-use Rattle.g1_layout.specs.declared.kind.Kind.{Kind}
-use Rattle.g1_layout.specs.declared.kind.Kind.TheVariants.{SameRegion, Null, AlreadyDirty, Logged}
-use Rattle.g1_log.specs.Log.{Cards, pushed, handed}
+use Rattle.g1_core.specs.Prelude.{ℕ, List, [], Option, Some, None, false, Kind, SameRegion, Null}
+use Rattle.g1_core.specs.Prelude.{AlreadyDirty, Logged, Cards, pushed, handed}
 use Rattle.g1_core.specs.declared.reply.Fill.{Fill}
 use Rattle.g1_core.specs.declared.reply.Fill.TheVariants.{No, Full}
 use Rattle.g1_core.specs.declared.reply.StoreReply.{StoreReply}

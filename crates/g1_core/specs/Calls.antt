@@ -1,10 +1,9 @@
 -- What each call of a core enters in a history, from what it returns, and what it does, from one
 -- machine to the next.
-use Rattle.std.specs.Prelude.{ℕ, Bool, List, [], Option, ◌≡◌, ◌≢◌, ◌≤◌, ◌<◌, ◌+◌, ◌-◌, ◌*◌, ◌^◌}
-use Rattle.std.specs.Prelude.{false, length, All, IfSome, IsNone, min}
+use Rattle.std.specs.Prelude.{◌≡◌, ◌≢◌, ◌≤◌, ◌<◌, ◌+◌, ◌-◌, ◌*◌, ◌^◌}
+use Rattle.g1_core.specs.Prelude.{ℕ, Bool, List, [], Option, false, length, All, IfSome, IsNone}
+use Rattle.g1_core.specs.Prelude.{min, Shape, slot_count, card_count, Cards}
 use Rattle.std.specs.FinSet as set
-use Rattle.g1_layout.specs.Shape.{Shape, slot_count, card_count}
-use Rattle.g1_log.specs.Log.{Cards}
 use Rattle.g1_core.specs.declared.reply.StoreReply.{StoreReply}
 use Rattle.g1_core.specs.declared.reply.RefineReply.{RefineReply}
 use Rattle.g1_core.specs.declared.reply.Status.{Status}

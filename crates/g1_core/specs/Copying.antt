@@ -1,5 +1,6 @@
 -- What a copy of a range of slots does to the plain table.
-use Rattle.std.specs.Prelude.{ℕ, ◌+◌, zero, suc}
+use Rattle.std.specs.Prelude.{◌+◌}
+use Rattle.g1_core.specs.Prelude.{ℕ, zero, suc}
 use Rattle.g1_core.specs.Table.{Table, target_of}
 use Rattle.g1_core.specs.Run.{stored}
 

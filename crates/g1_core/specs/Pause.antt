@@ -1,10 +1,8 @@
 -- What a drain does.
-use Rattle.std.specs.Prelude.{◌≡◌, ◌≤◌, ◌<◌, ◌+◌, ◌*◌, ◌⊎◌, ◌↔◌, ℕ, true, List, [], ◌∷◌, ◌++◌}
-use Rattle.std.specs.Prelude.{length, Contains}
-use Rattle.std.specs.List.Sorted.{IsStrictlyIncreasing}
+use Rattle.std.specs.Prelude.{◌≡◌, ◌≤◌, ◌<◌, ◌+◌, ◌*◌, ◌⊎◌, ◌↔◌, ◌∷◌, ◌++◌}
+use Rattle.g1_core.specs.Prelude.{ℕ, true, List, [], length, Contains, IsStrictlyIncreasing}
+use Rattle.g1_core.specs.Prelude.{reads_after, Ring, reset}
 use Rattle.std.specs.FinSet as set
-use Rattle.g1_heap.specs.Cells.{reads_after}
-use Rattle.g1_hot.specs.Ring.{Ring, reset}
 use Rattle.g1_core.specs.declared.reply.Drained.{Drained}
 use Rattle.g1_core.specs.declared.reply.Drained.TheVariants.{Cards, Short}
 use Rattle.g1_core.specs.Table.{AreMembers, AreRefinable, IsPending, refined}

@@ -1,7 +1,6 @@
 -- What a refinement of a lent buffer does.
-use Rattle.std.specs.Prelude.{◌≡◌, ◌≤◌, ◌+◌, ◌*◌, ℕ, false, List, [], Option, Some, None, length}
-use Rattle.std.specs.Prelude.{take, if◌then◌else◌}
-use Rattle.g1_heap.specs.Cells.{reads_after}
+use Rattle.std.specs.Prelude.{◌≡◌, ◌≤◌, ◌+◌, ◌*◌, if◌then◌else◌}
+use Rattle.g1_core.specs.Prelude.{ℕ, false, List, [], Option, Some, None, length, take, reads_after}
 use Rattle.g1_core.specs.declared.reply.RefineReply.{RefineReply}
 use Rattle.g1_core.specs.Machine.{State, Machine}
 use Rattle.g1_core.specs.Turns.{Round, turns, start}

@@ -1,11 +1,10 @@
 -- The step of the plain table that each entry of a history is, and permitted runs.
-use Rattle.std.specs.Prelude.{◌≡◌, ◌≢◌, ℕ, List, [], ◌∷◌, Option, Some, None, length, take, drop}
-use Rattle.std.specs.Prelude.{All, Contains, fold, if◌then◌else◌, ◌==◌, not, slice_set, ◌<◌, ◌≤◌}
-use Rattle.std.specs.Prelude.{IfSome}
-use Rattle.std.specs.List.Sorted.{IsStrictlyIncreasing}
+use Rattle.std.specs.Prelude.{◌≡◌, ◌≢◌, ◌∷◌, if◌then◌else◌, ◌==◌, ◌<◌, ◌≤◌}
+use Rattle.g1_core.specs.Prelude.{ℕ, List, [], Option, Some, None, length, take, drop, All}
+use Rattle.g1_core.specs.Prelude.{Contains, fold, not, slice_set, IfSome, IsStrictlyIncreasing}
+use Rattle.g1_core.specs.Prelude.{Kind, SameRegion, Null, AlreadyDirty, Logged, Shape, slot_count}
+use Rattle.g1_core.specs.Prelude.{card_count, card_of, region_of, region_of_card, CardSet}
 use Rattle.std.specs.FinSet as set
-use Rattle.g1_layout.specs.declared.kind.Kind.{Kind}
-use Rattle.g1_layout.specs.declared.kind.Kind.TheVariants.{SameRegion, Null, AlreadyDirty, Logged}
 use Rattle.g1_core.specs.declared.entry.Call.{Call}
 use Rattle.g1_core.specs.declared.entry.Call.TheVariants.{Store, Refine, Target, Pending, Members}
 use Rattle.g1_core.specs.declared.entry.Call.TheVariants.{Status, Drain, Clear, Redirect}
@@ -13,8 +12,6 @@ use Rattle.g1_core.specs.declared.entry.Reply.{Reply}
 use Rattle.g1_core.specs.declared.entry.Reply.TheVariants as reply
 use Rattle.g1_core.specs.declared.entry.Entry.{Entry}
 use Rattle.g1_core.specs.declared.reply.ClearReply.TheVariants as clear_reply
-use Rattle.g1_layout.specs.Shape.{Shape, slot_count, card_count, card_of, region_of, region_of_card}
-use Rattle.g1_layout.specs.Sets.{CardSet}
 use Rattle.g1_core.specs.Table.{Table, opening, target_of, Holds, Enters, AreMembers, AreRefinable}
 use Rattle.g1_core.specs.Table.{refined, moved, moved_count}
 

@@ -1,6 +1,6 @@
 -- The settings of a core, and their limits.
-use Rattle.std.specs.Prelude.{ℕ, ◌≤◌, refl}
-use Rattle.std.specs.Coded.{Coded, code_by, coded×, coded_ℕ}
+use Rattle.std.specs.Prelude.{◌≤◌}
+use Rattle.g1_core.specs.Prelude.{ℕ, refl, Coded, code_by, coded×, coded_ℕ}
 use Rattle.g1_core.specs.declared.config.Limits.{Limits}
 use Rattle.g1_core.specs.declared.config.Settings.{Settings}
 use Rattle.g1_core.specs.declared.config.TheConstants.Config.{LOG, LIMIT, HOT, RING, START}

@@ -1,15 +1,12 @@
 -- The plain table of a heap: what each slot refers to, which cards are pending, and which pairs
 -- (card, region) are recorded. It knows no buffer, count, order or mark.
-use Rattle.std.specs.Prelude.{◌≡◌, ◌≢◌, ◌<◌, ℕ, ◌==◌, Bool, List, Option, Some, None, IsTrue, ◌⊎◌}
-use Rattle.std.specs.Prelude.{if◌then◌else◌, replicate, slice_index_or, nat_eq, All, map, count_by}
-use Rattle.std.specs.Prelude.{not, ◌&&◌, false}
-use Rattle.std.specs.List.{IsDistinct, filter_map, enumerate_from}
+use Rattle.std.specs.Prelude.{◌≡◌, ◌≢◌, ◌<◌, ◌==◌, ◌⊎◌, if◌then◌else◌, ◌&&◌}
+use Rattle.g1_core.specs.Prelude.{ℕ, Bool, List, Option, Some, None, IsTrue, replicate}
+use Rattle.g1_core.specs.Prelude.{slice_index_or, nat_eq, All, map, count_by, not, false}
+use Rattle.g1_core.specs.Prelude.{IsDistinct, filter_map, enumerate_from, Shape, slot_count}
+use Rattle.g1_core.specs.Prelude.{card_count, card_of, region_of, region_of_card, same_offset}
+use Rattle.g1_core.specs.Prelude.{HoldsIn, AreCardsOf, CardSet, PairSet, set_of}
 use Rattle.std.specs.FinSet as set
-use Rattle.g1_layout.specs.Shape.{Shape, slot_count, card_count, card_of, region_of, region_of_card}
-use Rattle.g1_layout.specs.Shape.{same_offset}
-use Rattle.g1_heap.specs.Cells.{HoldsIn}
-use Rattle.g1_sets.specs.Pairs.{AreCardsOf}
-use Rattle.g1_layout.specs.Sets.{CardSet, PairSet, set_of}
 
 pub record Table : Type 0 where
   pub layout : Shape

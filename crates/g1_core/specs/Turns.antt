@@ -1,11 +1,8 @@
 -- The turn of a card in refinement, and a round of turns.
-use Rattle.std.specs.Prelude.{ℕ, Bool, List, [], ◌∷◌, ◌++◌, Option, Some, None, if◌then◌else◌, not}
-use Rattle.std.specs.Prelude.{◌&&◌, fold, ◌+◌}
+use Rattle.std.specs.Prelude.{◌∷◌, ◌++◌, if◌then◌else◌, ◌&&◌, ◌+◌}
+use Rattle.g1_core.specs.Prelude.{ℕ, Bool, List, [], Option, Some, None, not, fold, Offer, Cold}
+use Rattle.g1_core.specs.Prelude.{Kept, Out, Ring, answer, offered, set_of}
 use Rattle.std.specs.FinSet as set
-use Rattle.g1_hot.specs.declared.offer.Offer.{Offer}
-use Rattle.g1_hot.specs.declared.offer.Offer.TheVariants.{Cold, Kept, Out}
-use Rattle.g1_hot.specs.Ring.{Ring, answer, offered}
-use Rattle.g1_layout.specs.Sets.{set_of}
 use Rattle.g1_core.specs.Table.{refined}
 use Rattle.g1_core.specs.Machine.{State}
 

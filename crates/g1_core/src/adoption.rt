@@ -1,13 +1,9 @@
 //! Adoption: makes a core of a table that exists already, and lists the pairs of a core's table.
-ghost use Rattle.std.specs.Prelude.{◌≡◌, ◌<◌, ◌^◌, ◌++◌, All, IfSome, IfOk, OnOk};
-ghost use Rattle.std.specs.Prelude.{length, map, replicate};
+ghost use Rattle.std.specs.Prelude.{◌≡◌, ◌<◌, ◌^◌, ◌++◌};
+ghost use Rattle.g1_core.specs.{All, IfSome, IfOk, OnOk, length, map, replicate, slot_count};
+ghost use Rattle.g1_core.specs.{card_count, list_at, AreTied, Clean, IsCovered, pending_of};
+ghost use Rattle.g1_core.specs.{IsPairOf, marks_for, table_with, adopted_machine};
 ghost use Rattle.std.specs.FinSet as set;
-ghost use Rattle.g1_layout.specs.Shape.{slot_count, card_count};
-ghost use Rattle.g1_sets.specs.Pairs.{list_at, AreTied};
-ghost use Rattle.g1_heap.specs.declared.mark.Mark.TheVariants.{Clean};
-ghost use Rattle.g1_core.specs.Table.{IsCovered};
-ghost use Rattle.g1_core.specs.Machine.{pending_of};
-ghost use Rattle.g1_core.specs.Adoption.{IsPairOf, marks_for, table_with, adopted_machine};
 
 use crate::config::Config;
 use crate::heap_and_sets::HeapAndSets;

@@ -1,8 +1,7 @@
 //! The write barrier: what a reference store does to the card table and to its mutator's log.
-ghost use Rattle.std.specs.Prelude.{◌≡◌, ◌≢◌, ◌<◌, ℕ, [], false, IfSome, IsNone};
-ghost use Rattle.g1_layout.specs.Shape.{slot_count, card_count, card_of};
-ghost use Rattle.g1_log.specs.Log.{pushed, handed};
-ghost use Rattle.g1_core.specs.Barrier.{fill_of};
+ghost use Rattle.std.specs.Prelude.{◌≡◌, ◌≢◌, ◌<◌};
+ghost use Rattle.g1_core.specs.{ℕ, [], false, IfSome, IsNone, slot_count, card_count, card_of};
+ghost use Rattle.g1_core.specs.{pushed, handed, fill_of};
 
 use crate::list::CardList;
 use crate::machinery::Core;
@@ -13,10 +12,8 @@ use g1_log::{Buffer, Log};
 use std::alloc::Global;
 
 impl Core {
-    ghost use Rattle.g1_core.specs.Machine.{IsLater};
-    ghost use Rattle.g1_core.specs.Run.{kind_of, IsStep};
-    ghost use Rattle.g1_core.specs.Barrier.{unfilled};
-    ghost use Rattle.g1_core.specs.Calls.{store_entry, DoesStore, IsLent};
+    ghost use Rattle.g1_core.specs.{IsLater, kind_of, IsStep, unfilled, store_entry, DoesStore};
+    ghost use Rattle.g1_core.specs.{IsLent};
 
     /// What kind of store it is, and the card that a logged one dirties.
     fn kind(&self, slot: Slot, target: &Option<Slot>) -> (Kind, Option<Card>)

@@ -1,12 +1,8 @@
 //! The clear: a region's remembered set is emptied once no reference enters the region.
-ghost use Rattle.std.specs.Prelude.{◌≡◌, ◌≢◌, ◌≤◌, ◌<◌, ◌+◌, ◌-◌, ◌*◌, ℕ, [], ◌∷◌, None, IfSome};
-ghost use Rattle.std.specs.Prelude.{IfNone, All, Contains, length};
+ghost use Rattle.std.specs.Prelude.{◌≡◌, ◌≢◌, ◌≤◌, ◌<◌, ◌+◌, ◌-◌, ◌*◌, ◌∷◌};
+ghost use Rattle.g1_core.specs.{ℕ, [], None, IfSome, IfNone, All, Contains, length, card_count};
+ghost use Rattle.g1_core.specs.{card_of, PairSet, list_at, AreTied, table_from, IsLeastOn, AreRead};
 ghost use Rattle.std.specs.FinSet as set;
-ghost use Rattle.g1_layout.specs.Shape.{card_count, card_of};
-ghost use Rattle.g1_layout.specs.Sets.{PairSet};
-ghost use Rattle.g1_sets.specs.Pairs.{list_at, AreTied};
-ghost use Rattle.g1_core.specs.Machine.{table_from};
-ghost use Rattle.g1_core.specs.Clearing.{IsLeastOn, AreRead};
 
 use crate::machinery::Core;
 use crate::reply::ClearReply;
@@ -15,9 +11,7 @@ use g1_layout::{Card, Layout, Region, Slot};
 use g1_sets::Sets;
 
 impl Core {
-    ghost use Rattle.g1_core.specs.Machine.{IsLater};
-    ghost use Rattle.g1_core.specs.Run.{IsStep};
-    ghost use Rattle.g1_core.specs.Calls.{clear_entry, DoesClear};
+    ghost use Rattle.g1_core.specs.{IsLater, IsStep, clear_entry, DoesClear};
 
     /// Empties the remembered set of a region, once nothing is pending and no slot outside the
     /// region refers into it (docs/rules.md, Clear; ISMM 2004, "Evacuation Pauses": the region

@@ -1,7 +1,6 @@
 //! The settings of a core, and the limits of each.
-ghost use Rattle.std.specs.Prelude.{◌≡◌, ◌↔◌, [], IsTrue};
-ghost use Rattle.std.specs.Option.{SomeIff};
-ghost use Rattle.g1_log.specs.Log.{Cards};
+ghost use Rattle.std.specs.Prelude.{◌≡◌, ◌↔◌};
+ghost use Rattle.g1_core.specs.Prelude.{[], IsTrue, SomeIff, Cards};
 ghost use Rattle.g1_core.specs.declared.config.Settings.{Settings as Chosen};
 ghost use Rattle.g1_core.specs.Settings.{AreSettings, IsWithin, default_settings};
 

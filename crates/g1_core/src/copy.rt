@@ -1,17 +1,13 @@
 //! A range of slots is copied to another one.
 ghost use Rattle.std.specs.Prelude.{◌≡◌, ◌+◌, ◌≤◌, ◌<◌, ◌^◌};
-ghost use Rattle.g1_layout.specs.Shape.{slot_count};
+ghost use Rattle.g1_core.specs.{slot_count};
 
 use crate::machinery::Core;
 use crate::verify::slot_behind;
 use g1_layout::Slot;
 
 impl Core {
-    ghost use Rattle.g1_heap.specs.Cells.{reads_after};
-    ghost use Rattle.g1_core.specs.Table.{IsCovered, target_of};
-    ghost use Rattle.g1_core.specs.Machine.{IsLater};
-    ghost use Rattle.g1_core.specs.Run.{stored};
-    ghost use Rattle.g1_core.specs.Copying.{copied};
+    ghost use Rattle.g1_core.specs.{reads_after, IsCovered, target_of, IsLater, stored, copied};
 
     /// Copies what `count` slots refer to, from `from` on, into as many slots from `to` on. The two
     /// ranges may overlap: each slot gets what its source had before the call.

@@ -1,8 +1,6 @@
 //! The heap of a core with its remembered sets, and the refinement of one card.
-ghost use Rattle.std.specs.Prelude.{◌≡◌, ◌<◌, ◌≤◌, ◌+◌, OnOk, OnErr};
-ghost use Rattle.g1_layout.specs.Shape.{card_count};
-ghost use Rattle.g1_heap.specs.declared.mark.Mark.TheVariants.{Clean};
-ghost use Rattle.g1_heap.specs.Cells.{with_mark, with_reads};
+ghost use Rattle.std.specs.Prelude.{◌≡◌, ◌<◌, ◌≤◌, ◌+◌};
+ghost use Rattle.g1_core.specs.Prelude.{OnOk, OnErr, card_count, Clean, with_mark, with_reads};
 ghost use Rattle.g1_core.specs.Machine.{gained};
 
 use arrayvec::ArrayVec;

@@ -1,5 +1,6 @@
 //! A list of cards, as replies hold it.
-ghost use Rattle.std.specs.Prelude.{◌≡◌, ◌==◌, [], length, IfOk};
+ghost use Rattle.std.specs.Prelude.{◌≡◌, ◌==◌};
+ghost use Rattle.g1_core.specs.Prelude.{[], length, IfOk};
 
 use g1_layout::{Card, NoMemory};
 use std::alloc::Global;
@@ -12,7 +13,7 @@ pub struct CardList {
 }
 
 impl Model for CardList {
-    ghost use Rattle.std.specs.Prelude.{ℕ, List};
+    ghost use Rattle.g1_core.specs.Prelude.{ℕ, List};
 
     ghost Value = { List ℕ };
 

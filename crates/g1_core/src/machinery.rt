@@ -1,5 +1,6 @@
 //! The machinery of a heap, for one thread.
-ghost use Rattle.std.specs.Prelude.{◌≡◌, IfOk};
+ghost use Rattle.std.specs.Prelude.{◌≡◌};
+ghost use Rattle.g1_core.specs.Prelude.{IfOk};
 ghost use Rattle.g1_core.specs.Machine.{new_machine};
 
 use crate::config::Config;

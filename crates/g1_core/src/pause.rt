@@ -1,9 +1,9 @@
 //! The pause: what is still pending is refined, and then a remembered set is relied on.
-ghost use Rattle.std.specs.Prelude.{◌≡◌, ◌<◌, ◌≤◌, ◌+◌, ◌*◌, ◌++◌, ◌∷◌, [], ℕ, true, false, length};
-ghost use Rattle.std.specs.Prelude.{slice_index, slice_get, IfOk, OnOk, OnErr, IfSome, IfNone};
-ghost use Rattle.std.specs.Prelude.{Some, nat_lt, vec_len, vec_capacity, All};
+ghost use Rattle.std.specs.Prelude.{◌≡◌, ◌<◌, ◌≤◌, ◌+◌, ◌*◌, ◌++◌, ◌∷◌};
+ghost use Rattle.g1_core.specs.{[], ℕ, true, false, length, slice_index, slice_get, IfOk, OnOk};
+ghost use Rattle.g1_core.specs.{OnErr, IfSome, IfNone, Some, nat_lt, vec_len, vec_capacity, All};
+ghost use Rattle.g1_core.specs.{card_count};
 ghost use Rattle.std.specs.FinSet as set;
-ghost use Rattle.g1_layout.specs.Shape.{card_count};
 
 use crate::list::CardList;
 use crate::machinery::Core;
@@ -11,15 +11,10 @@ use crate::reply::Drained;
 use g1_layout::{Card, NoMemory, Region};
 
 impl Core {
-    ghost use Rattle.g1_heap.specs.Cells.{reads_after};
-    ghost use Rattle.g1_hot.specs.Ring.{popped};
-    ghost use Rattle.g1_core.specs.Machine.{IsLater};
-    ghost use Rattle.g1_core.specs.Run.{IsStep};
-    ghost use Rattle.g1_core.specs.Turns.{is_dirty};
-    ghost use Rattle.g1_core.specs.Calls.{drain_entry, DoesDrain};
-    ghost use Rattle.g1_core.specs.Pause.{Drains, IsShortDrain, IsDrainOrder};
-    ghost use Rattle.g1_core.specs.Pause.{IsRingDrained, IsCardDrained, IsCardRead, IsDirtyDrained};
-    ghost use Rattle.g1_core.specs.Pause.{IsDirtyStopped, IsAllDrained, reset_machine};
+    ghost use Rattle.g1_core.specs.{reads_after, popped, IsLater, IsStep, is_dirty, drain_entry};
+    ghost use Rattle.g1_core.specs.{DoesDrain, Drains, IsShortDrain, IsDrainOrder, IsRingDrained};
+    ghost use Rattle.g1_core.specs.{IsCardDrained, IsCardRead, IsDirtyDrained, IsDirtyStopped};
+    ghost use Rattle.g1_core.specs.{IsAllDrained, reset_machine};
 
     /// Refines the oldest card of the ring, which leaves it; nothing is counted.
     fn drain_oldest(&mut self) -> Result<Card, NoMemory>

@@ -1,6 +1,6 @@
 //! Questions to a core: they refine nothing and change nothing but the count of reads.
-ghost use Rattle.std.specs.Prelude.{◌≡◌, ◌<◌, ◌^◌, ℕ, IfOk};
-ghost use Rattle.g1_layout.specs.Shape.{slot_count, card_count};
+ghost use Rattle.std.specs.Prelude.{◌≡◌, ◌<◌, ◌^◌};
+ghost use Rattle.g1_core.specs.{ℕ, IfOk, slot_count, card_count};
 
 use crate::config::Config;
 use crate::list::CardList;
@@ -10,12 +10,9 @@ use g1_heap::Mark;
 use g1_layout::{Card, Layout, NoMemory, Region, Slot};
 
 impl Core {
-    ghost use Rattle.g1_layout.specs.Shape.{IsShape};
-    ghost use Rattle.g1_core.specs.Table.{IsCovered};
-    ghost use Rattle.g1_core.specs.Machine.{IsSound, IsLater};
-    ghost use Rattle.g1_core.specs.Run.{IsStep};
-    ghost use Rattle.g1_core.specs.Calls.{target_entry, pending_entry, members_entry, status_entry};
-    ghost use Rattle.g1_core.specs.Calls.{DoesTarget, DoesPending, DoesMembers, DoesStatus};
+    ghost use Rattle.g1_core.specs.{IsShape, IsCovered, IsSound, IsLater, IsStep, target_entry};
+    ghost use Rattle.g1_core.specs.{pending_entry, members_entry, status_entry, DoesTarget};
+    ghost use Rattle.g1_core.specs.{DoesPending, DoesMembers, DoesStatus};
 
     /// The layout of the heap. Constant time. The clauses also say what every core keeps, cover
     /// above all.

@@ -1,11 +1,9 @@
 //! The redirect: the references into a region are moved to another one, and its remembered set is
 //! emptied.
-ghost use Rattle.std.specs.Prelude.{◌≡◌, ◌≢◌, ◌≤◌, ◌<◌, ◌+◌, ◌*◌, ◌++◌, ℕ, All, IfOk, OnOk, OnErr};
-ghost use Rattle.std.specs.Prelude.{length};
+ghost use Rattle.std.specs.Prelude.{◌≡◌, ◌≢◌, ◌≤◌, ◌<◌, ◌+◌, ◌*◌, ◌++◌};
+ghost use Rattle.g1_core.specs.Prelude.{ℕ, All, IfOk, OnOk, OnErr, length};
 ghost use Rattle.std.specs.FinSet as set;
-ghost use Rattle.g1_layout.specs.Shape.{slot_count, card_count};
-ghost use Rattle.g1_heap.specs.Cells.{Cells};
-ghost use Rattle.g1_sets.specs.Pairs.{list_at, AreTied};
+ghost use Rattle.g1_core.specs.Prelude.{slot_count, card_count, Cells, list_at, AreTied};
 ghost use Rattle.g1_core.specs.Clearing.{AreRead};
 ghost use Rattle.g1_core.specs.Redirect.{changes_of, slots_of, slots_on, changed, AreGaining};
 

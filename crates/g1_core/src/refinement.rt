@@ -1,10 +1,9 @@
 //! Refinement: the cards of a completed buffer take their turns, and the regions that each refers
 //! into are recorded.
-ghost use Rattle.std.specs.Prelude.{◌≡◌, ◌<◌, ◌≤◌, ◌+◌, ◌*◌, ◌++◌, ◌↔◌, [], ℕ, false, IfOk, OnErr};
-ghost use Rattle.std.specs.Prelude.{IsTrue, length, slice_index_or, vec_len, vec_capacity};
-ghost use Rattle.std.specs.Prelude.{option_map, if◌then◌else◌};
-ghost use Rattle.g1_layout.specs.Shape.{card_count};
-ghost use Rattle.g1_heap.specs.declared.mark.Mark.TheVariants.{Clean, Dirty};
+ghost use Rattle.std.specs.Prelude.{◌≡◌, ◌<◌, ◌≤◌, ◌+◌, ◌*◌, ◌++◌, ◌↔◌, if◌then◌else◌};
+ghost use Rattle.g1_core.specs.Prelude.{[], ℕ, false, IfOk, OnErr, IsTrue, length, slice_index_or};
+ghost use Rattle.g1_core.specs.Prelude.{vec_len, vec_capacity, option_map, card_count, Clean};
+ghost use Rattle.g1_core.specs.Prelude.{Dirty};
 ghost use Rattle.g1_core.specs.Turns.{refined_by, hot_by, skipped_by};
 
 use crate::list::CardList;
@@ -17,7 +16,7 @@ use g1_log::Buffer;
 use std::alloc::Global;
 
 impl Core {
-    ghost use Rattle.g1_heap.specs.Cells.{reads_after};
+    ghost use Rattle.g1_core.specs.Prelude.{reads_after};
     ghost use Rattle.g1_core.specs.Machine.{IsLater};
     ghost use Rattle.g1_core.specs.Turns.{offer_to, state_after};
     ghost use Rattle.g1_core.specs.Refinement.{IsTurned, AreCardsRead};

@@ -1,14 +1,16 @@
 //! Checks for a debug build: of the table against what a runtime's memory has, and of the cards.
-ghost use Rattle.std.specs.Prelude.{◌≡◌, ◌+◌, ◌<◌, ◌≤◌, ◌↔◌, IsTrue, IfSome, length, map};
+ghost use Rattle.std.specs.Prelude.{◌≡◌, ◌+◌, ◌<◌, ◌≤◌, ◌↔◌};
+ghost use Rattle.g1_core.specs.Prelude.{IsTrue, IfSome, length, map};
 ghost use Rattle.std.specs.FinSet as set;
-ghost use Rattle.g1_layout.specs.Shape.{slot_count, card_count};
+ghost use Rattle.g1_core.specs.Prelude.{slot_count, card_count};
 
 use crate::machinery::Core;
 use g1_layout::{Card, Layout, Region, Slot};
 
 /// What a runtime's memory has in a slot: null, or a reference to a place.
 pub trait Reference {
-    ghost use Rattle.std.specs.Prelude.{◌≡◌, ◌↔◌, ℕ, Option, IsTrue};
+    ghost use Rattle.std.specs.Prelude.{◌≡◌, ◌↔◌};
+    ghost use Rattle.g1_core.specs.Prelude.{ℕ, Option, IsTrue};
 
     ghost place: { Self → Option ℕ };
 
@@ -27,7 +29,8 @@ impl Reference for Option<Slot> {
 
 /// The number of a place, or the greatest `u32` for null.
 impl Reference for u32 {
-    ghost use Rattle.std.specs.Prelude.{None, Some, ◌==◌, if◌then◌else◌};
+    ghost use Rattle.std.specs.Prelude.{◌==◌, if◌then◌else◌};
+    ghost use Rattle.g1_core.specs.Prelude.{None, Some};
 
     ghost place = { λ word. if word == 4294967295 then None else Some word };
 

@@ -1,23 +1,9 @@
 -- Stores of a racer, each after the one before.
-use Rattle.std.proofs.Common.{rules, ◌≡◌, ◌≢◌, inl, inr, ℕ, suc, ◌+◌, ◌<◌, ◌≤◌, Bool, true, false, cond, List, [], ◌∷◌, ◌++◌, length, take, slice_index_or, refl, sym, ap, ◌∙◌, subst, arith, length-append}
-use Rattle.std.proofs.Math.Seq.{take-suc}
-use Rattle.arrayvec.specs.ArrayVec.{array_vec_len}
-use Rattle.g1_layout.specs.declared.kind.Kind.{Kind}
-use Rattle.std.proofs.lemmas.List.{length-take, get_or_default}
-use Rattle.g1_race_words.specs.Rule.{slot_card}
-use Rattle.g1_race.specs.Members.{is_logged, race_shape}
-use Rattle.g1_race.specs.declared.race.Race.{Race}
-use Rattle.g1_race.specs.Members.{race_layout}
-use Rattle.g1_handles.specs.declared.code.Refusal.{Refusal}
+use Rattle.std.specs.Prelude.{◌≡◌, ◌≢◌, ◌+◌, ◌<◌, ◌≤◌, ◌∷◌, ◌++◌}
+use Rattle.g1_handles.specs.{rules, inl, inr, ℕ, suc, Bool, false, cond, List, [], length, take, slice_index_or, refl, sym, ap, ◌∙◌, subst, arith, length-append, take-suc, array_vec_len, Kind, length-take, get_or_default, slot_card, is_logged, race_shape, Race, race_layout, Refusal, BatchEnd, Whole, Stopped, Full, Store, IsStoreOf, reference_of, Stores, racer_race_of, StoresAll, CanStoreAll, IsEnd, SaysNoStore}
+use Rattle.std.proofs.Common.{true}
 use Rattle.g1_handles.specs.declared.code.Refusal.TheVariants as refusal
-use Rattle.g1_handles.specs.declared.member.batch.BatchEnd.{BatchEnd}
-use Rattle.g1_handles.specs.declared.member.batch.BatchEnd.TheVariants.{Whole, Stopped, Full}
-use Rattle.g1_handles.specs.declared.one_core.batch.Store.{Store}
 use Rattle.g1_handles.specs.Racing.{Racing}
-use Rattle.g1_handles.specs.Codes.{IsStoreOf, reference_of}
-use Rattle.g1_handles.specs.Racing.{Stores, racer_race_of}
-use Rattle.g1_handles.specs.RaceStores.{StoresAll, CanStoreAll, IsEnd}
-use Rattle.g1_handles.specs.Refusals.{SaysNoStore}
 
 -- one store more
 more : (a b c : Racing) (ss : List Store) (s : Store) (k : Kind) → StoresAll a ss b → Stores b s.slot (reference_of s.target) k c → StoresAll a (ss ++ s ∷ []) c

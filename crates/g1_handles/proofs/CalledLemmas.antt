@@ -1,17 +1,8 @@
 -- What a call on the handle of a heap says once its result is known.
-use Rattle.std.proofs.Common.{◌≡◌, refl, ap, subst, inl, inr}
-use Rattle.std.proofs.Props.{props}
-use Rattle.std.specs.Prelude.{Option, Some, None, Result, Ok, Err, All, length, vec_len}
-use Rattle.std.specs.Arc.{arc_value}
-use mathlib.Core.HLevel.{is_prop→PathP}
-use Rattle.g1_race.specs.Members.{race_id, race_layout}
-use Rattle.g1_race.specs.Over.{Pause}
-use Rattle.g1_handles.specs.declared.code.Refusal.{Refusal}
+use Rattle.std.specs.Prelude.{◌≡◌}
+use Rattle.g1_handles.specs.{refl, ap, subst, inl, inr, props, Option, Some, None, Result, Ok, Err, All, length, vec_len, arc_value, is_prop→PathP, race_id, race_layout, Pause, Refusal, RacingHeap, IsSameBut, IsSameHeap, IsCalled, IsHeapRefused}
 use Rattle.g1_handles.specs.declared.heap.racing_heap.AtPause.{AtPause}
-use Rattle.g1_handles.specs.declared.heap.racing_heap.RacingHeap.{RacingHeap}
 use Rattle.g1_handles.specs.declared.heap.racing_heap.RacingHeap.TheVariants as heap
-use Rattle.g1_handles.specs.Life.{IsSameBut, IsSameHeap}
-use Rattle.g1_handles.specs.HeapCalls.{IsCalled, IsHeapRefused}
 use Rattle.g1_handles.proofs.VisitLemmas.{is_ok, err_of}
 
 -- a heap at a pause is its share, its pause and its boxes

@@ -1,10 +1,7 @@
 -- The words of a clear's reply.
-use Rattle.std.proofs.Common.{◌≡◌, ◌<◌, ◌==◌, ℕ, Bool, true, false, if◌then◌else◌, ap, sym, ◌∙◌, refl, arith}
-use Rattle.std.specs.Prelude.{◌≢◌}
-use Rattle.std.proofs.lemmas.Bool.{eqb-true}
-use Rattle.g1_core.specs.declared.reply.ClearReply.{ClearReply}
-use Rattle.g1_core.specs.declared.reply.ClearReply.TheVariants.{Cleared, Pending, StillReferenced}
-use Rattle.g1_handles.specs.Codes.{cleared_of}
+use Rattle.std.specs.Prelude.{◌≡◌, ◌<◌, ◌==◌, if◌then◌else◌, ◌≢◌}
+use Rattle.g1_handles.specs.{ℕ, Bool, false, ap, sym, ◌∙◌, refl, arith, eqb-true, ClearReply, Cleared, Pending, StillReferenced, cleared_of}
+use Rattle.std.proofs.Common.{true}
 
 abbrev is_cleared : ClearReply → Bool
 is_cleared Cleared = true

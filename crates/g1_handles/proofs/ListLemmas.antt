@@ -1,8 +1,5 @@
 -- What is so of a list is so of what C is told of it.
-use Rattle.std.proofs.Common.{ℕ, List, sym, subst}
-use Rattle.g1_handles.specs.declared.one_core.members.Listed.{Listed}
-use Rattle.g1_handles.specs.declared.one_core.members.Listed.TheVariants.{Members, NoRoom}
-use Rattle.g1_handles.specs.Queries.{Lists, IsListOf}
+use Rattle.g1_handles.specs.{ℕ, List, sym, subst, Listed, Members, NoRoom, Lists, IsListOf}
 
 pub lists_so : (AreSo : List ℕ → Type 0) (cards : List ℕ) (room : ℕ) (told : Listed) → AreSo cards → IsListOf cards room told → Lists AreSo room told
 lists_so AreSo cards room (Members list) so is = (subst AreSo (sym is.0) so, is.1)

@@ -1,19 +1,6 @@
 -- A member and its role.
-use Rattle.std.proofs.Common.{◌≡◌, ◌<◌, List, [], ◌∷◌, Some, None, All, map, refl, ap, ◌∙◌, sym, subst}
-use Rattle.std.proofs.Props.{props}
-use Rattle.std.proofs.lemmas.List.{length-map}
-use Rattle.std.proofs.Math.ListN.{get_or-map}
-use Rattle.std.proofs.lemmas.List.Elements.{All-map}
-use Rattle.std.specs.Prelude.{Option, Result, Ok, Err, OnErr, IfErr, IsErrAnd, IsSome, IsSomeAnd}
-use Rattle.std.specs.Option.{ForSome}
-use Rattle.std.specs.Arc.{arc_value}
-use mathlib.Core.HLevel.{is_prop→PathP}
-use Rattle.g1_race.specs.declared.race.Race.{Race}
-use Rattle.g1_race.specs.Members.{race_id}
-use Rattle.g1_handles.specs.declared.code.Refusal.{Refusal}
-use Rattle.g1_handles.specs.declared.member.Role.{Ghosts}
-use Rattle.g1_handles.specs.declared.member.Member.{Member}
-use Rattle.g1_handles.specs.Racing.{IsOf}
+use Rattle.std.specs.Prelude.{◌≡◌, ◌<◌, ◌∷◌}
+use Rattle.g1_handles.specs.{List, [], Some, None, All, map, refl, ap, ◌∙◌, sym, subst, props, length-map, get_or-map, All-map, Option, Result, Ok, Err, OnErr, IfErr, IsErrAnd, IsSome, IsSomeAnd, ForSome, arc_value, is_prop→PathP, Race, race_id, Refusal, Ghosts, Member, IsOf}
 
 -- a member is its share, its number, its counts and its role, with padding
 pub same_member : {P : Type 0} {g : Ghosts P} (m n : Member P g) → m.race ≡ n.race → m.number ≡ n.number → m.counts ≡ n.counts → m.role ≡ n.role → m.apart ≡ n.apart → m ≡ n

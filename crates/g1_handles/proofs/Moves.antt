@@ -6,27 +6,9 @@ pub use denote.Triple.Entry.{alive}
 pub use denote.Triple.Walked.{Stays, stay_dropped, walk_of}
 pub use Rattle.std.proofs.alloc.Calls.{Goes-blank}
 pub use Rattle.std.proofs.raw_atomic.Walks.{proved_at, leaves}
-use Rattle.std.proofs.Common.{◌≡◌, List, ◌++◌, refl}
-use Rattle.std.specs.Prelude.{Option}
-use seplogic.Ra.Ura.{Ura}
-use mir.Syntax.{Sym, Ty, Fn, local, value_local, ty_ptr, assign, place, field, rv_opd, copy, aggregate, seq, return}
-use mir.Val.{Val}
-use base.Logic.{SProp, ent, sep, emp}
-use base.Fml.{ftrue, fsep}
-use contract.Monad.{fact, fact_i}
-use prog.Wp.{WpFn, Calls, Loops}
-use types.Logic.{Logic, sem}
-use types.Kit.{‵, raw, ◌⊛◌, prop, ◌$◌, ◌∵◌, !, qed, by, move, keep, use0, split, regoal, fsplit, fjoin}
-use types.Part.{whole, sub, agg}
-use types.Run.{stop, fld, of_opd, no_more, and_then, returns, enter}
-use types.ByLocal.{alloc_all, pass_all, free_all, look_at, get, get_in, sets}
-use denote.RattleType.{RattleType}
-use denote.RawPtr.{Ptr, ptr_val}
-use denote.Param.{layout}
-use denote.Steps.{nothing}
-use denote.Struct.Struct.{Struct}
-use Rattle.std.specs.Global.{Global}
-use Rattle.core.proofs.atomic.Steps.{Ptr-Good}
+use Rattle.std.specs.Prelude.{◌≡◌, ◌++◌}
+use Rattle.g1_handles.specs.{List, refl, Option, Ura, SProp, ent, sep, emp, ftrue, fsep, fact, fact_i, WpFn, Calls, Loops, Ptr, ptr_val, Global}
+use Rattle.g1_handles.proofs.Prelude.{Sym, Ty, Fn, local, value_local, ty_ptr, assign, place, field, rv_opd, copy, aggregate, seq, return, Val, Logic, sem, ‵, raw, ◌⊛◌, prop, ◌$◌, ◌∵◌, !, qed, by, move, keep, use0, split, regoal, fsplit, fjoin, whole, sub, agg, stop, fld, of_opd, no_more, and_then, returns, enter, alloc_all, pass_all, free_all, look_at, get, get_in, sets, RattleType, layout, nothing, Struct, Ptr-Good}
 use Rattle.g1_handles.proofs.RawBoxes.{both}
 use Rattle.g1_handles.proofs.Values.{Z, shape, owned, words_good, words_out, words_in}
 

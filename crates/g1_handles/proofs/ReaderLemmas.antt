@@ -1,17 +1,6 @@
 -- Readers of a pause, behind their handles and in a list.
-use Rattle.std.proofs.Common.{◌≡◌, ◌<◌, List, Some, None, All, map, sym, ap, ◌∙◌, subst}
-use Rattle.std.specs.Prelude.{Option, IsSomeAnd}
-use Rattle.std.specs.Arc.{arc_value}
-use Rattle.std.proofs.lemmas.List.{length-map}
-use Rattle.std.proofs.Math.ListN.{get_or-map}
-use Rattle.std.proofs.lemmas.List.Elements.{All-map}
-use Rattle.g1_race.specs.declared.race.Race.{Race}
-use Rattle.g1_race.specs.Members.{race_id, race_layout, race_shape}
-use Rattle.g1_race.specs.Over.{Pause, ended, start_at, table_of}
-use Rattle.g1_race.specs.Reading.{Known, known}
-use Rattle.g1_handles.specs.Own.{ReaderMember}
-use Rattle.g1_handles.specs.Racing.{role_in, IsOf}
-use Rattle.g1_handles.specs.Readers.{OfReader, IsReaderAt, AreReadersAt, reader_at}
+use Rattle.std.specs.Prelude.{◌≡◌, ◌<◌}
+use Rattle.g1_handles.specs.{List, Some, None, All, map, sym, ap, ◌∙◌, subst, Option, IsSomeAnd, arc_value, length-map, get_or-map, All-map, Race, race_id, race_layout, race_shape, Pause, ended, start_at, table_of, Known, known, ReaderMember, role_in, IsOf, OfReader, IsReaderAt, AreReadersAt, reader_at}
 use Rattle.g1_handles.proofs.MemberLemmas.{found}
 
 -- what every reader of the pause knows

@@ -1,17 +1,9 @@
 -- How long the lists are that a core answers: no longer than the heap has cards.
-use Rattle.std.proofs.Common.{ℕ, ◌<◌, ◌≤◌, List, All, length, arith}
-use Rattle.std.proofs.lemmas.Bool.{eqb-true}
-use Rattle.std.proofs.lemmas.List.Elements.{All-contains}
+use Rattle.std.specs.Prelude.{◌<◌, ◌≤◌}
+use Rattle.g1_handles.specs.{ℕ, List, All, length, arith, eqb-true, All-contains, card_count, card_count_limit, IsPending, AreRefinable, AreMembers, Machine, State, IsSound, IsDrainOf, drain_cards, Drained}
 use Rattle.std.proofs.lemmas.Map.Steps.{length-le_from_distinct_below}
 use Rattle.std.proofs.lemmas.Map.Views.{length-le_from_below, Contains-from_any}
 use Rattle.std.proofs.lemmas.Map.Keys.{sorted_from_strictly_increasing}
-use Rattle.g1_layout.specs.Shape.{card_count}
-use Rattle.g1_layout.proofs.ShapeLemmas.{card_count_limit}
-use Rattle.g1_core.specs.Table.{IsPending, AreRefinable, AreMembers}
-use Rattle.g1_core.specs.Machine.{Machine, State, IsSound}
-use Rattle.g1_core.specs.Pause.{IsDrainOf}
-use Rattle.g1_core.specs.Calls.{drain_cards}
-use Rattle.g1_core.specs.declared.reply.Drained.{Drained}
 use Rattle.g1_core.specs.declared.reply.Drained.TheVariants.{Cards, Short}
 use Rattle.g1_core.proofs.SetLemmas.{All_by_member}
 

@@ -1,8 +1,6 @@
 -- Handles in a row.
-use Rattle.std.proofs.Common.{◌≡◌, ℕ, ◌+◌, ◌<◌, List, [], ◌∷◌, ◌++◌, All, length, map, take, slice_index_or, sym, ap, ◌∙◌, subst, suc, arith}
-use Rattle.std.proofs.lemmas.List.{map-append, length-map}
-use Rattle.std.proofs.Math.ListN.{get_or-map}
-use Rattle.std.proofs.Math.Seq.{take-suc}
+use Rattle.std.specs.Prelude.{◌≡◌, ◌+◌, ◌<◌, ◌∷◌, ◌++◌}
+use Rattle.g1_handles.specs.{ℕ, List, [], All, length, map, take, slice_index_or, sym, ap, ◌∙◌, subst, suc, arith, map-append, length-map, get_or-map, take-suc}
 
 -- what is so of all is so of the one at k
 pub at_handle : {H V : Type 0} (value : H → V) (P : V → Type 0) (hs : List H) (k : ℕ) (h : H) → k < length hs → All P (map value hs) → P (value (slice_index_or hs k h))

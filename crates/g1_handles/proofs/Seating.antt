@@ -1,14 +1,6 @@
 -- Members that leave the boxes that waited for them, the last first.
-use Rattle.std.proofs.Common.{◌≡◌, ◌<◌, ◌≤◌, ◌-◌, ℕ, suc, List, [], ◌∷◌, Some, Box, All, length, map, set, take, slice_index_or, ap, ◌∙◌, sym, subst, refl, arith, ◌⊎◌, inl, inr}
-use Rattle.std.specs.Prelude.{Option}
-use Rattle.std.specs.Global.{Global}
-use Rattle.std.proofs.lemmas.List.{get_or-take, get_or-set_same, get_or-set_other}
-use Rattle.std.proofs.lemmas.List.Elements.{All-map}
-use Rattle.std.specs.Arc.{arc_value}
-use Rattle.g1_race.specs.declared.race.Race.{Race}
-use Rattle.g1_handles.specs.declared.member.Member.{Member}
-use Rattle.g1_handles.specs.declared.member.Role.{Ghosts}
-use Rattle.g1_handles.specs.Racing.{IsOf}
+use Rattle.std.specs.Prelude.{◌≡◌, ◌<◌, ◌≤◌, ◌-◌, ◌∷◌, ◌⊎◌}
+use Rattle.g1_handles.specs.{ℕ, suc, List, [], Some, Box, All, length, map, set, take, slice_index_or, ap, ◌∙◌, sym, subst, refl, arith, inl, inr, Option, Global, get_or-take, get_or-set_same, get_or-set_other, All-map, arc_value, Race, Member, Ghosts, IsOf}
 
 -- the member is of the race that its box waited for
 abbrev pub WaitedAs : {P : Type 0} {g : Ghosts P} → Member P g → Option (Member P g) → Type 0

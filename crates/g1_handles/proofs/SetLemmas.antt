@@ -1,13 +1,8 @@
 -- The cards of a region's set, one after another.
-use Rattle.std.proofs.Common.{◌≡◌, ℕ, ◌+◌, ◌≤◌, List, [], ◌∷◌, ◌++◌, zero, suc, length, take, Some, None, refl, ap, subst, inl, inr, arith}
-use Rattle.std.proofs.lemmas.List.{append-nil}
-use Rattle.std.proofs.lemmas.Bool.{cases_lt}
-use Rattle.g1_core.specs.Table.{Table, IsRecorded, AreMembers}
-use Rattle.g1_race.specs.Reading.{IsNextMember}
+use Rattle.std.specs.Prelude.{◌≡◌, ◌+◌, ◌≤◌, ◌∷◌, ◌++◌}
+use Rattle.g1_handles.specs.{ℕ, List, [], zero, suc, length, take, Some, None, refl, ap, subst, inl, inr, arith, append-nil, cases_lt, Table, IsRecorded, AreMembers, IsNextMember, AreMembersBelow, Tells, Told, First}
 use Rattle.g1_race.proofs.Gathering.{Gathered, gathered_none, gathered_in, gathered_out}
-use Rattle.g1_handles.specs.Sets.{AreMembersBelow, Tells}
-use Rattle.g1_handles.specs.declared.heap.sets.Told.{Told}
-use Rattle.g1_handles.specs.declared.heap.sets.Told.TheVariants.{All, First}
+use Rattle.g1_handles.specs.declared.heap.sets.Told.TheVariants.{All}
 
 gathered_of : (t : Table) (region from : ℕ) (xs : List ℕ) → AreMembersBelow t region from xs → Gathered (λ c. IsRecorded t c region) from xs
 gathered_of t region from xs h = record { ascending = h.ascending; below = h.below; only = h.recorded; every = h.all }

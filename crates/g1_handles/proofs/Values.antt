@@ -1,36 +1,15 @@
 -- The machine values of nullable boxes and of handles. Assumes `Logic`.
-use Rattle.std.proofs.Common.{◌≡◌, ℕ, List, [], ◌∷◌, ◌++◌, refl, subst, lit<}
-use Rattle.std.specs.Prelude.{Option, Some, None}
-use lib.Dec.{T}
-use mathlib.Core.Bool.{true, ◌&&◌}
-use seplogic.Ra.Ura.{Ura}
-use mir.Syntax.{Sym, impl, tnil, dnil}
+use Rattle.std.specs.Prelude.{◌≡◌, ◌∷◌, ◌++◌, ◌&&◌}
+use Rattle.g1_handles.specs.{ℕ, List, [], refl, subst, lit<, Option, Some, None, T, true, Ura, Fml, fsep, feq, ent, guard, guard_i, snd∗, via, fact_use, RawPtr, Ptr, block_ptr, null_ptr, ptr_val, lies_at, Testable, Global, ghosts, holds, owns_boxed}
+use Rattle.g1_handles.proofs.Prelude.{Sym, impl, tnil, dnil, Val, vnull, vstruct, of_list, has_ty, WT, Logic, sem, Item, Goal, Seq, Step, step, ‵, given, ◌$◌, move, drop, fsplit, fjoin, fpick, fpack, learn, use1, feq_i, feq_l, RattleType, Valss, nothing, Struct, within, fields, lone, layout, Al, Good, and_tt}
 use mir.Raw.{raw as bare}
-use mir.Val.{Val, vnull, vstruct, of_list, has_ty, WT}
-use base.Fml.{Fml, fsep, feq}
-use base.Logic.{ent, guard, guard_i, snd∗, via}
-use types.Logic.{Logic, sem}
-use types.Kit.{Item, Goal, Seq, Step, step, ‵, given, ◌$◌, move, drop, fsplit, fjoin, fpick, fpack, learn, use1, feq_i, feq_l}
-use contract.Monad.{fact_use}
-use denote.RattleType.{RattleType, Valss}
-use denote.Builtin.{RawPtr}
-use denote.Steps.{nothing}
-use denote.Struct.Struct.{Shape, Struct, within}
-use denote.Struct.Owning.{fields}
-use denote.Memory.{lone}
-use denote.RawPtr.{Ptr, block_ptr, null_ptr, ptr_val, lies_at, Testable}
-use denote.Param.{layout}
-use Rattle.std.proofs.alloc.Calls.{Al, handle_tells}
-use Rattle.std.proofs.cell.Inside.{Good}
+use denote.Struct.Struct.{Shape}
+use Rattle.std.proofs.alloc.Calls.{handle_tells}
 use Rattle.std.proofs.GlobalToken.{dealloc_token-Testable}
 use Rattle.std.specs.Borrow.{full_share}
-use Rattle.std.specs.Global.{Global}
 use Rattle.std.specs.contracts.alloc.Global as global
-use Rattle.std.specs.contracts.impls.GlobalAllocator.TheImpl.{ghosts}
 use Rattle.std.proofs.alloc.Global.TheLaws as laws
-use Rattle.std_alloc.proofs.ResultValues.{and_tt}
 use Rattle.g1_handles.proofs.RawBoxes.{both, raw_box_good}
-use Rattle.g1_handles.specs.Own.{holds, owns_boxed}
 use Rattle.g1_handles.specs.contracts.nullable_box.NullableBox as boxed
 
 abbrev pub Z : RattleType

@@ -1,12 +1,6 @@
 -- What a call on what a handle holds says once its result is known.
-use Rattle.std.proofs.Common.{◌≡◌, ◌∙◌, ap, sym, subst, inl, refl}
-use Rattle.std.specs.Prelude.{Option, Some, None, Result, Ok, Err}
-use Rattle.g1_handles.specs.declared.code.Refusal.{Refusal}
-use Rattle.g1_handles.specs.declared.member.Role.{Ghosts}
-use Rattle.g1_handles.specs.declared.member.Member.{Member}
-use Rattle.g1_handles.specs.Racing.{OfRole, IfRole}
-use Rattle.g1_handles.specs.Refusals.{IsRoleRefused}
-use Rattle.g1_handles.specs.Visits.{IsVisit}
+use Rattle.std.specs.Prelude.{◌≡◌}
+use Rattle.g1_handles.specs.{◌∙◌, ap, sym, subst, inl, refl, Option, Some, None, Result, Ok, Err, Refusal, Ghosts, Member, OfRole, IfRole, IsRoleRefused, IsVisit}
 
 abbrev pub is_ok : {A : Type 0} → Result A Refusal → Type 0
 is_ok (Ok a) = Unit {0}

@@ -1,39 +1,21 @@
 -- What the collector's calls on a heap at a pause do, and why they are refused.
-use Rattle.std.specs.Prelude.{◌≡◌, ◌≢◌, ℕ, Bool, List, length, fold, Option, None}
+use Rattle.std.specs.Prelude.{◌≡◌, ◌≢◌}
+use Rattle.g1_handles.specs.Prelude.{ℕ, Bool, List, fold, Option, None, get_elem?, Kind, region_of}
+use Rattle.g1_handles.specs.Prelude.{Table, Crosses, target_of, AreMembers, IsStep, drained}
+use Rattle.g1_handles.specs.Prelude.{kind_of, stored, copied, target_entry, pending_entry}
+use Rattle.g1_handles.specs.Prelude.{members_entry, status_entry, store_entry, clear_entry}
+use Rattle.g1_handles.specs.Prelude.{redirect_entry, Status, ClearReply, IsWord, word_of, Pause}
+use Rattle.g1_handles.specs.Prelude.{table_at, IsSameRace, IsRefinedRace, SlotsBecome, same_word}
+use Rattle.g1_handles.specs.Prelude.{one_word, wiped_word, wiped, forgotten, plain_reply}
+use Rattle.g1_handles.specs.Prelude.{AreAllRefined, IsExactAtPause, copied_word, marked_cards}
 use Rattle.std.specs.FinSet as set
 use mathlib.Core.Option.{some}
-use lib.ListN.{get_elem?}
-use Rattle.g1_layout.specs.declared.kind.Kind.{Kind}
 use Rattle.g1_layout.specs.declared.kind.Kind.TheVariants as kinds
-use Rattle.g1_layout.specs.Shape.{region_of}
-use Rattle.g1_core.specs.Table.{Table, Crosses, target_of, AreMembers}
-use Rattle.g1_core.specs.Run.{IsStep, drained, kind_of, stored}
-use Rattle.g1_core.specs.Copying.{copied}
-use Rattle.g1_core.specs.Calls.{target_entry, pending_entry, members_entry, status_entry}
-use Rattle.g1_core.specs.Calls.{store_entry, clear_entry, redirect_entry}
 use Rattle.g1_core.specs.declared.reply.Redirected.TheVariants.{Moved}
-use Rattle.g1_core.specs.declared.reply.Status.{Status}
-use Rattle.g1_core.specs.declared.reply.ClearReply.{ClearReply}
 use Rattle.g1_core.specs.declared.reply.ClearReply.TheVariants as clear_reply
-use Rattle.g1_race_words.specs.Rule.{IsWord}
-use Rattle.g1_race.specs.Race.{word_of}
-use Rattle.g1_race.specs.Over.{Pause, table_at}
-use Rattle.g1_race.specs.Evacuating.{IsSameRace, IsRefinedRace, SlotsBecome, same_word, one_word}
-use Rattle.g1_race.specs.Evacuating.{wiped_word, wiped, forgotten, plain_reply, AreAllRefined}
-use Rattle.g1_race.specs.Evacuating.{IsExactAtPause, copied_word}
 use Rattle.g1_race.specs.Moving.{word_after}
-use Rattle.g1_race.specs.Telling.{marked_cards}
 use Rattle.g1_handles.specs.declared.one_core.batch.Store.{Store}
 use Rattle.g1_handles.specs.Codes.{reference_of}
-
--- whose words these are, how they are laid out, and how many members there are is as it was
-pub record IsKept (old new : Pause) : Type 0 where
-  pub layout : new.layout ≡ old.layout
-  pub shape : new.shape ≡ old.shape
-  pub address : new.address ≡ old.address
-  pub table_id : new.table_id ≡ old.table_id
-  pub racers : length new.logs ≡ length old.logs
-  pub sweepers : new.sweepers ≡ old.sweepers
 
 -- the slot refers to the target
 pub record SlotRefers (heap : Pause) (slot : ℕ) (target : Option ℕ) : Type 0 where

@@ -1,14 +1,10 @@
 -- Several stores one after the other.
-use Rattle.std.specs.Prelude.{◌<◌, ℕ, List, [], ◌∷◌, ◌++◌, length, slice_index_or, Option, Some}
-use Rattle.std.specs.Prelude.{None, fold}
+use Rattle.std.specs.Prelude.{◌<◌, ◌∷◌, ◌++◌}
+use Rattle.g1_handles.specs.Prelude.{ℕ, List, [], length, slice_index_or, Option, Some, None, fold}
+use Rattle.g1_handles.specs.Prelude.{Kind, Null, SameRegion, AlreadyDirty, Logged, card_of, Machine}
+use Rattle.g1_handles.specs.Prelude.{kind_of, stored_machine}
 use Rattle.g1_layout.specs.Shape as layout
-use Rattle.g1_layout.specs.declared.kind.Kind.{Kind}
-use Rattle.g1_layout.specs.declared.kind.Kind.TheVariants.{Null, SameRegion, AlreadyDirty, Logged}
-use Rattle.g1_layout.specs.Shape.{card_of}
-use Rattle.g1_core.specs.Machine.{Machine}
-use Rattle.g1_core.specs.Run.{kind_of}
 use Rattle.g1_handles.specs.declared.one_core.batch.Store.{Store}
-use Rattle.g1_core.specs.Barrier.{stored_machine}
 use Rattle.g1_handles.specs.Codes.{reference_of, IsStoreOf}
 
 -- the machine after some stores, and the cards that they logged, in order

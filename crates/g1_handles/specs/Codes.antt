@@ -1,11 +1,8 @@
 -- The words that cross to C.
-use Rattle.std.specs.Prelude.{◌≡◌, ◌⊎◌, ◌<◌, ℕ, Option, Some, None, IfSome, ◌==◌, if◌then◌else◌}
-use Rattle.g1_layout.specs.Shape.{Shape, slot_count}
-use Rattle.g1_layout.specs.declared.kind.Kind.{Kind}
-use Rattle.g1_layout.specs.declared.kind.Kind.TheVariants.{Null, SameRegion, AlreadyDirty, Logged}
-use Rattle.g1_core.specs.declared.reply.ClearReply.{ClearReply}
-use Rattle.g1_core.specs.declared.reply.ClearReply.TheVariants.{Cleared, Pending, StillReferenced}
-use Rattle.g1_core.specs.declared.config.Settings.{Settings}
+use Rattle.std.specs.Prelude.{◌≡◌, ◌⊎◌, ◌<◌, ◌==◌, if◌then◌else◌}
+use Rattle.g1_handles.specs.Prelude.{ℕ, Option, Some, None, IfSome, Shape, slot_count, Kind, Null}
+use Rattle.g1_handles.specs.Prelude.{SameRegion, AlreadyDirty, Logged, ClearReply, Cleared, Pending}
+use Rattle.g1_handles.specs.Prelude.{StillReferenced, Settings}
 use Rattle.g1_handles.specs.declared.one_core.open.Counts.{Counts}
 use Rattle.g1_handles.specs.declared.code.Refusal.{Refusal}
 use Rattle.g1_handles.specs.declared.code.Refusal.TheVariants as refusal

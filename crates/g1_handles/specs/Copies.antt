@@ -1,7 +1,6 @@
 -- What a copy of a range of a core's slots does.
-use Rattle.std.specs.Prelude.{◌≡◌, ◌+◌, ◌-◌, ◌^◌, ℕ, min}
-use Rattle.g1_core.specs.Machine.{Machine}
-use Rattle.g1_core.specs.Copying.{copied}
+use Rattle.std.specs.Prelude.{◌≡◌, ◌+◌, ◌-◌, ◌^◌}
+use Rattle.g1_handles.specs.Prelude.{ℕ, min, Machine, copied}
 
 -- as many slots from one on have what those from another on had; nothing else has changed but the
 -- count of reads

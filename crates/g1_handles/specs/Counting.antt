@@ -1,7 +1,6 @@
 -- What a racer and a sweeper count.
-use Rattle.std.specs.Prelude.{ℕ, Bool, [], ◌∷◌, if◌then◌else◌, ◌+◌, ◌%◌, ◌^◌}
-use Rattle.std.specs.Prelude.{slice_index_or, slice_set}
-use Rattle.g1_layout.specs.declared.kind.Kind.{Kind}
+use Rattle.std.specs.Prelude.{◌∷◌, if◌then◌else◌, ◌+◌, ◌%◌, ◌^◌}
+use Rattle.g1_handles.specs.Prelude.{ℕ, Bool, [], slice_index_or, slice_set, Kind}
 use Rattle.g1_handles.specs.Codes.{kind_word}
 use Rattle.g1_handles.specs.declared.member.counts.MemberCounts.{MemberCounts}
 use Rattle.g1_handles.specs.declared.member.counts.StoreCounts.{StoreCounts}

@@ -1,6 +1,6 @@
 -- What the collector's calls on the handle of a heap do, and why they are refused.
-use Rattle.std.specs.Prelude.{◌≡◌, ◌⊎◌, Option, Some, None, Result, Err}
-use Rattle.g1_race.specs.Over.{Pause}
+use Rattle.std.specs.Prelude.{◌≡◌, ◌⊎◌}
+use Rattle.g1_handles.specs.Prelude.{Option, Some, None, Result, Err, Pause}
 use Rattle.g1_handles.specs.declared.code.Refusal.{Refusal}
 use Rattle.g1_handles.specs.declared.code.Refusal.TheVariants as refusal
 use Rattle.g1_handles.specs.declared.heap.racing_heap.RacingHeap.{RacingHeap}

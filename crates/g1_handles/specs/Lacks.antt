@@ -1,6 +1,6 @@
 -- What a heap of a layout lacks, and by which refusal a call says so.
-use Rattle.std.specs.Prelude.{◌≡◌, ◌⊎◌, ◌+◌, ◌<◌, ◌≤◌, ℕ, List, All}
-use Rattle.g1_layout.specs.Shape.{Shape, slot_count, card_count}
+use Rattle.std.specs.Prelude.{◌≡◌, ◌⊎◌, ◌+◌, ◌<◌, ◌≤◌}
+use Rattle.g1_handles.specs.Prelude.{ℕ, List, All, Shape, slot_count, card_count}
 use Rattle.g1_handles.specs.declared.code.Refusal.{Refusal}
 use Rattle.g1_handles.specs.declared.code.Refusal.TheVariants as refusal
 use Rattle.g1_handles.specs.Codes.{IsStoreOf}

@@ -1,3 +1,5 @@
+-- The root passes on what its modules have and what stands in Prelude.
+pub mod Prelude
 pub mod Own
 pub mod Codes
 pub mod Lacks
@@ -19,3 +21,38 @@ pub mod Verifying
 pub mod Copies
 pub mod Readers
 pub mod Phases
+pub use Prelude.*
+pub use Own.*
+pub use Codes.*
+pub use Lacks.*
+pub use Refusals.*
+pub use Replies.*
+pub use Queries.*
+pub use Arrays.*
+pub use Batch.*
+pub use Counting.*
+pub use Racing.*
+pub use RaceStores.*
+pub use RaceWords.*
+pub use AtPause.*
+pub use Life.*
+pub use HeapCalls.*
+pub use Visits.*
+pub use Sets.*
+pub use Verifying.*
+pub use Copies.*
+pub use Readers.*
+pub use Phases.*
+pub use declared.code.Refusal.{Refusal}
+pub use declared.heap.racing_heap.BeingRead.{BeingRead}
+pub use declared.heap.racing_heap.RacingHeap.{RacingHeap}
+pub use declared.heap.racing_heap.UnderWay.{UnderWay}
+pub use declared.heap.sets.Told.{Told}
+pub use declared.heap.sets.Told.TheVariants.{First}
+pub use declared.member.Member.{Member}
+pub use declared.member.Role.{Ghosts}
+pub use declared.member.batch.BatchEnd.{BatchEnd}
+pub use declared.member.batch.BatchEnd.TheVariants.{Full, Stopped, Whole}
+pub use declared.one_core.batch.Store.{Store}
+pub use declared.one_core.members.Listed.{Listed}
+pub use declared.one_core.members.Listed.TheVariants.{Members, NoRoom}

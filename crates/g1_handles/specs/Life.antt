@@ -1,22 +1,14 @@
 -- The life of a heap whose stores race.
-use Rattle.std.specs.Prelude.{◌≡◌, ◌⊎◌, ◌≤◌, ℕ, List, [], All, Any, Option, Some, None, IsSome}
-use Rattle.std.specs.Prelude.{Contains}
-use Rattle.std.specs.Prelude.{Box, Vec, length, map, replicate, vec_len}
-use Rattle.std.specs.Arc.{arc_value}
-use Rattle.std.specs.Global.{Global}
+use Rattle.std.specs.Prelude.{◌≡◌, ◌⊎◌, ◌≤◌}
+use Rattle.g1_handles.specs.Prelude.{ℕ, List, [], All, Any, Option, Some, None, IsSome, Contains}
+use Rattle.g1_handles.specs.Prelude.{Box, Vec, length, map, replicate, vec_len, arc_value, Global}
+use Rattle.g1_handles.specs.Prelude.{IsShape, opening, IsCovered, Start, beginning, View, Race}
+use Rattle.g1_handles.specs.Prelude.{Racer, race_id, race_layout, racer_log, IsNewRacer}
+use Rattle.g1_handles.specs.Prelude.{IsNewSweeper, racer_view, sweeper_view, race_shape, Pause}
+use Rattle.g1_handles.specs.Prelude.{table_at, start_at, ended_of}
 use Rattle.g1_layout.specs.Shape as layout
-use Rattle.g1_layout.specs.Shape.{IsShape}
 use Rattle.g1_core.specs.Adoption.{IsPairOf}
-use Rattle.g1_core.specs.Table.{opening, IsCovered}
-use Rattle.g1_race_words.specs.Begin.{Start}
-use Rattle.g1_race_words.specs.Rule.{beginning}
-use Rattle.g1_race_words.specs.declared.view.View.{View}
-use Rattle.g1_race.specs.declared.race.Race.{Race}
-use Rattle.g1_race.specs.declared.race.Racer.{Racer}
 use Rattle.g1_race.specs.Drain.{began}
-use Rattle.g1_race.specs.Members.{race_id, race_layout, racer_log, IsNewRacer, IsNewSweeper}
-use Rattle.g1_race.specs.Members.{racer_view, sweeper_view, race_shape}
-use Rattle.g1_race.specs.Over.{Pause, table_at, start_at, ended_of}
 use Rattle.g1_handles.specs.declared.code.Refusal.{Refusal}
 use Rattle.g1_handles.specs.declared.code.Refusal.TheVariants as refusal
 use Rattle.g1_handles.specs.declared.member.Role.{Ghosts}

@@ -1,15 +1,9 @@
 -- What a handle owns.
-use Rattle.std.specs.Prelude.{Option, Some, None}
-use base.Fml.{Fml, feq, fsep, fex}
+use Rattle.g1_handles.specs.Prelude.{Option, Some, None, Fml, feq, fsep, fex, Ptr, block_ptr}
+use Rattle.g1_handles.specs.Prelude.{null_ptr, ghosts, box_owns, Racer, Sweeper, Known}
 use denote.RattleType.{RattleType}
-use denote.RawPtr.{Ptr, block_ptr, null_ptr}
 use Rattle.std.specs.declared.alloc.Global.{Global}
-use Rattle.std.specs.contracts.impls.GlobalAllocator.TheImpl.{ghosts}
-use Rattle.std_alloc.specs.Box.Ownership.{box_owns}
 use Rattle.g1_core.specs.contracts.machinery.Core as core
-use Rattle.g1_race.specs.declared.race.Racer.{Racer}
-use Rattle.g1_race.specs.declared.race.Sweeper.{Sweeper}
-use Rattle.g1_race.specs.Reading.{Known}
 use Rattle.g1_race.specs.contracts.race.Racer as racer
 use Rattle.g1_race.specs.contracts.race.Sweeper as sweeper
 use Rattle.g1_race.specs.contracts.paused.reading.Reader as reader

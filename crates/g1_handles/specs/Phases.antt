@@ -1,7 +1,7 @@
 -- How a heap goes from its race to a pause and back, and from a pause to a reading and back. Of the
 -- lists of handles the first is before the call, and the second after it.
-use Rattle.std.specs.Prelude.{◌≡◌, ℕ, List, Option}
-use Rattle.std.specs.Arc.{arc_value}
+use Rattle.std.specs.Prelude.{◌≡◌}
+use Rattle.g1_handles.specs.Prelude.{ℕ, List, Option, arc_value}
 use Rattle.g1_handles.specs.declared.heap.racing_heap.RacingHeap.{RacingHeap}
 use Rattle.g1_handles.specs.Own.{RacerMember, SweeperMember, ReaderMember}
 use Rattle.g1_handles.specs.Life.{OfHeap, OfPaused, OfRacing, IsFor, AreLikeOf, IsPausedWith}

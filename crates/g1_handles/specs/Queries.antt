@@ -1,11 +1,9 @@
 -- What the answers to questions stand for.
-use Rattle.std.specs.Prelude.{◌≡◌, ◌<◌, ◌+◌, ◌-◌, ◌^◌, ℕ, Bool, List, Option, length, min}
+use Rattle.std.specs.Prelude.{◌≡◌, ◌<◌, ◌+◌, ◌-◌, ◌^◌}
+use Rattle.g1_handles.specs.Prelude.{ℕ, Bool, List, Option, length, min, target_of, AreMembers}
+use Rattle.g1_handles.specs.Prelude.{Machine, IsStep, target_entry, pending_entry, members_entry}
+use Rattle.g1_handles.specs.Prelude.{status_entry, Status}
 use Rattle.std.specs.FinSet as set
-use Rattle.g1_core.specs.Table.{target_of, AreMembers}
-use Rattle.g1_core.specs.Machine.{Machine}
-use Rattle.g1_core.specs.Run.{IsStep}
-use Rattle.g1_core.specs.Calls.{target_entry, pending_entry, members_entry, status_entry}
-use Rattle.g1_core.specs.declared.reply.Status.{Status}
 use Rattle.g1_handles.specs.Replies.{FitIn}
 use Rattle.g1_handles.specs.declared.one_core.members.Listed.{Listed}
 use Rattle.g1_handles.specs.declared.one_core.members.Listed.TheVariants.{Members, NoRoom}

@@ -1,13 +1,9 @@
 -- What a racer's stores do that return what was there, depend on it, or are several.
-use Rattle.std.specs.Prelude.{◌≡◌, ◌+◌, ◌<◌, ◌≤◌, ℕ, List, [], ◌∷◌, ◌++◌, All, length, take, Option}
-use Rattle.std.specs.Prelude.{if◌then◌else◌}
-use Rattle.arrayvec.specs.ArrayVec.{array_vec_len}
-use Rattle.g1_layout.specs.declared.kind.Kind.{Kind}
-use Rattle.g1_race_words.specs.Seats.{IsFound}
-use Rattle.g1_race_words.specs.Rule.{slot_card}
-use Rattle.g1_race.specs.Members.{HasOverwritten, HasStored, HasDiffered, HasNotStored, IsKind}
-use Rattle.g1_race.specs.Members.{is_logged, race_layout, race_shape, racer_view}
-use Rattle.g1_race.specs.Race.{word_of}
+use Rattle.std.specs.Prelude.{◌≡◌, ◌+◌, ◌<◌, ◌≤◌, ◌∷◌, ◌++◌, if◌then◌else◌}
+use Rattle.g1_handles.specs.Prelude.{ℕ, List, [], All, length, take, Option, array_vec_len, Kind}
+use Rattle.g1_handles.specs.Prelude.{IsFound, slot_card, HasOverwritten, HasStored, HasDiffered}
+use Rattle.g1_handles.specs.Prelude.{HasNotStored, IsKind, is_logged, race_layout, race_shape}
+use Rattle.g1_handles.specs.Prelude.{racer_view, word_of}
 use Rattle.g1_handles.specs.declared.one_core.batch.Store.{Store}
 use Rattle.g1_handles.specs.Counting.{with_store}
 use Rattle.g1_handles.specs.Racing.{Racing}

@@ -1,12 +1,8 @@
 -- What a racer's stores of words do, and why they are refused.
-use Rattle.std.specs.Prelude.{◌≡◌, ◌⊎◌, ◌<◌, ◌≤◌, ℕ, Option, Result, Ok, Err}
-use Rattle.arrayvec.specs.ArrayVec.{array_vec_len}
-use Rattle.g1_layout.specs.Shape.{slot_count}
-use Rattle.g1_layout.specs.declared.kind.Kind.{Kind}
-use Rattle.g1_race_words.specs.Rule.{IsWord}
-use Rattle.g1_race.specs.declared.race.Race.{Race}
-use Rattle.g1_race.specs.declared.race.Racer.{Racer}
-use Rattle.g1_race.specs.Members.{HasNotStored, race_layout, race_shape, racer_view}
+use Rattle.std.specs.Prelude.{◌≡◌, ◌⊎◌, ◌<◌, ◌≤◌}
+use Rattle.g1_handles.specs.Prelude.{ℕ, Option, Result, Ok, Err, array_vec_len, slot_count, Kind}
+use Rattle.g1_handles.specs.Prelude.{IsWord, Race, Racer, HasNotStored, race_layout, race_shape}
+use Rattle.g1_handles.specs.Prelude.{racer_view}
 use Rattle.g1_race.specs.Exchanging.{HasStoredWord, HasOtherWord}
 use Rattle.g1_handles.specs.declared.code.Refusal.{Refusal}
 use Rattle.g1_handles.specs.declared.code.Refusal.TheVariants as refusal

@@ -1,21 +1,12 @@
 -- What the calls on the members of a race do.
-use Rattle.std.specs.Prelude.{◌↔◌, Contains, ◌≡◌, ℕ, List, [], ◌∷◌, ◌++◌, map}
-use Rattle.std.specs.Prelude.{All, Option, Some, None, IsSome, IsSomeAnd, IfSome, false}
-use Rattle.std.specs.Prelude.{if◌then◌else◌, Bool, length, ◌+◌}
-use Rattle.std.specs.Arc.{arc_value}
-use Rattle.g1_layout.specs.declared.kind.Kind.{Kind}
-use Rattle.g1_layout.specs.declared.kind.Kind.TheVariants.{Null}
-use Rattle.g1_race.specs.declared.race.Race.{Race}
-use Rattle.g1_race.specs.declared.race.Racer.{Racer}
-use Rattle.g1_race.specs.declared.race.Sweeper.{Sweeper}
-use Rattle.g1_race_words.specs.declared.view.View.{View}
-use Rattle.g1_race.specs.Over.{Ended}
-use Rattle.g1_race_words.specs.Rule.{IsWord, slot_card}
-use Rattle.g1_race_words.specs.Seats.{IsFound}
-use Rattle.g1_race.specs.Race.{word_of, stored_view, IsKnown, IsOver}
+use Rattle.std.specs.Prelude.{◌↔◌, ◌≡◌, ◌∷◌, ◌++◌, if◌then◌else◌, ◌+◌}
+use Rattle.g1_handles.specs.Prelude.{Contains, ℕ, List, [], map, All, Option, Some, None, IsSome}
+use Rattle.g1_handles.specs.Prelude.{IsSomeAnd, IfSome, false, Bool, length, arc_value, Kind, Null}
+use Rattle.g1_handles.specs.Prelude.{Race, Racer, Sweeper, View, Ended, IsWord, slot_card, IsFound}
+use Rattle.g1_handles.specs.Prelude.{word_of, stored_view, IsKnown, IsOver, race_layout, race_begun}
+use Rattle.g1_handles.specs.Prelude.{race_shape, racer_view, sweeper_start, sweeper_view, IsKind}
+use Rattle.g1_handles.specs.Prelude.{is_logged}
 use Rattle.g1_race_words.specs.Steps.{no_seat}
-use Rattle.g1_race.specs.Members.{race_layout, race_begun, race_shape, racer_view}
-use Rattle.g1_race.specs.Members.{sweeper_start, sweeper_view, IsKind, is_logged}
 use Rattle.g1_handles.specs.declared.member.Role.{Ghosts}
 use Rattle.g1_handles.specs.declared.member.Member.{Member}
 use Rattle.g1_handles.specs.declared.member.racer_handle.RacerHandle.{RacerHandle}

@@ -1,17 +1,11 @@
 -- Several threads that read one pause, each by a reader.
-use Rattle.std.specs.Prelude.{◌≡◌, ◌⊎◌, ◌<◌, ℕ, Bool, List, length, All, Any}
-use Rattle.std.specs.Prelude.{Option, Some, None, IsTrue, ◌↔◌}
-use Rattle.std.specs.Arc.{arc_value}
+use Rattle.std.specs.Prelude.{◌≡◌, ◌⊎◌, ◌<◌, ◌↔◌}
+use Rattle.g1_handles.specs.Prelude.{ℕ, Bool, List, length, All, Any, Option, Some, None, IsTrue}
+use Rattle.g1_handles.specs.Prelude.{arc_value, get_elem?, Shape, Table, target_of, IsRecorded}
+use Rattle.g1_handles.specs.Prelude.{IsWord, Race, race_layout, race_shape, Pause, table_at}
+use Rattle.g1_handles.specs.Prelude.{start_at, Known, known, table_read, IsReaderOf, IsNextMember}
 use Rattle.std.specs.FinSet as set
 use mathlib.Core.Option.{some}
-use lib.ListN.{get_elem?}
-use Rattle.g1_layout.specs.Shape.{Shape}
-use Rattle.g1_core.specs.Table.{Table, target_of, IsRecorded}
-use Rattle.g1_race_words.specs.Rule.{IsWord}
-use Rattle.g1_race.specs.declared.race.Race.{Race}
-use Rattle.g1_race.specs.Members.{race_layout, race_shape}
-use Rattle.g1_race.specs.Over.{Pause, table_at, start_at}
-use Rattle.g1_race.specs.Reading.{Known, known, table_read, IsReaderOf, IsNextMember}
 use Rattle.g1_handles.specs.declared.code.Refusal.{Refusal}
 use Rattle.g1_handles.specs.declared.code.Refusal.TheVariants as refusal
 use Rattle.g1_handles.specs.declared.heap.racing_heap.AtPause.{AtPause}

@@ -1,13 +1,8 @@
 -- Why a call is refused: each refusal that it may answer, with what is so where it comes.
-use Rattle.std.specs.Prelude.{◌≡◌, ◌⊎◌, ◌<◌, ◌≤◌, ◌^◌, ℕ, List, length, Option, None, IsSome}
-use Rattle.arrayvec.specs.ArrayVec.{array_vec_len}
-use Rattle.g1_layout.specs.Shape.{Shape, IsShape, card_count}
-use Rattle.g1_core.specs.declared.config.Settings.{Settings}
-use Rattle.g1_core.specs.Settings.{AreSettings}
-use Rattle.g1_core.specs.Machine.{Machine}
-use Rattle.g1_race.specs.Members.{race_layout}
-use Rattle.g1_race.specs.declared.race.Race.{Race}
-use Rattle.g1_race.specs.declared.race.Racer.{Racer}
+use Rattle.std.specs.Prelude.{◌≡◌, ◌⊎◌, ◌<◌, ◌≤◌, ◌^◌}
+use Rattle.g1_handles.specs.Prelude.{ℕ, List, length, Option, None, IsSome, array_vec_len, Shape}
+use Rattle.g1_handles.specs.Prelude.{IsShape, card_count, Settings, AreSettings, Machine}
+use Rattle.g1_handles.specs.Prelude.{race_layout, Race, Racer}
 use Rattle.g1_handles.specs.declared.code.Refusal.{Refusal}
 use Rattle.g1_handles.specs.declared.code.Refusal.TheVariants as refusal
 use Rattle.g1_handles.specs.declared.member.Role.{Ghosts}

@@ -1,18 +1,14 @@
 -- What the words that C gets stand for.
-use Rattle.std.specs.Prelude.{◌≡◌, ◌≤◌, ◌+◌, ◌*◌, ℕ, Option, Some, None, List, length, ◌==◌, not}
-use Rattle.std.specs.Prelude.{if◌then◌else◌, ⊤}
+use Rattle.std.specs.Prelude.{◌≡◌, ◌≤◌, ◌+◌, ◌*◌, ◌==◌, if◌then◌else◌}
+use Rattle.g1_handles.specs.Prelude.{ℕ, Option, Some, None, List, length, not, ⊤, Machine, IsLater}
+use Rattle.g1_handles.specs.Prelude.{IsOnlyRead, IsStep, IsDrainOf, clear_entry, drain_entry}
+use Rattle.g1_handles.specs.Prelude.{redirect_entry, refine_entry, ClearReply, Drained}
 use Rattle.std.specs.FinSet as set
-use Rattle.g1_core.specs.Machine.{Machine, IsLater, IsOnlyRead}
-use Rattle.g1_core.specs.Run.{IsStep}
-use Rattle.g1_core.specs.Pause.{IsDrainOf}
 use Rattle.g1_core.specs.Refinement.{IsTurned, AreCardsRead}
-use Rattle.g1_core.specs.Calls.{clear_entry, drain_entry, redirect_entry, refine_entry}
 use Rattle.g1_core.specs.Clearing.{member_count}
 use Rattle.g1_core.specs.Redirect.{IsRedirectOf}
 use Rattle.g1_core.specs.declared.reply.RefineReply.{RefineReply}
-use Rattle.g1_core.specs.declared.reply.ClearReply.{ClearReply}
 use Rattle.g1_core.specs.declared.reply.Redirected.{Redirected}
-use Rattle.g1_core.specs.declared.reply.Drained.{Drained}
 
 -- A refinement of these cards got the reply.
 pub record RefinesTo (old : Machine) (cards : List ℕ) (reply : RefineReply)

@@ -1,9 +1,8 @@
 -- What C is told of a region's set at a pause.
-use Rattle.std.specs.Prelude.{◌≡◌, ◌<◌, ◌+◌, ◌++◌, ℕ, List, All, Contains, Result, IfOk, IfErr}
-use Rattle.std.specs.Prelude.{OnErr, length, take}
+use Rattle.std.specs.Prelude.{◌≡◌, ◌<◌, ◌+◌, ◌++◌}
+use Rattle.g1_handles.specs.Prelude.{ℕ, List, All, Contains, Result, IfOk, IfErr, OnErr, length}
+use Rattle.g1_handles.specs.Prelude.{take, Table, IsRecorded, Pause}
 use Rattle.std.specs.List.Sorted.{IsStrictlyIncreasing}
-use Rattle.g1_core.specs.Table.{Table, IsRecorded}
-use Rattle.g1_race.specs.Over.{Pause}
 use Rattle.g1_handles.specs.Arrays.{IsWritten}
 use Rattle.g1_handles.specs.AtPause.{DrainsAtPause, TellsMembers}
 use Rattle.g1_handles.specs.declared.code.Refusal.{Refusal}

@@ -1,8 +1,6 @@
 -- What a check of a table finds.
-use Rattle.std.specs.Prelude.{ℕ, List, length, map}
-use Rattle.g1_core.specs.Table.{Table}
-use Rattle.g1_core.specs.Verify.{IsFirst, IsMissing, Differs}
-use Rattle.g1_race.specs.Over.{Pause, table_at}
+use Rattle.g1_handles.specs.Prelude.{ℕ, List, length, map, Table, IsFirst, IsMissing, Differs}
+use Rattle.g1_handles.specs.Prelude.{Pause, table_at}
 use Rattle.g1_handles.specs.Codes.{reference_of}
 
 -- the words are of the least slot that refers to something else than memory does, which has these

@@ -1,5 +1,6 @@
 -- What a call on what a handle holds does.
-use Rattle.std.specs.Prelude.{◌≡◌, Option, Some, None, Result, Err}
+use Rattle.std.specs.Prelude.{◌≡◌}
+use Rattle.g1_handles.specs.Prelude.{Option, Some, None, Result, Err}
 use Rattle.g1_handles.specs.declared.code.Refusal.{Refusal}
 use Rattle.g1_handles.specs.declared.code.Refusal.TheVariants as refusal
 

@@ -1,6 +1,7 @@
 //! What the handles have in common.
-ghost use Rattle.std.specs.Prelude.{◌≡◌, Some, None, MatchOption, IsTrue, map};
-ghost use Rattle.std.specs.Fn.{FnOnceReturnsAtMut};
+ghost use Rattle.std.specs.Prelude.{◌≡◌};
+ghost use Rattle.g1_handles.specs.Prelude.{Some, None, MatchOption, IsTrue, map};
+ghost use Rattle.g1_handles.specs.Prelude.{FnOnceReturnsAtMut};
 ghost use Rattle.g1_handles.specs.Racing.{AreClosed};
 ghost use Rattle.g1_handles.specs.Visits.{IsVisit};
 
@@ -15,7 +16,8 @@ use std::alloc::Global;
 /// C makes a closed handle of zeros. Dropping a handle frees nothing. An exported function takes no
 /// type with parameters, so each kind of handle is a struct of its own.
 pub trait AnyHandle: Drop + Sized {
-    ghost use Rattle.std.specs.Prelude.{◌≡◌, Option};
+    ghost use Rattle.std.specs.Prelude.{◌≡◌};
+    ghost use Rattle.g1_handles.specs.Prelude.{Option};
 
     /// What an open handle holds.
     type Value: Drop;

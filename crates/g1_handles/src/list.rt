@@ -1,7 +1,6 @@
 //! Lists of cards in the caller's arrays.
-ghost use Rattle.std.specs.Prelude.{◌≡◌, length, take};
-ghost use Rattle.g1_handles.specs.Arrays.{IsWritten};
-ghost use Rattle.g1_handles.specs.Replies.{FitIn};
+ghost use Rattle.std.specs.Prelude.{◌≡◌};
+ghost use Rattle.g1_handles.specs.{length, take, IsWritten, FitIn};
 
 use g1_layout::Card;
 

@@ -21,10 +21,8 @@ pub mod store;
 pub mod sweeper_handle;
 pub mod words;
 
-ghost use Rattle.std.specs.Prelude.{◌≡◌, Some};
-ghost use Rattle.std.specs.Option.{ForSome};
-ghost use Rattle.std.specs.Arc.{arc_value};
-ghost use Rattle.g1_race.specs.Members.{race_id};
+ghost use Rattle.std.specs.Prelude.{◌≡◌};
+ghost use Rattle.g1_handles.specs.Prelude.{Some, ForSome, arc_value, race_id};
 
 use crate::member::counts::MemberCounts;
 use g1_race::{Race, Racer, Reader, Sweeper};
@@ -33,7 +31,7 @@ use std::sync::Arc;
 
 /// A racer, which stores, a sweeper, which refines, or a reader, which reads a pause.
 pub trait Role: Drop {
-    ghost use Rattle.atomic_table.specs.Seated.{TableId};
+    ghost use Rattle.g1_handles.specs.Prelude.{TableId};
     ghost use Rattle.g1_race_words.specs.declared.view.Shape.{Shape};
 
     /// Its race.
@@ -41,19 +39,19 @@ pub trait Role: Drop {
 }
 
 impl Role for Racer {
-    ghost use Rattle.g1_race.specs.Members.{racer_race};
+    ghost use Rattle.g1_handles.specs.Prelude.{racer_race};
 
     ghost of = { racer_race };
 }
 
 impl Role for Sweeper {
-    ghost use Rattle.g1_race.specs.Members.{sweeper_race};
+    ghost use Rattle.g1_handles.specs.Prelude.{sweeper_race};
 
     ghost of = { sweeper_race };
 }
 
 impl Role for Reader {
-    ghost use Rattle.g1_race.specs.Reading.{reader_race};
+    ghost use Rattle.g1_handles.specs.Prelude.{reader_race};
 
     ghost of = { reader_race };
 }

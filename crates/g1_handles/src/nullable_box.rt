@@ -1,5 +1,6 @@
 //! A box behind a pointer that may be null: what each handle has in its words.
-ghost use Rattle.std.specs.Prelude.{◌≡◌, Option, Some, None, MatchOption};
+ghost use Rattle.std.specs.Prelude.{◌≡◌};
+ghost use Rattle.g1_handles.specs.Prelude.{Option, Some, None, MatchOption};
 
 use crate::raw_box::RawBox;
 use std::alloc::Global;

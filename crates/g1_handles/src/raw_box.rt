@@ -1,6 +1,6 @@
 //! A box taken apart into its pointer.
 ghost use Rattle.std.specs.Prelude.{◌≡◌};
-ghost use Rattle.std_alloc.specs.Box.Ownership.{box_owns};
+ghost use Rattle.g1_handles.specs.Prelude.{box_owns};
 
 use std::alloc::Allocator;
 use std::marker::Model;

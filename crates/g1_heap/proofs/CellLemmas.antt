@@ -1,15 +1,8 @@
 -- The words and bytes of a heap, and what they stand for.
-use Rattle.std.proofs.Common.{◌≡◌, inl, inr, ℕ, zero, suc, ◌<◌, ◌≤◌, List, ◌∷◌, length, get_or, map, replicate, Option, Some, None, refl, sym, ap, ◌∙◌, subst, set as list_set}
-use Rattle.std.specs.Prelude.{IfSome}
-use Rattle.std.specs.Option.{SomeIff}
-use Rattle.std.proofs.lemmas.Bool.{cases_lt, lt-ltb, le-ltb}
-use Rattle.std.proofs.lemmas.List.Elements.{All-map}
-use Rattle.std.proofs.lemmas.List.{map-set, length-map}
-use Rattle.g1_layout.specs.Shape.{Shape, slot_count, card_count}
-use Rattle.g1_heap.specs.declared.mark.Mark.{Mark}
-use Rattle.g1_heap.specs.declared.mark.Mark.TheVariants.{Clean}
-use Rattle.g1_heap.specs.Cells.{AreCells, Cells, new_cells, with_ref, with_mark}
-use Rattle.g1_heap.specs.Stored.{AreStored, ref_of, mark_of}
+use Rattle.std.specs.Prelude.{◌≡◌, ◌<◌, ◌≤◌, ◌∷◌}
+use Rattle.g1_heap.specs.{inl, inr, ℕ, zero, suc, List, get_or, map, replicate, Option, Some, None, refl, sym, ap, ◌∙◌, subst, IfSome, SomeIff, cases_lt, lt-ltb, le-ltb, All-map, map-set, length-map, Shape, slot_count, card_count, Mark, Clean, AreCells, new_cells, with_ref, with_mark, AreStored, ref_of, mark_of}
+use Rattle.std.proofs.Common.{set as list_set}
+use Rattle.g1_heap.specs.Cells.{Cells}
 
 map_replicate : {A B : Type 0} (f : A → B) (n : ℕ) (x : A) → map f (replicate n x) ≡ replicate n (f x)
 map_replicate f zero x = refl

@@ -1,15 +1,7 @@
 -- The first byte of a dirty card is that of the first dirty card.
-use Rattle.std.proofs.Common.{◌≡◌, inl, inr, ℕ, zero, suc, ◌<◌, ◌≤◌, ◌+◌, ◌-◌, List, length, get_or, take, drop, map, Option, Some, None, refl, sym, ap, ◌∙◌, subst, arith}
-use Rattle.std.specs.Prelude.{MatchOption}
-use Rattle.std.specs.Option.{SomeIff}
+use Rattle.std.specs.Prelude.{◌≡◌, ◌<◌, ◌≤◌, ◌+◌, ◌-◌}
+use Rattle.g1_heap.specs.{inl, inr, ℕ, zero, suc, List, length, get_or, take, drop, map, Option, Some, None, refl, sym, ap, ◌∙◌, subst, arith, MatchOption, SomeIff, cases_lt, eqb-true, eq-eqb, length-map, get_or-take, get_or-drop, get_or_past, length-take, length-drop, Nowhere, NoneBefore, Passes, is_byte, Mark, Clean, Dirty, HasNoDirty, IsFirstDirty, mark_of}
 use Rattle.std.proofs.Math.ListN.{get_or-map}
-use Rattle.std.proofs.lemmas.Bool.{cases_lt, eqb-true, eq-eqb}
-use Rattle.std.proofs.lemmas.List.{length-map, get_or-take, get_or-drop, get_or_past, length-take, length-drop}
-use Rattle.memchr.specs.Find.{Nowhere, NoneBefore, Passes, is_byte}
-use Rattle.g1_heap.specs.declared.mark.Mark.{Mark}
-use Rattle.g1_heap.specs.declared.mark.Mark.TheVariants.{Clean, Dirty}
-use Rattle.g1_heap.specs.Cells.{HasNoDirty, IsFirstDirty}
-use Rattle.g1_heap.specs.Stored.{mark_of}
 
 byte_of-dirty : (byte : ℕ) → mark_of byte ≡ Dirty → byte ≡ 1
 byte_of-dirty zero is = cc

@@ -1,13 +1,7 @@
 -- The words of a card that lie between the numbers of a region's places are those that refer into the region.
-use Rattle.std.proofs.Common.{◌≡◌, inl, inr, ℕ, ◌<◌, ◌≤◌, ◌+◌, ◌-◌, ◌*◌, List, length, get_or, map, Option, Some, None, refl, sym, ap, ◌∙◌, subst, arith}
-use Rattle.std.specs.Option.{SomeIff, IsSome}
+use Rattle.std.specs.Prelude.{◌≡◌, ◌<◌, ◌≤◌, ◌+◌, ◌-◌, ◌*◌}
+use Rattle.g1_heap.specs.{inl, inr, ℕ, List, length, get_or, map, Option, Some, None, refl, sym, ap, ◌∙◌, subst, arith, SomeIff, IsSome, cases_lt, Shape, IsShape, slot_count, region_of, slot_at, region_of-offset, region_has_slots, region_ends_within, ref_of, RefersInto, HasNoneInto, IsNextInto}
 use Rattle.std.proofs.Math.Nat.{div-mul-le_self, lt-div-mul-add}
-use Rattle.std.proofs.lemmas.Bool.{cases_lt}
-use Rattle.g1_layout.specs.Shape.{Shape, IsShape, slot_count, region_of, slot_at}
-use Rattle.g1_layout.proofs.ShapeLemmas.{region_of-offset, region_has_slots, region_ends_within}
-use Rattle.g1_heap.specs.Stored.{ref_of}
-use Rattle.g1_heap.specs.Listing.{RefersInto}
-use Rattle.g1_heap.specs.Entering.{HasNoneInto, IsNextInto}
 use Rattle.g1_heap.proofs.CellLemmas.{ref_of-place, ref_of-null}
 use Rattle.g1_heap.proofs.RowLemmas.{row_of, row_at}
 

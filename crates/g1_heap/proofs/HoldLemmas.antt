@@ -1,11 +1,7 @@
 -- Where the regions lie that a card holds into.
-use Rattle.std.proofs.Common.{◌≡◌, inl, inr, ℕ, ◌<◌, List, length, get_or, Some, None, sym, ◌∙◌, subst}
-use Rattle.std.specs.Prelude.{All, Contains, IfSome}
-use Rattle.std.proofs.lemmas.Bool.{cases_lt}
-use Rattle.std.proofs.lemmas.List.{get_or_past, get_or_default}
-use Rattle.g1_layout.specs.Shape.{slot_count}
-use Rattle.g1_layout.proofs.ShapeLemmas.{region_of_below}
-use Rattle.g1_heap.specs.Cells.{AreCells, Cells, HoldsIn}
+use Rattle.std.specs.Prelude.{◌≡◌, ◌<◌}
+use Rattle.g1_heap.specs.{inl, inr, ℕ, List, length, get_or, Some, None, sym, ◌∙◌, subst, All, Contains, IfSome, cases_lt, get_or_past, get_or_default, slot_count, region_of_below, AreCells, HoldsIn}
+use Rattle.g1_heap.specs.Cells.{Cells}
 
 -- what a slot refers to is a place of the heap
 pub place_within : (c : Cells) (slot place : ℕ) → AreCells c → get_or c.refs slot None ≡ Some place → place < slot_count c.layout

@@ -5,3 +5,5 @@ pub mod HoldLemmas
 pub mod ListingLemmas
 pub mod RowLemmas
 pub mod TargetLemmas
+use CellLemmas.*
+use RowLemmas.*

@@ -1,15 +1,7 @@
 -- A pass over the words of a row, a word or a run of null words at a time.
-use Rattle.std.proofs.Common.{◌≡◌, ◌≢◌, inl, inr, ℕ, ◌<◌, ◌≤◌, ◌+◌, List, [], ◌∷◌, ◌++◌, length, get_or, Option, Some, None, sym, ap, ◌∙◌, subst, arith}
-use Rattle.std.specs.Prelude.{Contains}
-use Rattle.std.proofs.lemmas.Bool.{cases_lt}
-use Rattle.std.proofs.lemmas.List.Elements.{Contains-append_left, Contains-push, Contains-push_cases}
+use Rattle.std.specs.Prelude.{◌≡◌, ◌≢◌, ◌<◌, ◌≤◌, ◌+◌, ◌∷◌, ◌++◌}
+use Rattle.g1_heap.specs.{inl, inr, ℕ, List, [], length, get_or, Option, Some, None, sym, ap, ◌∙◌, subst, arith, Contains, cases_lt, Contains-append_left, Contains-push, Contains-push_cases, get_or_default, Shape, region_of, RegionSet, HasRegion, Gains, ref_of, RefersInto, RowRefers, RowRefersFirst, IsListedUpTo}
 use Rattle.std.proofs.lemmas.List.Quantifiers.{all_pairs_push}
-use Rattle.std.proofs.lemmas.List.{get_or_default}
-use Rattle.g1_layout.specs.Shape.{Shape, region_of}
-use Rattle.g1_layout.specs.declared.region_set.RegionSet.{RegionSet}
-use Rattle.g1_layout.specs.Regions.{HasRegion, Gains}
-use Rattle.g1_heap.specs.Stored.{ref_of}
-use Rattle.g1_heap.specs.Listing.{RefersInto, RowRefers, RowRefersFirst, IsListedUpTo}
 
 -- the region into which a word refers
 refers_same : (l : Shape) (target : Option ℕ) (place region r : ℕ) → target ≡ Some place → region ≡ region_of l place → RefersInto l target r → region ≡ r

@@ -1,8 +1,6 @@
 -- The words of a card, and what they refer to.
-use Rattle.std.proofs.Common.{◌≡◌, ℕ, ◌<◌, ◌≤◌, ◌+◌, ◌-◌, List, length, get_or, take, drop, map, None, sym, ap, ◌∙◌, arith}
-use Rattle.std.proofs.lemmas.List.{get_or-take, get_or-drop, get_or-map, length-take, length-drop}
-use Rattle.g1_layout.specs.Shape.{Shape}
-use Rattle.g1_heap.specs.Stored.{ref_of}
+use Rattle.std.specs.Prelude.{◌≡◌, ◌<◌, ◌≤◌, ◌+◌, ◌-◌}
+use Rattle.g1_heap.specs.{ℕ, List, length, get_or, take, drop, map, None, sym, ap, ◌∙◌, arith, get_or-take, get_or-drop, get_or-map, length-take, length-drop, Shape, ref_of}
 
 abbrev pub row_of : List ℕ → ℕ → ℕ → List ℕ
 row_of words first n = take (first + n - first) (drop first words)

@@ -1,18 +1,9 @@
 -- The regions into which a card holds, as a pass over its words lists them.
-use Rattle.std.proofs.Common.{◌≡◌, inl, inr, ℕ, ◌<◌, ◌≤◌, ◌+◌, ◌-◌, ◌*◌, ◌/◌, List, length, get_or, map, Option, None, sym, ap, ◌∙◌, arith, ◌↔◌}
-use Rattle.std.specs.Prelude.{Contains}
+use Rattle.std.specs.Prelude.{◌≡◌, ◌<◌, ◌≤◌, ◌+◌, ◌-◌, ◌*◌, ◌/◌, ◌↔◌}
+use Rattle.g1_heap.specs.{inl, inr, ℕ, List, length, get_or, map, Option, None, sym, ap, ◌∙◌, arith, Contains, get_or_default, Shape, IsShape, region_of_card, RegionSet, HasRegion, Gains, IsInRow, card_of-row, row_of_card, HoldsIn, ref_of, RowRefers, RowRefersFirst, IsListedUpTo, AreTargets, AreNewTargets, RefersFirst}
 use Rattle.std.proofs.lemmas.Bool.Decides.{Decides-eqb}
 use Rattle.std.proofs.lemmas.Map.Made.{IsDistinct-from_AllPairs}
-use Rattle.std.proofs.lemmas.List.{get_or_default}
-use Rattle.g1_layout.specs.Shape.{Shape, IsShape, region_of_card}
-use Rattle.g1_layout.specs.declared.region_set.RegionSet.{RegionSet}
-use Rattle.g1_layout.specs.Regions.{HasRegion, Gains}
-use Rattle.g1_layout.proofs.ShapeLemmas.{IsInRow, card_of-row, row_of_card}
 use Rattle.g1_heap.proofs.RowLemmas.{row_of, row_length, row_at}
-use Rattle.g1_heap.specs.Cells.{HoldsIn}
-use Rattle.g1_heap.specs.Stored.{ref_of}
-use Rattle.g1_heap.specs.Listing.{RowRefers, RowRefersFirst, IsListedUpTo}
-use Rattle.g1_heap.specs.Targets.{AreTargets, AreNewTargets, RefersFirst}
 
 -- the slots of a card
 module _ (l : Shape) (words : List ℕ) (card own first n : ℕ) (home : own ≡ region_of_card l card) (starts : first ≡ card * l.slots) (many : n ≡ l.slots) (shape : IsShape l) (room : first + n ≤ length words) where

@@ -1,9 +1,9 @@
 -- What contracts see of a heap: what each slot refers to, the mark of each card, and how many slots
 -- were read.
-use Rattle.std.specs.Prelude.{◌≡◌, ◌≢◌, ◌≤◌, ◌<◌, ◌+◌, ◌-◌, ◌^◌, ℕ, List, Option, Some, None}
-use Rattle.std.specs.Prelude.{IfSome, All, length, min, slice_index_or, slice_set, replicate}
-use Rattle.g1_layout.specs.Shape.{Shape, IsShape, slot_count, card_count, card_of, region_of}
-use Rattle.g1_layout.specs.Shape.{region_of_card}
+use Rattle.std.specs.Prelude.{◌≡◌, ◌≢◌, ◌≤◌, ◌<◌, ◌+◌, ◌-◌, ◌^◌}
+use Rattle.g1_heap.specs.Prelude.{ℕ, List, Option, Some, None, IfSome, All, length, min}
+use Rattle.g1_heap.specs.Prelude.{slice_index_or, slice_set, replicate, Shape, IsShape, slot_count}
+use Rattle.g1_heap.specs.Prelude.{card_count, card_of, region_of, region_of_card}
 use Rattle.g1_heap.specs.declared.mark.Mark.{Mark}
 use Rattle.g1_heap.specs.declared.mark.Mark.TheVariants.{Clean, Dirty}
 

@@ -1,6 +1,7 @@
 -- The first slot of a card that refers into a region.
-use Rattle.std.specs.Prelude.{◌≡◌, ◌≤◌, ◌<◌, ◌+◌, ◌-◌, ℕ, List, Option, Some, None, slice_index_or}
-use Rattle.g1_layout.specs.Shape.{Shape, region_of, slot_at}
+use Rattle.std.specs.Prelude.{◌≡◌, ◌≤◌, ◌<◌, ◌+◌, ◌-◌}
+use Rattle.g1_heap.specs.Prelude.{ℕ, List, Option, Some, None, slice_index_or, Shape, region_of}
+use Rattle.g1_heap.specs.Prelude.{slot_at}
 use Rattle.g1_heap.specs.Listing.{RefersInto}
 
 -- no slot from one offset of the card up to another refers into the region

@@ -1,10 +1,7 @@
 -- How far a pass over the words of a card has come.
-use Rattle.std.specs.Prelude.{◌≡◌, ◌≢◌, ◌⊎◌, ◌↔◌, ◌<◌, ℕ, List, Option, Some, Contains, length}
-use Rattle.std.specs.Prelude.{slice_index}
-use Rattle.std.specs.List.{AllPairs}
-use Rattle.g1_layout.specs.Shape.{Shape, region_of}
-use Rattle.g1_layout.specs.declared.region_set.RegionSet.{RegionSet}
-use Rattle.g1_layout.specs.Regions.{HasRegion}
+use Rattle.std.specs.Prelude.{◌≡◌, ◌≢◌, ◌⊎◌, ◌↔◌, ◌<◌}
+use Rattle.g1_heap.specs.Prelude.{ℕ, List, Option, Some, Contains, length, slice_index, AllPairs}
+use Rattle.g1_heap.specs.Prelude.{Shape, region_of, RegionSet, HasRegion}
 use Rattle.g1_heap.specs.Stored.{ref_of}
 
 -- a target lies in the region

@@ -1,7 +1,7 @@
 -- How a heap is kept: a word a slot and a byte a card, and what they stand for.
-use Rattle.std.specs.Prelude.{◌≡◌, ℕ, zero, suc, List, Option, Some, None, length, if◌then◌else◌}
-use Rattle.std.specs.Prelude.{nat_lt}
-use Rattle.g1_layout.specs.Shape.{Shape, IsShape, slot_count, card_count}
+use Rattle.std.specs.Prelude.{◌≡◌, if◌then◌else◌}
+use Rattle.g1_heap.specs.Prelude.{ℕ, zero, suc, List, Option, Some, None, length, nat_lt, Shape}
+use Rattle.g1_heap.specs.Prelude.{IsShape, slot_count, card_count}
 use Rattle.g1_heap.specs.declared.mark.Mark.{Mark}
 use Rattle.g1_heap.specs.declared.mark.Mark.TheVariants.{Clean, Dirty, Held}
 

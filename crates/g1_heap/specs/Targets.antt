@@ -1,9 +1,7 @@
 -- The regions into which a card holds, in order.
-use Rattle.std.specs.Prelude.{◌<◌, ◌↔◌, ℕ, List, Option, Contains, nat_eq}
-use Rattle.std.specs.List.{AllPairs, IsDistinct}
-use Rattle.g1_layout.specs.Shape.{Shape}
-use Rattle.g1_layout.specs.declared.region_set.RegionSet.{RegionSet}
-use Rattle.g1_layout.specs.Regions.{HasRegion}
+use Rattle.std.specs.Prelude.{◌<◌, ◌↔◌}
+use Rattle.g1_heap.specs.Prelude.{ℕ, List, Option, Contains, nat_eq, AllPairs, IsDistinct, Shape}
+use Rattle.g1_heap.specs.Prelude.{RegionSet, HasRegion}
 use Rattle.g1_heap.specs.Cells.{HoldsIn}
 
 -- whichever slot of the card refers into the second region, an earlier one refers into the first

@@ -1,6 +1,7 @@
 //! The words of a card that refer into a region.
 
-ghost use Rattle.std.specs.Prelude.{◌+◌, ◌<◌, ◌≤◌, ℕ, length, slice_index};
+ghost use Rattle.std.specs.Prelude.{◌+◌, ◌<◌, ◌≤◌};
+ghost use Rattle.g1_heap.specs.{ℕ, length, slice_index};
 
 use crate::null::{GROUP, NULL, has_reference};
 

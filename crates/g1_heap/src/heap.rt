@@ -1,14 +1,13 @@
 //! The slots and the card table.
 
-ghost use Rattle.std.specs.Prelude.{◌≡◌, ◌<◌, ◌≤◌, ◌↔◌, ℕ, All, None, Contains, IfSome, IfOk};
-ghost use Rattle.std.specs.Prelude.{MatchOption, slice_index_or};
-ghost use Rattle.g1_layout.specs.Shape.{slot_count, card_count};
+ghost use Rattle.std.specs.Prelude.{◌≡◌, ◌<◌, ◌≤◌, ◌↔◌};
+ghost use Rattle.g1_heap.specs.Prelude.{ℕ, All, None, Contains, IfSome, IfOk, MatchOption};
+ghost use Rattle.g1_heap.specs.Prelude.{slice_index_or, slot_count, card_count, HasRegion};
+ghost use Rattle.g1_heap.specs.Prelude.{IsFirstByte, is_byte};
 ghost use Rattle.g1_heap.specs.Cells.{AreCells, with_ref, with_mark, with_reads, new_cells};
 ghost use Rattle.g1_heap.specs.Cells.{HoldsIn, HasNoDirty, IsFirstDirty};
-ghost use Rattle.g1_layout.specs.Regions.{HasRegion};
 ghost use Rattle.g1_heap.specs.Targets.{AreTargets, AreNewTargets};
 ghost use Rattle.g1_heap.specs.Entering.{HasNoneInto, IsNextInto, looked_at};
-ghost use Rattle.memchr.specs.Find.{IsFirstByte, is_byte};
 
 use crate::entering::first_between;
 use crate::mark::{CLEAN, DIRTY, Mark};
@@ -35,7 +34,7 @@ pub struct Heap {
 }
 
 impl Model for Heap {
-    ghost use Rattle.std.specs.Prelude.{map};
+    ghost use Rattle.g1_heap.specs.Prelude.{map};
     ghost use Rattle.g1_heap.specs.Cells.{Cells};
     ghost use Rattle.g1_heap.specs.Stored.{ref_of, mark_of, AreStored};
 

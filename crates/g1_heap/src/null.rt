@@ -1,6 +1,7 @@
 //! The word of a null slot, and how runs of null slots are found.
 
-ghost use Rattle.std.specs.Prelude.{◌≡◌, ◌<◌, ℕ, false, length, slice_index};
+ghost use Rattle.std.specs.Prelude.{◌≡◌, ◌<◌};
+ghost use Rattle.g1_heap.specs.{ℕ, false, length, slice_index};
 
 use std::simd::prelude::*;
 

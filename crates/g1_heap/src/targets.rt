@@ -1,12 +1,9 @@
 //! The regions into which the slots of a card refer.
 
-ghost use Rattle.std.specs.Prelude.{◌≡◌, ◌<◌, ◌≤◌, ◌+◌, [], length, map};
-ghost use Rattle.arrayvec.specs.ArrayVec.{array_vec_len};
-ghost use Rattle.g1_layout.specs.Shape.{slot_count, card_count};
+ghost use Rattle.std.specs.Prelude.{◌≡◌, ◌<◌, ◌≤◌, ◌+◌};
+ghost use Rattle.g1_heap.specs.{[], length, map, array_vec_len, slot_count, card_count, ref_of};
+ghost use Rattle.g1_heap.specs.{IsListedUpTo, AreNewTargets};
 ghost use Rattle.g1_layout.specs.declared.region_set.RegionSet.{RegionSet as Regions};
-ghost use Rattle.g1_heap.specs.Stored.{ref_of};
-ghost use Rattle.g1_heap.specs.Listing.{IsListedUpTo};
-ghost use Rattle.g1_heap.specs.Targets.{AreNewTargets};
 
 use crate::null::{GROUP, has_reference};
 use arrayvec::ArrayVec;

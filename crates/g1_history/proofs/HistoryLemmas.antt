@@ -1,23 +1,11 @@
 -- A history goes on by a step.
-use Rattle.std.proofs.Common.{◌≡◌, ℕ, ◌+◌, ◌<◌, ◌≤◌, Bool, true, false, cond, [], ◌∷◌, ◌++◌, length, refl, sym, subst, ap, ◌∙◌, arith}
-use Rattle.std.proofs.lemmas.List.{length-append}
-use Rattle.g1_layout.specs.Shape.{Shape, IsShape, card_count}
-use Rattle.g1_core.specs.Machine.{Machine, IsLater, IsSound}
-use Rattle.g1_core.specs.Table.{Table, opening, IsCovered}
-use Rattle.g1_core.specs.declared.entry.Entry.{Entry}
-use Rattle.g1_core.specs.declared.entry.Reply.{Reply}
-use Rattle.g1_core.specs.Run.{IsStep, IsAllowed, IsPermitted, table_of_history, drained}
+use Rattle.std.specs.Prelude.{◌≡◌, ◌+◌, ◌<◌, ◌≤◌, ◌∷◌, ◌++◌}
+use Rattle.g1_history.specs.{ℕ, Bool, true, false, cond, [], length, refl, sym, subst, ap, ◌∙◌, arith, length-append, Shape, IsShape, card_count, Machine, IsLater, IsSound, Table, opening, IsCovered, Entry, Reply, IsStep, IsAllowed, IsPermitted, table_of_history, drained, drain_entry, drain_cards, drain_reply, redirect_entry, redirect_reply, DoesDrain, DoesRedirect, Drained, Cards, Short, opening_covered, permitted_step, run_covered, run_layout, has_slots, Past, IsHistory, IsTallied, IsKept, Made, AnswersExactly, AnswersBy, table_in, layout_in, history_of, past_with, made_of, is_store, MadeAsked}
 use Rattle.g1_core.specs.declared.entry.Call.TheVariants as call
 use Rattle.g1_core.specs.declared.reply.Redirected.{Redirected}
 use Rattle.g1_core.specs.declared.reply.Redirected.TheVariants as redirected
-use Rattle.g1_core.specs.Calls.{drain_entry, drain_cards, drain_reply, redirect_entry, redirect_reply, DoesDrain, DoesRedirect}
-use Rattle.g1_core.specs.declared.reply.Drained.{Drained}
-use Rattle.g1_core.specs.declared.reply.Drained.TheVariants.{Cards, Short}
-use Rattle.g1_core.proofs.TableLemmas.{opening_covered}
-use Rattle.g1_core.proofs.RunLemmas.{permitted_step, run_covered, run_layout, has_slots}
 use Rattle.g1_core.proofs.SinceLemmas.{drain_exact}
-use Rattle.g1_history.specs.History.{History, Past, IsHistory, IsTallied, IsKept, Made, AnswersExactly, AnswersBy, table_in, layout_in, history_of, past_with, made_of, is_store}
-use Rattle.g1_history.specs.Asked.{MadeAsked}
+use Rattle.g1_history.specs.History.{History}
 use Rattle.g1_history.proofs.RoomLemmas.{drained_few}
 
 store_counts : (b : Bool) (stored made : ℕ) → stored ≤ made → stored + cond b 1 0 ≤ made + 1

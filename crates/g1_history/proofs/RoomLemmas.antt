@@ -1,32 +1,17 @@
 -- How long the lists of a reply can be.
-use Rattle.std.proofs.Common.{◌≡◌, inl, inr, ℕ, zero, suc, ◌<◌, ◌≤◌, ◌+◌, List, [], ◌∷◌, length, get_or, take, Option, Some, None, refl, sym, ap, ◌∙◌, subst, arith}
-use Rattle.std.specs.Prelude.{All, fold}
+use Rattle.std.specs.Prelude.{◌≡◌, ◌<◌, ◌≤◌, ◌+◌, ◌∷◌}
+use Rattle.g1_history.specs.{inl, inr, ℕ, zero, suc, List, [], length, get_or, take, Option, Some, None, refl, sym, ap, ◌∙◌, subst, arith, All, fold, length-set, length-map, length-replicate, Shape, IsShape, slot_count, card_count, card_of, Table, opening, refined, moved_target, Call, Reply, Entry, Store, Clear, Redirect, written, settled, table_after, table_of_history, HeldSince, IsExact, State, drain_cards, Drained, Cards, Short, AnswersExactly, layout_in, cards_in, is_slot, run_layout, turned_few}
 use Rattle.std.specs.List.Sorted.{IsStrictlyIncreasing}
 use Rattle.std.specs.List.{enumerate_from}
 use Rattle.std.proofs.Math.Nat.{div-lt_iff_lt-mul}
 use Rattle.std.proofs.lemmas.Bool.{cases_lt}
-use Rattle.std.proofs.lemmas.List.{length-set, length-map, length-replicate}
 use Rattle.std.proofs.lemmas.List.FromFn.{length-enumerate_from}
-use Rattle.g1_layout.specs.Shape.{Shape, IsShape, slot_count, card_count, card_of}
 use Rattle.g1_core.specs.declared.reply.RefineReply.{RefineReply}
-use Rattle.g1_core.specs.Table.{Table, opening, refined, moved_target}
-use Rattle.g1_core.specs.declared.entry.Call.{Call}
-use Rattle.g1_core.specs.declared.entry.Reply.{Reply}
-use Rattle.g1_core.specs.declared.entry.Entry.{Entry}
-use Rattle.g1_core.specs.declared.entry.Call.TheVariants.{Store, Clear, Redirect}
 use Rattle.g1_core.specs.declared.entry.Reply.TheVariants as reply
 use Rattle.g1_core.specs.declared.reply.ClearReply.TheVariants as clear_reply
-use Rattle.g1_core.specs.Run.{written, settled, table_after, table_of_history, HeldSince, IsExact}
-use Rattle.g1_core.specs.Machine.{State}
 use Rattle.g1_core.specs.Refinement.{IsRefined}
-use Rattle.g1_core.specs.Calls.{drain_cards}
-use Rattle.g1_core.specs.declared.reply.Drained.{Drained}
-use Rattle.g1_core.specs.declared.reply.Drained.TheVariants.{Cards, Short}
-use Rattle.g1_history.specs.History.{History, AnswersExactly, layout_in, cards_in}
+use Rattle.g1_history.specs.History.{History}
 use Rattle.g1_core.proofs.SetLemmas.{All_by_member}
-use Rattle.g1_core.proofs.TableLemmas.{is_slot}
-use Rattle.g1_core.proofs.RunLemmas.{run_layout}
-use Rattle.g1_core.proofs.LengthLemmas.{turned_few}
 
 -- an ascending list of numbers below a bound is no longer than the bound
 at_least : (xs : List ℕ) → IsStrictlyIncreasing xs → (k : ℕ) → k < length xs → k ≤ get_or xs k 0

@@ -1,12 +1,6 @@
 -- The calls that a book can be asked by their values alone, and what comes of one.
-use Rattle.std.specs.Prelude.{ℕ, Bool, List}
-use Rattle.g1_layout.specs.Shape.{Shape}
-use Rattle.g1_core.specs.declared.entry.Call.{Call}
-use Rattle.g1_core.specs.declared.entry.Call.TheVariants.{Store, Refine}
-use Rattle.g1_core.specs.declared.entry.Reply.{Reply}
-use Rattle.g1_core.specs.declared.entry.Entry.{Entry}
-use Rattle.g1_core.specs.Run.{IsCallOf}
-use Rattle.g1_core.specs.Calls.{DoesAsked}
+use Rattle.g1_history.specs.Prelude.{ℕ, Bool, List, Shape, Call, Store, Refine, Reply, Entry}
+use Rattle.g1_history.specs.Prelude.{IsCallOf, DoesAsked}
 use Rattle.g1_history.specs.History.{History, Made}
 
 -- The call is neither a store nor a refinement, and its numbers are of the layout.

@@ -1,19 +1,13 @@
 -- What contracts see of a book: its machine, how many mutators there are, what it remembers of its
 -- calls, and how many it may have. A book keeps the entries of its calls, or only their totals.
-use Rattle.std.specs.Prelude.{◌≡◌, ◌≤◌, ◌<◌, ◌+◌, ◌^◌, ◌↔◌, ℕ, Bool, true, false, cond, List, []}
-use Rattle.std.specs.Prelude.{◌∷◌, ◌++◌, length, count_by, Option, Some, None, refl, Result, Err}
-use Rattle.std.specs.Prelude.{OnErr}
+use Rattle.std.specs.Prelude.{◌≡◌, ◌≤◌, ◌<◌, ◌+◌, ◌^◌, ◌↔◌, ◌∷◌, ◌++◌}
+use Rattle.g1_history.specs.Prelude.{ℕ, Bool, true, false, cond, List, [], length, count_by, Option}
+use Rattle.g1_history.specs.Prelude.{Some, None, refl, Result, Err, OnErr, Shape, IsShape, Machine}
+use Rattle.g1_history.specs.Prelude.{IsLater, machine_code, new_machine, Table, opening, Drained}
+use Rattle.g1_history.specs.Prelude.{Cards, Short, Call, Store, Entry, IsPermitted, IsStep, IsExact}
+use Rattle.g1_history.specs.Prelude.{table_of_history}
 use Rattle.std.specs.Coded.{Coded, code_by, coded×, coded_ℕ, coded_list}
-use Rattle.g1_layout.specs.Shape.{Shape, IsShape}
-use Rattle.g1_core.specs.Machine.{Machine, IsLater, machine_code, new_machine}
 use Rattle.g1_core.specs.declared.config.Settings.{Settings}
-use Rattle.g1_core.specs.Table.{Table, opening}
-use Rattle.g1_core.specs.declared.reply.Drained.{Drained}
-use Rattle.g1_core.specs.declared.reply.Drained.TheVariants.{Cards, Short}
-use Rattle.g1_core.specs.declared.entry.Call.{Call}
-use Rattle.g1_core.specs.declared.entry.Call.TheVariants.{Store}
-use Rattle.g1_core.specs.declared.entry.Entry.{Entry}
-use Rattle.g1_core.specs.Run.{IsPermitted, IsStep, IsExact, table_of_history}
 use Rattle.g1_history.specs.declared.refusal.Refusal.{Refusal}
 use Rattle.g1_history.specs.declared.refusal.Refusal.TheVariants.{BookFull}
 

@@ -1,5 +1,6 @@
 //! A core and what is remembered of its calls.
-ghost use Rattle.std.specs.Prelude.{◌≡◌, ◌≤◌, ◌<◌, ◌^◌, [], IfOk};
+ghost use Rattle.std.specs.Prelude.{◌≡◌, ◌≤◌, ◌<◌, ◌^◌};
+ghost use Rattle.g1_history.specs.Prelude.{[], IfOk};
 
 use crate::keeps::{Keeps, Kept, Tallied};
 use g1_core::{Config, Core, Entry};
@@ -39,8 +40,7 @@ impl<H: Keeps> Model for Book<H> {
 }
 
 impl Book<Kept> {
-    ghost use Rattle.g1_core.specs.Machine.{IsSound};
-    ghost use Rattle.g1_core.specs.Table.{IsCovered};
+    ghost use Rattle.g1_history.specs.Prelude.{IsSound, IsCovered};
     ghost use Rattle.g1_history.specs.History.{IsHistory, opened, table_in};
 
     /// Returns an empty history over a new core: every slot is null, every card is clean, and
@@ -150,7 +150,7 @@ impl Book<Tallied> {
 }
 
 impl<H: Keeps> Book<H> {
-    ghost use Rattle.g1_core.specs.Machine.{IsSound};
+    ghost use Rattle.g1_history.specs.Prelude.{IsSound};
     ghost use Rattle.std.specs.Global.{Global};
     ghost use Rattle.g1_history.specs.History.{IsKept, layout_in};
 

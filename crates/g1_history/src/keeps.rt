@@ -6,7 +6,8 @@ use g1_core::{Call, CardList, Entry, Reply};
 
 /// What a book remembers of its calls, and how many it may remember.
 pub trait Keeps: Drop {
-    ghost use Rattle.std.specs.Prelude.{◌≡◌, ◌≤◌, ◌<◌, ◌↔◌, Bool, OnOk};
+    ghost use Rattle.std.specs.Prelude.{◌≡◌, ◌≤◌, ◌<◌, ◌↔◌};
+    ghost use Rattle.g1_history.specs.Prelude.{Bool, OnOk};
     ghost use Rattle.g1_history.specs.History.{Past, made_of, past_with};
 
     ghost KEEPS: { Bool };
@@ -46,7 +47,8 @@ pub struct Kept {
 }
 
 impl Keeps for Kept {
-    ghost use Rattle.std.specs.Prelude.{◌<◌, true, vec_len, vec_capacity};
+    ghost use Rattle.std.specs.Prelude.{◌<◌};
+    ghost use Rattle.g1_history.specs.Prelude.{true, vec_len, vec_capacity};
 
     ghost KEEPS = { true };
 
@@ -88,7 +90,8 @@ pub struct Tallied {
 }
 
 impl Keeps for Tallied {
-    ghost use Rattle.std.specs.Prelude.{◌<◌, false, []};
+    ghost use Rattle.std.specs.Prelude.{◌<◌};
+    ghost use Rattle.g1_history.specs.Prelude.{false, []};
 
     ghost KEEPS = { false };
 

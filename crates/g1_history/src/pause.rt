@@ -1,7 +1,7 @@
 //! Drains and clears that are entered in the history.
-ghost use Rattle.std.specs.Prelude.{◌≡◌, ◌≤◌, ◌<◌, true, length, IfOk, vec_len, vec_capacity};
-ghost use Rattle.g1_core.specs.Calls.{drain_cards, drain_refined, drain_entry};
-ghost use Rattle.g1_history.specs.History.{past_with};
+ghost use Rattle.std.specs.Prelude.{◌≡◌, ◌≤◌, ◌<◌};
+ghost use Rattle.g1_history.specs.{true, length, IfOk, vec_len, vec_capacity, drain_cards};
+ghost use Rattle.g1_history.specs.{drain_refined, drain_entry, past_with};
 
 use crate::book::Book;
 use crate::keeps::Keeps;
@@ -11,8 +11,8 @@ use g1_core::{Call, CardList, ClearReply, Drained, Reply};
 use g1_layout::{Card, Region};
 
 impl<H: Keeps> Book<H> {
-    ghost use Rattle.g1_core.specs.Calls.{clear_entry, DoesDrain, DoesClear};
-    ghost use Rattle.g1_history.specs.History.{Made, AnswersBy, RefusesBy, layout_in};
+    ghost use Rattle.g1_history.specs.{clear_entry, DoesDrain, DoesClear, Made, AnswersBy};
+    ghost use Rattle.g1_history.specs.{RefusesBy, layout_in};
 
     /// Refines all pending cards, as the core does, returns the region's remembered set, and enters
     /// the call (docs/rules.md, The pause).

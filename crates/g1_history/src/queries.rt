@@ -1,6 +1,6 @@
 //! Questions to the core that are entered in the history.
-ghost use Rattle.std.specs.Prelude.{◌≡◌, ◌<◌, IfOk};
-ghost use Rattle.g1_layout.specs.Shape.{slot_count, card_count};
+ghost use Rattle.std.specs.Prelude.{◌≡◌, ◌<◌};
+ghost use Rattle.g1_history.specs.{IfOk, slot_count, card_count};
 
 use crate::book::Book;
 use crate::keeps::Keeps;
@@ -10,10 +10,9 @@ use g1_core::{Call, CardList, Reply, Status};
 use g1_layout::{Card, Region, Slot};
 
 impl<H: Keeps> Book<H> {
-    ghost use Rattle.g1_core.specs.Calls.{target_entry, pending_entry, members_entry, status_entry};
-    ghost use Rattle.g1_core.specs.Calls.{DoesTarget, DoesPending, DoesMembers, DoesStatus};
-    ghost use Rattle.g1_history.specs.History.{Made, RefusesBy, layout_in};
-    ghost use Rattle.g1_history.specs.Asked.{IsAsked, MadeAsked};
+    ghost use Rattle.g1_history.specs.{target_entry, pending_entry, members_entry, status_entry};
+    ghost use Rattle.g1_history.specs.{DoesTarget, DoesPending, DoesMembers, DoesStatus, Made};
+    ghost use Rattle.g1_history.specs.{RefusesBy, layout_in, IsAsked, MadeAsked};
 
     /// Returns the place that a slot refers to, or `None` if it is null, and enters the call. One
     /// slot is read.

@@ -1,6 +1,6 @@
 //! Redirects that are entered in the history.
-ghost use Rattle.std.specs.Prelude.{◌≡◌, ◌≢◌, ◌<◌, IfOk};
-ghost use Rattle.g1_core.specs.Calls.{redirect_refined};
+ghost use Rattle.std.specs.Prelude.{◌≡◌, ◌≢◌, ◌<◌};
+ghost use Rattle.g1_history.specs.{IfOk, redirect_refined};
 
 use crate::book::Book;
 use crate::keeps::Keeps;
@@ -10,8 +10,7 @@ use g1_core::{Call, CardList, Redirected, Reply};
 use g1_layout::Region;
 
 impl<H: Keeps> Book<H> {
-    ghost use Rattle.g1_core.specs.Calls.{redirect_entry, DoesRedirect};
-    ghost use Rattle.g1_history.specs.History.{Made, RefusesBy, layout_in};
+    ghost use Rattle.g1_history.specs.{redirect_entry, DoesRedirect, Made, RefusesBy, layout_in};
 
     /// Makes each slot outside `from` that refers into it refer to the same offset of `to`, as the
     /// core does, and enters the call (docs/rules.md, Redirect).

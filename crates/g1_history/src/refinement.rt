@@ -1,6 +1,6 @@
 //! Refinements that are entered in the history.
-ghost use Rattle.std.specs.Prelude.{◌≡◌, ◌≤◌, IfOk, option_map};
-ghost use Rattle.g1_history.specs.History.{cards_in};
+ghost use Rattle.std.specs.Prelude.{◌≡◌, ◌≤◌};
+ghost use Rattle.g1_history.specs.{IfOk, option_map, cards_in};
 
 use crate::book::Book;
 use crate::keeps::Keeps;
@@ -10,8 +10,7 @@ use g1_core::{Call, RefineReply, Reply};
 use g1_log::Buffer;
 
 impl<H: Keeps> Book<H> {
-    ghost use Rattle.g1_core.specs.Calls.{refine_entry, DoesRefine};
-    ghost use Rattle.g1_history.specs.History.{Made, RefusesBy};
+    ghost use Rattle.g1_history.specs.{refine_entry, DoesRefine, Made, RefusesBy};
 
     /// Refines a buffer, as the core does, and enters the call: the buffer's cards take their
     /// turns, oldest first. `None` refines nothing, and is entered too (docs/rules.md,

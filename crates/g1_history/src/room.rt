@@ -1,9 +1,8 @@
 //! Room for the lists of an entry, which is made before the call, and the entry in it. Where no
 //! entries are kept, no room is made and no list is copied.
-ghost use Rattle.std.specs.Prelude.{◌≡◌, ◌≤◌, ◌<◌, true, false, [], length, IfOk, vec_len};
-ghost use Rattle.std.specs.Prelude.{vec_capacity};
+ghost use Rattle.std.specs.Prelude.{◌≡◌, ◌≤◌, ◌<◌};
+ghost use Rattle.g1_history.specs.{true, false, [], length, IfOk, vec_len, vec_capacity, past_with};
 ghost use Rattle.std.specs.FinSet as set;
-ghost use Rattle.g1_history.specs.History.{past_with};
 
 use crate::keeps::Keeps;
 use g1_core::{Call, CardList, Core, Reply};

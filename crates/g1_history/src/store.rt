@@ -1,7 +1,7 @@
 //! Stores of references that are entered in the history.
-ghost use Rattle.std.specs.Prelude.{◌≡◌, ◌<◌, [], false, IfOk, OnErr, IfSome, IsNone};
-ghost use Rattle.g1_layout.specs.Shape.{slot_count, card_of};
-ghost use Rattle.g1_history.specs.History.{past_with};
+ghost use Rattle.std.specs.Prelude.{◌≡◌, ◌<◌};
+ghost use Rattle.g1_history.specs.{[], false, IfOk, OnErr, IfSome, IsNone, slot_count, card_of};
+ghost use Rattle.g1_history.specs.{past_with};
 
 use crate::book::Book;
 use crate::keeps::Keeps;
@@ -12,8 +12,7 @@ use g1_log::{Buffer, Log};
 use std::alloc::Global;
 
 impl<H: Keeps> Book<H> {
-    ghost use Rattle.g1_core.specs.Calls.{store_entry, DoesStore, IsLent};
-    ghost use Rattle.g1_history.specs.History.{Made, RefusesBy, layout_in};
+    ghost use Rattle.g1_history.specs.{store_entry, DoesStore, IsLent, Made, RefusesBy, layout_in};
 
     /// Stores a reference, or null, with the given log, as the core does, and enters the call
     /// (docs/rules.md, The barrier).

@@ -1,14 +1,6 @@
 -- A pass with all rights ends the line, and what is left in it is known.
-use Rattle.std.proofs.Common.{◌≡◌, ℕ, true, false, List, [], ◌∷◌, ◌++◌, set, get_or, sym, refl, ap, ◌∙◌, subst, sum_by, arith}
-use Rattle.std.proofs.lemmas.List.Sums.{sum_by-cons}
-use Rattle.std.proofs.lemmas.List.Elements.{All-cons}
-use mathlib.Core.Option.{some}
-use lib.ListN.{get_elem?}
-use Rattle.crossbeam_queue.specs.Fifo.{Pops, Learns}
-use Rattle.g1_log.specs.declared.parcel.Parcel.{Parcel}
-use Rattle.g1_log.specs.declared.view.Sent.{Sent}
-use Rattle.g1_log.specs.declared.view.View.{View}
-use Rattle.g1_log.specs.Line.{numbered, put_weight, taken_weight, holding, Rises, whole, IsDelivered, with_keeper, IsLineState, IsLeft, ended_view}
+use Rattle.std.specs.Prelude.{◌≡◌, ◌∷◌, ◌++◌}
+use Rattle.g1_log.specs.{ℕ, true, false, List, [], set, get_or, sym, refl, ap, ◌∙◌, subst, sum_by, arith, sum_by-cons, All-cons, some, get_elem?, Pops, Learns, Parcel, Sent, View, numbered, put_weight, taken_weight, holding, Rises, whole, IsDelivered, with_keeper, IsLineState, IsLeft, ended_view}
 use Rattle.g1_log.proofs.Sums.{at_most_total, only}
 use Rattle.g1_log.proofs.Parcels.{rises_without}
 use Rattle.g1_log.proofs.Views.{read_set, read_at}

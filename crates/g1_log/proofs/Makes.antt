@@ -1,12 +1,7 @@
 -- The ends that a line is made with.
-use Rattle.std.proofs.Common.{◌≡◌, ℕ, ◌+◌, ◌<◌, List, [], ◌∷◌, ◌++◌, length, sym, ap, subst, arith}
-use Rattle.crossbeam_queue.specs.Fifo.{Forks}
-use Rattle.crossbeam_queue.specs.Passes.{view, IsPassOf}
-use Rattle.g1_log.specs.declared.view.View.{View}
+use Rattle.std.specs.Prelude.{◌≡◌, ◌+◌, ◌<◌, ◌∷◌, ◌++◌}
+use Rattle.g1_log.specs.{ℕ, List, [], length, sym, ap, subst, arith, Forks, view, IsPassOf, View, Sender, IsLineState, maker, sender_made, new_sender, taker_made, new_taker, newcomer, keeper, put_by, IsNewSender, AreNewSenders}
 use Rattle.g1_log.specs.declared.line.Line.{Line}
-use Rattle.g1_log.specs.declared.ends.Sender.{Sender}
-use Rattle.g1_log.specs.Line.{IsLineState, maker, sender_made, new_sender, taker_made, new_taker, newcomer, keeper, put_by}
-use Rattle.g1_log.specs.Ends.{IsNewSender, AreNewSenders}
 use Rattle.g1_log.proofs.Passing.{makes_sender, makes_taker, opens}
 
 pub AreNewSenders-push : (line : Line) (k : ℕ) (ss : List Sender) (j : ℕ) (s : Sender) → j ≡ k + length ss → AreNewSenders line k ss → IsNewSender line j s → AreNewSenders line k (ss ++ s ∷ [])

@@ -1,15 +1,6 @@
 -- Two passes made one keep the rule of the line.
-use Rattle.std.proofs.Common.{◌≡◌, ◌≢◌, ℕ, zero, suc, ◌<◌, ◌⊎◌, false, true≢false, ◌==◌, cond, List, [], ◌∷◌, ◌++◌, set, sym, refl, ap, ◌∙◌, subst, ⊎_elim, sum_by, arith}
-use Rattle.std.proofs.lemmas.List.Sums.{sum_by-append}
-use Rattle.std.proofs.lemmas.List.Elements.{All-nil, All-append}
-use mathlib.Core.Option.{some, some-injective, some-ne-none}
-use lib.ListN.{get_elem?}
-use Rattle.crossbeam_queue.specs.Fifo.{Merges}
-use Rattle.crossbeam_queue.proofs.Lists.{at_set, set_else}
-use Rattle.g1_log.specs.declared.parcel.Parcel.{Parcel}
-use Rattle.g1_log.specs.declared.view.Sent.{Sent}
-use Rattle.g1_log.specs.declared.view.View.{View}
-use Rattle.g1_log.specs.Line.{one_if, numbered, put_weight, taken_weight, holding, Rises, whole, Fits, IsDelivered, newcomer, keeper, with_keeper, IsLineState, joined, spent}
+use Rattle.std.specs.Prelude.{◌≡◌, ◌≢◌, ◌<◌, ◌⊎◌, ◌==◌, ◌∷◌, ◌++◌}
+use Rattle.g1_log.specs.{ℕ, zero, suc, false, true≢false, cond, List, [], set, sym, refl, ap, ◌∙◌, subst, ⊎_elim, sum_by, arith, sum_by-append, All-nil, All-append, some, some-injective, some-ne-none, get_elem?, Merges, at_set, set_else, Parcel, Sent, View, one_if, numbered, put_weight, taken_weight, holding, Rises, whole, Fits, IsDelivered, newcomer, keeper, with_keeper, IsLineState, joined, spent}
 use Rattle.g1_log.proofs.Sums.{total_set, two_at_most_total}
 use Rattle.g1_log.proofs.Views.{read_set, read_at}
 

@@ -1,14 +1,6 @@
 -- The rule of the line, parcel by parcel.
-use Rattle.std.proofs.Common.{◌≡◌, ◌≢◌, ℕ, ◌+◌, ◌<◌, Bool, ◌==◌, List, [], ◌∷◌, ◌++◌, length, get_or, refl, ap, ◌∙◌, sum_by, arith}
-use Rattle.std.specs.List.{All}
-use Rattle.std.proofs.lemmas.List.Sums.{sum_by-cons}
-use Rattle.std.proofs.lemmas.Bool.Decides.{nat_tests}
-use Rattle.g1_log.specs.declared.buffer.Buffer.{Buffer}
-use Rattle.g1_log.specs.declared.parcel.Parcel.{Parcel}
-use Rattle.g1_log.specs.declared.view.Sent.{Sent}
-use Rattle.g1_log.specs.declared.view.View.{View}
-use Rattle.g1_log.specs.Line.{one_if, parcel, numbered, put_weight, taken_weight, holding, put_by, IsDelivered}
-use Rattle.g1_log.specs.Once.{named, senders_numbered, EachOnce, NoOther, NoStranger, EachParcelStandsOnce}
+use Rattle.std.specs.Prelude.{◌≡◌, ◌≢◌, ◌+◌, ◌<◌, ◌==◌, ◌∷◌, ◌++◌}
+use Rattle.g1_log.specs.{ℕ, Bool, List, [], length, get_or, refl, ap, ◌∙◌, sum_by, arith, All, sum_by-cons, nat_tests, Buffer, Parcel, Sent, View, one_if, parcel, numbered, put_weight, taken_weight, holding, put_by, IsDelivered, named, senders_numbered, EachOnce, NoOther, NoStranger, EachParcelStandsOnce}
 use Rattle.g1_log.proofs.Sums.{at_most_total, all_none, none_too, only}
 use Rattle.g1_log.proofs.Parcels.{over, over_none, test_none}
 use Rattle.g1_log.proofs.Putting.{one_view, queue_none_over, taken_none_over}

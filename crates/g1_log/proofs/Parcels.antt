@@ -1,14 +1,6 @@
 -- Parcels whose numbers rise, and those of a sender.
-use Rattle.std.proofs.Common.{◌≡◌, ◌≢◌, ℕ, suc, ◌+◌, ◌<◌, ◌≤◌, ◌&&◌, ◌==◌, nat_lt, not, List, [], ◌∷◌, ◌++◌, length, sym, refl, ap, ◌∙◌, sum_by, arith}
-use Rattle.std.specs.List.{All}
-use Rattle.std.proofs.lemmas.List.Sums.{sum_by-cons}
-use Rattle.std.proofs.lemmas.List.Elements.{All-nil, All-cons, All-head, All-tail, All-push}
-use Rattle.std.proofs.lemmas.Bool.Decides.{nat_tests}
-use Rattle.g1_log.specs.declared.buffer.Buffer.{Buffer}
-use Rattle.g1_log.specs.declared.parcel.Parcel.{Parcel}
-use Rattle.g1_log.specs.declared.view.Sent.{Sent}
-use Rattle.g1_log.specs.declared.view.View.{View}
-use Rattle.g1_log.specs.Line.{one_if, parcel, numbered, put_weight, holding, Rises}
+use Rattle.std.specs.Prelude.{◌≡◌, ◌≢◌, ◌+◌, ◌<◌, ◌≤◌, ◌&&◌, ◌==◌, ◌∷◌, ◌++◌}
+use Rattle.g1_log.specs.{ℕ, suc, nat_lt, not, List, [], length, sym, refl, ap, ◌∙◌, sum_by, arith, All, sum_by-cons, All-nil, All-cons, All-head, All-tail, All-push, nat_tests, Buffer, Parcel, Sent, View, one_if, parcel, numbered, put_weight, holding, Rises}
 use Rattle.g1_log.proofs.Sums.{none_too}
 
 -- Parcels whose numbers rise

@@ -1,15 +1,6 @@
 -- A new pass keeps the rule of the line.
-use Rattle.std.proofs.Common.{◌≡◌, ◌≢◌, ℕ, zero, suc, ◌+◌, ◌<◌, ◌≤◌, true, true≢false, ◌&&◌, ◌==◌, nat_lt, not, cond, List, [], ◌∷◌, ◌++◌, set, sym, refl, ap, ◌∙◌, subst, ⊎_elim, arith}
-use Rattle.std.proofs.lemmas.List.Sums.{sum_by_push}
-use Rattle.std.proofs.lemmas.List.Elements.{All-nil, All-cons}
-use Rattle.std.proofs.lemmas.Bool.Decides.{nat_tests}
-use mathlib.Core.Option.{some, some-injective, some-ne-none}
-use lib.ListN.{get_elem?}
-use Rattle.crossbeam_queue.specs.Fifo.{Forks, Admits}
-use Rattle.crossbeam_queue.proofs.Lists.{at_set, at_snoc}
-use Rattle.g1_log.specs.declared.parcel.Parcel.{Parcel}
-use Rattle.g1_log.specs.declared.view.View.{View}
-use Rattle.g1_log.specs.Line.{one_if, put_weight, taken_weight, holding, Rises, whole, Fits, IsDelivered, newcomer, keeper, with_keeper, IsLineState, maker, sender_made, new_sender, taker_made, new_taker}
+use Rattle.std.specs.Prelude.{◌≡◌, ◌≢◌, ◌+◌, ◌<◌, ◌≤◌, ◌&&◌, ◌==◌, ◌∷◌, ◌++◌}
+use Rattle.g1_log.specs.{ℕ, zero, suc, true, true≢false, nat_lt, not, cond, List, [], set, sym, refl, ap, ◌∙◌, subst, ⊎_elim, arith, sum_by_push, All-nil, All-cons, nat_tests, some, some-injective, some-ne-none, get_elem?, Forks, Admits, at_set, at_snoc, Parcel, View, one_if, put_weight, taken_weight, holding, Rises, whole, Fits, IsDelivered, newcomer, keeper, with_keeper, IsLineState, maker, sender_made, new_sender, taker_made, new_taker}
 use Rattle.g1_log.proofs.Sums.{total_set}
 use Rattle.g1_log.proofs.Views.{read_set, read_at, read_snoc, one_if_le, set_there}
 

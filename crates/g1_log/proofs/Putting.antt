@@ -1,18 +1,6 @@
 -- A put keeps the rule of the line.
-use Rattle.std.proofs.Common.{◌≡◌, ◌≢◌, ℕ, ◌+◌, ◌<◌, true, false, true≢false, ◌&&◌, ◌==◌, nat_lt, not, List, [], ◌∷◌, ◌++◌, length, set, get_or, sym, refl, ap, ◌∙◌, subst, ⊎_elim, append_assoc, sum_by, arith}
-use Rattle.std.specs.List.{All}
-use Rattle.std.proofs.lemmas.List.Sums.{sum_by-append, sum_by_push}
-use Rattle.std.proofs.lemmas.List.Elements.{All-nil}
-use Rattle.std.proofs.lemmas.Bool.Decides.{nat_tests}
-use mathlib.Core.Option.{some}
-use lib.ListN.{get_elem?}
-use Rattle.crossbeam_queue.specs.Fifo.{Pushes, Learns}
-use Rattle.crossbeam_queue.proofs.Lists.{at_set}
-use Rattle.g1_log.specs.declared.buffer.Buffer.{Buffer}
-use Rattle.g1_log.specs.declared.parcel.Parcel.{Parcel}
-use Rattle.g1_log.specs.declared.view.Sent.{Sent}
-use Rattle.g1_log.specs.declared.view.View.{View}
-use Rattle.g1_log.specs.Line.{one_if, parcel, numbered, put_weight, taken_weight, holding, Rises, Fits, IsDelivered, with_keeper, IsLineState, SeenBy, put_by, IsSenderView, after_put}
+use Rattle.std.specs.Prelude.{◌≡◌, ◌≢◌, ◌+◌, ◌<◌, ◌&&◌, ◌==◌, ◌∷◌, ◌++◌}
+use Rattle.g1_log.specs.{ℕ, true, false, true≢false, nat_lt, not, List, [], length, set, get_or, sym, refl, ap, ◌∙◌, subst, ⊎_elim, append_assoc, sum_by, arith, All, sum_by-append, sum_by_push, All-nil, nat_tests, some, get_elem?, Pushes, Learns, at_set, Buffer, Parcel, Sent, View, one_if, parcel, numbered, put_weight, taken_weight, holding, Rises, Fits, IsDelivered, with_keeper, IsLineState, SeenBy, put_by, IsSenderView, after_put}
 use Rattle.g1_log.proofs.Sums.{total_set, at_most_total, two_at_most_total, all_none, only}
 use Rattle.g1_log.proofs.Parcels.{rises_push, numbered_push, over, over_none, numbered_below, view_other}
 use Rattle.g1_log.proofs.Views.{read_set, read_at}

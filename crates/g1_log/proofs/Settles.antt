@@ -1,17 +1,6 @@
 -- What the views of all senders and takers, joined, have put and taken.
-use Rattle.std.proofs.Common.{◌≡◌, ◌==◌, ℕ, suc, ◌+◌, ◌<◌, ◌≤◌, ◌⊎◌, inl, inr, true, false, List, [], ◌∷◌, ◌++◌, length, get_or, map, fold, Option, Some, None, MatchOption, IfSome, refl, ap, ◌∙◌, subst, ⊎_elim, sum_by, arith}
-use Rattle.std.specs.List.{All}
-use Rattle.std.proofs.lemmas.List.Sums.{sum_by-cons, sum_by-append}
-use Rattle.std.proofs.lemmas.List.Elements.{All-nil, All-cons, All-head, All-tail}
-use Rattle.g1_log.specs.declared.parcel.Parcel.{Parcel}
-use Rattle.g1_log.specs.declared.view.Sent.{Sent}
-use Rattle.g1_log.specs.declared.view.View.{View}
-use Rattle.crossbeam_queue.specs.Fifo.{Held}
-use Rattle.g1_log.specs.declared.buffer.Buffer.{Buffer}
-use Rattle.g1_log.specs.declared.ends.Sender.{Sender}
-use Rattle.g1_log.specs.declared.ends.Taker.{Taker}
-use Rattle.g1_log.specs.Line.{one_if, numbered, put_weight, taken_weight, put_by, taken_by, Rises, newcomer, joined, ended_view, IsLeft, whole}
-use Rattle.g1_log.specs.Ends.{sender_view, taker_view, sender_rights, AreAll, ahead_and, put_of, taken_of, number_of}
+use Rattle.std.specs.Prelude.{◌≡◌, ◌==◌, ◌+◌, ◌<◌, ◌≤◌, ◌⊎◌, ◌∷◌, ◌++◌}
+use Rattle.g1_log.specs.{ℕ, suc, inl, inr, true, false, List, [], length, get_or, map, fold, Option, Some, None, MatchOption, IfSome, refl, ap, ◌∙◌, subst, ⊎_elim, sum_by, arith, All, sum_by-cons, sum_by-append, All-nil, All-cons, All-head, All-tail, Parcel, Sent, View, Held, Buffer, Sender, Taker, one_if, numbered, put_weight, taken_weight, put_by, taken_by, Rises, newcomer, joined, ended_view, IsLeft, whole, sender_view, taker_view, sender_rights, AreAll, ahead_and, put_of, taken_of, number_of}
 
 pub sum_by-map : {X Y : Type 0} (f : Y → ℕ) (g : X → Y) (xs : List X) → sum_by f (map g xs) ≡ sum_by (λ x. f (g x)) xs
 sum_by-map f g [] = refl

@@ -1,15 +1,6 @@
 -- A take keeps the rule of the line.
-use Rattle.std.proofs.Common.{◌≡◌, ◌≢◌, ℕ, ◌+◌, ◌<◌, Bool, true, true≢false, List, [], ◌∷◌, ◌++◌, set, get_or, sym, refl, ap, ◌∙◌, subst, ⊎_elim, append_assoc, sum_by, arith}
-use Rattle.std.specs.List.{All}
-use Rattle.std.proofs.lemmas.List.Sums.{sum_by-cons, sum_by_push}
-use Rattle.std.proofs.lemmas.List.Elements.{All-nil, All-cons, All-head}
-use mathlib.Core.Option.{some}
-use lib.ListN.{get_elem?}
-use Rattle.crossbeam_queue.specs.Fifo.{Pops}
-use Rattle.crossbeam_queue.proofs.Lists.{at_set}
-use Rattle.g1_log.specs.declared.parcel.Parcel.{Parcel}
-use Rattle.g1_log.specs.declared.view.View.{View}
-use Rattle.g1_log.specs.Line.{put_weight, taken_weight, holding, Rises, whole, Fits, IsDelivered, view_with, with_keeper, IsLineState, taken_by, IsTakerView, after_take}
+use Rattle.std.specs.Prelude.{◌≡◌, ◌≢◌, ◌+◌, ◌<◌, ◌∷◌, ◌++◌}
+use Rattle.g1_log.specs.{ℕ, Bool, true, true≢false, List, [], set, get_or, sym, refl, ap, ◌∙◌, subst, ⊎_elim, append_assoc, sum_by, arith, All, sum_by-cons, sum_by_push, All-nil, All-cons, All-head, some, get_elem?, Pops, at_set, Parcel, View, put_weight, taken_weight, holding, Rises, whole, Fits, IsDelivered, view_with, with_keeper, IsLineState, taken_by, IsTakerView, after_take}
 use Rattle.g1_log.proofs.Sums.{total_set}
 use Rattle.g1_log.proofs.Parcels.{rises_without}
 use Rattle.g1_log.proofs.Views.{read_set, read_at}

@@ -1,9 +1,6 @@
 -- The views of the passes, with the first one as the keeper.
-use Rattle.std.proofs.Common.{◌≡◌, ℕ, zero, suc, ◌≤◌, Bool, true, false, cond, List, [], ◌∷◌, ◌++◌, set, sym, refl, ap, ◌∙◌, arith}
-use mathlib.Core.Option.{some, some-injective, some-ne-none}
-use lib.ListN.{get_elem?}
-use Rattle.g1_log.specs.declared.view.View.{View}
-use Rattle.g1_log.specs.Line.{one_if, keeper, with_keeper}
+use Rattle.std.specs.Prelude.{◌≡◌, ◌≤◌, ◌∷◌, ◌++◌}
+use Rattle.g1_log.specs.{ℕ, zero, suc, Bool, true, false, cond, List, [], set, sym, refl, ap, ◌∙◌, arith, some, some-injective, some-ne-none, get_elem?, View, one_if, keeper, with_keeper}
 
 pub read_set : (views : List View) (port : ℕ) (w : View) → w.fresh ≡ false → with_keeper (set views port w) ≡ set (with_keeper views) port w
 read_set [] port w e = refl

@@ -1,7 +1,8 @@
 -- What contracts see of the completed buffers of one thread: the cards of each, oldest buffer
 -- first.
-use Rattle.std.specs.Prelude.{ℕ, List, [], ◌∷◌, ◌++◌, ◌≤◌, drop, length, refl}
-use Rattle.std.specs.Coded.{Coded, code_by, coded×, coded_ℕ, coded_list}
+use Rattle.std.specs.Prelude.{◌∷◌, ◌++◌, ◌≤◌}
+use Rattle.g1_log.specs.Prelude.{ℕ, List, [], drop, length, refl, Coded, code_by, coded×, coded_ℕ}
+use Rattle.g1_log.specs.Prelude.{coded_list}
 
 pub record Completed : Type 0 where
   pub limit : ℕ  -- how many buffers there may be

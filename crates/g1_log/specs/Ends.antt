@@ -1,10 +1,8 @@
 -- The line and its ends, as contracts speak of them.
-use Rattle.std.specs.Prelude.{◌≡◌, ◌≤◌, ◌==◌, Option, Some, None, ℕ, ◌+◌, List, [], ◌∷◌, ◌++◌}
-use Rattle.std.specs.Prelude.{length, sum_by}
-use Rattle.std.specs.List.{All}
+use Rattle.std.specs.Prelude.{◌≡◌, ◌≤◌, ◌==◌, ◌+◌, ◌∷◌, ◌++◌}
+use Rattle.g1_log.specs.Prelude.{Option, Some, None, ℕ, List, [], length, sum_by, All, Held, view}
+use Rattle.g1_log.specs.Prelude.{ruled_capacity}
 use Rattle.atomic_table.specs.Seated.{TableId}
-use Rattle.crossbeam_queue.specs.Fifo.{Held}
-use Rattle.crossbeam_queue.specs.Passes.{view, ruled_capacity}
 use Rattle.g1_log.specs.declared.line.Line.{Line}
 use Rattle.g1_log.specs.declared.ends.Sender.{Sender}
 use Rattle.g1_log.specs.declared.ends.Taker.{Taker}

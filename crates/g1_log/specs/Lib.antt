@@ -1,5 +1,19 @@
+-- The root passes on what its modules have and what stands in Prelude.
+pub mod Prelude
 pub mod Done
 pub mod Ends
 pub mod Line
 pub mod Log
 pub mod Once
+pub use Prelude.*
+pub use Done.*
+pub use Ends.*
+pub use Line.*
+pub use Log.*
+pub use Once.*
+pub use declared.buffer.Buffer.{Buffer}
+pub use declared.ends.Sender.{Sender}
+pub use declared.ends.Taker.{Taker}
+pub use declared.parcel.Parcel.{Parcel}
+pub use declared.view.Sent.{Sent}
+pub use declared.view.View.{View}

@@ -1,10 +1,8 @@
 -- The rule of the line of completed buffers. A state is what the queue holds, oldest first, and a
 -- view for each pass.
-use Rattle.std.specs.Prelude.{◌≡◌, ℕ, ◌+◌, ◌-◌, ◌<◌, ◌≤◌, Bool, true, false, ◌&&◌, ◌==◌, nat_lt}
-use Rattle.std.specs.Prelude.{not, cond, List, [], ◌∷◌, ◌++◌, sum_by}
-use Rattle.std.specs.List.{All}
-use mathlib.Core.Option.{some}
-use lib.ListN.{get_elem?}
+use Rattle.std.specs.Prelude.{◌≡◌, ◌+◌, ◌-◌, ◌<◌, ◌≤◌, ◌&&◌, ◌==◌, ◌∷◌, ◌++◌}
+use Rattle.g1_log.specs.Prelude.{ℕ, Bool, true, false, nat_lt, not, cond, List, [], sum_by, All}
+use Rattle.g1_log.specs.Prelude.{some, get_elem?}
 use Rattle.g1_log.specs.declared.buffer.Buffer.{Buffer}
 use Rattle.g1_log.specs.declared.parcel.Parcel.{Parcel}
 use Rattle.g1_log.specs.declared.view.Sent.{Sent}

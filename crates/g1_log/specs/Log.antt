@@ -1,7 +1,7 @@
 -- What contracts see of a log: its cards, oldest first.
-use Rattle.std.specs.Prelude.{ℕ, List, [], ◌∷◌, ◌++◌, ◌+◌, ◌≤◌, ◌<◌, Option, Some, None, length}
-use Rattle.std.specs.Prelude.{nat_lt, if◌then◌else◌, refl}
-use Rattle.std.specs.Coded.{Coded, code_by, coded×, coded_ℕ, coded_list}
+use Rattle.std.specs.Prelude.{◌∷◌, ◌++◌, ◌+◌, ◌≤◌, ◌<◌, if◌then◌else◌}
+use Rattle.g1_log.specs.Prelude.{ℕ, List, [], Option, Some, None, length, nat_lt, refl, Coded}
+use Rattle.g1_log.specs.Prelude.{code_by, coded×, coded_ℕ, coded_list}
 
 pub record Cards : Type 0 where
   pub size : ℕ  -- how many cards fill the log

@@ -1,9 +1,6 @@
 -- What the rule of the line says of each single parcel.
-use Rattle.std.specs.Prelude.{◌≡◌, ◌≢◌, ℕ, ◌+◌, ◌<◌, Bool, ◌&&◌, ◌==◌, List, ◌∷◌, ◌++◌, length}
-use Rattle.std.specs.Prelude.{sum_by}
-use Rattle.std.specs.List.{All}
-use mathlib.Core.Option.{some}
-use lib.ListN.{get_elem?}
+use Rattle.std.specs.Prelude.{◌≡◌, ◌≢◌, ◌+◌, ◌<◌, ◌&&◌, ◌==◌, ◌∷◌, ◌++◌}
+use Rattle.g1_log.specs.Prelude.{ℕ, Bool, List, length, sum_by, All, some, get_elem?}
 use Rattle.g1_log.specs.declared.buffer.Buffer.{Buffer}
 use Rattle.g1_log.specs.declared.parcel.Parcel.{Parcel}
 use Rattle.g1_log.specs.declared.view.Sent.{Sent}

@@ -1,5 +1,6 @@
 //! Completed buffers.
-ghost use Rattle.std.specs.Prelude.{◌≡◌, ◌≤◌, length, drop};
+ghost use Rattle.std.specs.Prelude.{◌≡◌, ◌≤◌};
+ghost use Rattle.g1_log.specs.Prelude.{length, drop};
 
 use arrayvec::ArrayVec;
 use g1_layout::Card;
@@ -17,7 +18,8 @@ pub struct Buffer {
 }
 
 impl Model for Buffer {
-    ghost use Rattle.std.specs.Prelude.{List, ℕ, ◌≤◌, length};
+    ghost use Rattle.std.specs.Prelude.{◌≤◌};
+    ghost use Rattle.g1_log.specs.Prelude.{List, ℕ, length};
 
     ghost Value = { List ℕ };
 

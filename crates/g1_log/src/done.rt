@@ -1,6 +1,7 @@
 //! The completed buffers of one thread.
-ghost use Rattle.std.specs.Prelude.{◌≡◌, ◌≤◌, ◌↔◌, [], length, drop, slice_get, Err, IsTrue};
-ghost use Rattle.std.specs.Prelude.{IsSomeAnd, IfErr, OnOk};
+ghost use Rattle.std.specs.Prelude.{◌≡◌, ◌≤◌, ◌↔◌};
+ghost use Rattle.g1_log.specs.Prelude.{[], length, drop, slice_get, Err, IsTrue, IsSomeAnd, IfErr};
+ghost use Rattle.g1_log.specs.Prelude.{OnOk};
 ghost use Rattle.std.specs.Option.{option_copied};
 ghost use Rattle.g1_log.specs.Done.{Completed, IsCompleted, added, oldest_cut};
 

@@ -1,7 +1,7 @@
 //! The ends of the queue of completed buffers, and the queue once it is settled.
-ghost use Rattle.std.specs.Prelude.{◌≡◌, true, false, [], ◌≤◌, ◌^◌, length, IfSome};
+ghost use Rattle.std.specs.Prelude.{◌≡◌, ◌≤◌, ◌^◌};
+ghost use Rattle.g1_log.specs.Prelude.{true, false, [], length, IfSome, view, IsPassOf};
 ghost use Rattle.std.proofs.Props.{props};
-ghost use Rattle.crossbeam_queue.specs.Passes.{view, IsPassOf};
 ghost use Rattle.g1_log.specs.Line.{put_by, IsSenderView, IsTakerView};
 
 use crate::parcel::Parcel;

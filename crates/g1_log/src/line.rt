@@ -1,9 +1,8 @@
 //! The queue of completed buffers between threads.
-ghost use Rattle.std.specs.Prelude.{◌≡◌, false, ◌∷◌, ◌++◌, [], ◌+◌, ◌-◌, ◌<◌, ◌≤◌, ◌^◌, ◌⊎◌};
-ghost use Rattle.std.specs.Prelude.{length, map, fold, sum_by, MatchResult, MatchOption, IfOk};
-ghost use Rattle.std.specs.Prelude.{OnOk, IsTrue};
-ghost use Rattle.std.specs.List.{All};
-ghost use Rattle.crossbeam_queue.specs.Passes.{view, IsPassOf, IsSamePass, ruled_capacity};
+ghost use Rattle.std.specs.Prelude.{◌≡◌, ◌∷◌, ◌++◌, ◌+◌, ◌-◌, ◌<◌, ◌≤◌, ◌^◌, ◌⊎◌};
+ghost use Rattle.g1_log.specs.Prelude.{false, [], length, map, fold, sum_by, MatchResult};
+ghost use Rattle.g1_log.specs.Prelude.{MatchOption, IfOk, OnOk, IsTrue, All, view, IsPassOf};
+ghost use Rattle.g1_log.specs.Prelude.{IsSamePass, ruled_capacity};
 ghost use Rattle.g1_log.specs.Line.{maker, newcomer, joined, whole};
 
 use crate::buffer::Buffer;

@@ -1,6 +1,6 @@
 //! Dirty card queues.
-ghost use Rattle.std.specs.Prelude.{◌≡◌, ◌+◌, ◌<◌, ◌≤◌, ◌↔◌, [], length, drop, IsTrue, IsNone};
-ghost use Rattle.std.specs.Prelude.{IfSome};
+ghost use Rattle.std.specs.Prelude.{◌≡◌, ◌+◌, ◌<◌, ◌≤◌, ◌↔◌};
+ghost use Rattle.g1_log.specs.Prelude.{[], length, drop, IsTrue, IsNone, IfSome};
 ghost use Rattle.g1_log.specs.Log.{Cards, IsLog, pushed, handed};
 
 use crate::buffer::Buffer;

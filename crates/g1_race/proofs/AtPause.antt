@@ -1,21 +1,6 @@
 -- The seat of a pause.
-use Rattle.std.proofs.Common.{◌≡◌, ◌≢◌, ◌⊎◌, ℕ, ◌<◌, List, [], set, length, length-set, true, sym, ap, ◌∙◌, subst, inl, inr, ⊎_elim, arith}
-use mathlib.Core.Option.{some}
-use native.Mathlib.Decide.{ℕ_discrete}
-use lib.ListN.{get_elem?}
-use Rattle.atomic_table.proofs.Lists.{at_set, set_else, set_here}
-use Rattle.atomic_table.specs.Table.{Me}
-use Rattle.atomic_table.specs.declared.shared.Seat.{Seat}
-use Rattle.g1_race_words.specs.declared.view.Shape.{Shape}
-use Rattle.g1_race_words.specs.declared.view.View.{View}
-use Rattle.g1_race_words.specs.Rule.{IsWord, IsBegun, IsFlagged, IsMarked, HasBit, flag, mark_word, slot_card, region_at, crosses, started}
-use Rattle.g1_race_words.specs.Steps.{frozen_seat}
-use Rattle.g1_race_words.specs.Seats.{IsPaused}
-use Rattle.atomic_table.specs.Seated.{TableId}
-use Rattle.g1_race_words.proofs.PairBits.{SameBits, same_bits, bit_as}
-use Rattle.g1_race_words.proofs.Flags.{are_flagged}
-use Rattle.g1_race_words.proofs.CoverStores.{mark_apart}
-use Rattle.g1_race_words.proofs.Unchanged.{bounded_same, bounded_wrote, same_slots_at_mark}
+use Rattle.std.specs.Prelude.{◌≡◌, ◌≢◌, ◌⊎◌, ◌<◌}
+use Rattle.g1_race.specs.{ℕ, List, [], set, length, length-set, true, sym, ap, ◌∙◌, subst, inl, inr, ⊎_elim, arith, some, ℕ_discrete, get_elem?, at_set, set_else, set_here, Me, Seat, Shape, View, IsWord, IsBegun, IsFlagged, IsMarked, HasBit, flag, mark_word, slot_card, region_at, crosses, started, frozen_seat, IsPaused, TableId, SameBits, same_bits, bit_as, are_flagged, mark_apart, bounded_same, bounded_wrote, same_slots_at_mark}
 
 -- what a race can begin with stays so where a card is dirtied, and where a slot is written whose card is dirty if it must be
 

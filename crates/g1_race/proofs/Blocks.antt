@@ -1,16 +1,7 @@
 -- The pairs of a card with the regions that have some card of its block.
-use Rattle.std.proofs.Common.{◌≡◌, ℕ, zero, suc, ◌/◌, ◌<◌, not, true, false, List, [], ◌∷◌, ◌++◌, Contains, length, get_or, refl, sym, ap, ◌∙◌, subst, inl, inr, arith}
-use Rattle.std.specs.Int.{bit_at}
-use Rattle.std.specs.List.{flat_map}
-use Rattle.std.proofs.lemmas.Bool.{cases_Bool, eqb-true, true≢false}
+use Rattle.std.specs.Prelude.{◌≡◌, ◌/◌, ◌<◌, ◌∷◌, ◌++◌}
+use Rattle.g1_race.specs.{ℕ, zero, suc, not, true, false, List, [], Contains, length, get_or, refl, sym, ap, ◌∙◌, subst, inl, inr, arith, bit_at, flat_map, cases_Bool, eqb-true, true≢false, append-nil, Contains-get_or, bit_at-zero, Shape, bit_place, bit_word, pairs_of_card, block_regions, has_block, one_pair, pair_clear}
 use Rattle.std.proofs.lemmas.Grind.{flat_map-append}
-use Rattle.std.proofs.lemmas.List.{append-nil}
-use Rattle.std.proofs.lemmas.List.Elements.{Contains-get_or}
-use Rattle.std.proofs.lemmas.Nat.Bits.{bit_at-zero}
-use Rattle.g1_race_words.specs.declared.view.Shape.{Shape}
-use Rattle.g1_race_words.specs.Rule.{bit_place, bit_word, pairs_of_card}
-use Rattle.g1_race.specs.Telling.{block_regions, has_block}
-use Rattle.g1_race_words.proofs.Listing.{one_pair, pair_clear}
 use Rattle.g1_race.proofs.Telling.{left_out, listed_below, put_in}
 
 module _ (k : Shape) (words : List ℕ) (card : ℕ) where

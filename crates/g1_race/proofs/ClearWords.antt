@@ -1,35 +1,9 @@
 -- What a clear at a pause reads and does.
-use Rattle.std.proofs.Common.{◌≡◌, ◌≢◌, ℕ, ◌+◌, ◌-◌, ◌*◌, ◌/◌, ◌<◌, ◌≤◌, not, eqb, List, length, set, get_or, length-set, eq-eqb, Some, None, refl, sym, ap, ◌∙◌, subst, inl, inr, ⊎_elim, arith}
-use mathlib.Core.Option.{some}
-use native.Mathlib.Decide.{ℕ_discrete}
-use lib.ListN.{get_elem?}
-use Rattle.std.proofs.lemmas.Bool.{cases_eq, eqb-true, not-false}
-use Rattle.std.proofs.lemmas.List.{take-set-le, get_or-set_same, get_or-set_other}
-use Rattle.std.proofs.lemmas.Nat.{div-mul-add}
-use Rattle.std.specs.Int.{bit_at}
+use Rattle.std.specs.Prelude.{◌≡◌, ◌≢◌, ◌+◌, ◌-◌, ◌*◌, ◌/◌, ◌<◌, ◌≤◌}
+use Rattle.g1_race.specs.{ℕ, not, eqb, List, length, set, get_or, length-set, eq-eqb, Some, None, refl, sym, ap, ◌∙◌, subst, inl, inr, ⊎_elim, arith, some, ℕ_discrete, get_elem?, cases_eq, eqb-true, not-false, take-set-le, get_or-set_same, get_or-set_other, div-mul-add, bit_at, set_else, slot_count, Enters, Table, clear_entry, Shape, IsBegun, IsMarked, IsWholeShape, HasBit, bit_word, bit_place, slot_card, flag, front, mark_word, word_count, region_at, started, shape_of, ended, table_of, Clear, Cleared, Pending, StillReferenced, IsStep, settled, refined_none, none_refinable, Into, IsLeastInto, IsEmptied, marked_cards, no_bit, at_take, at_untake, reads_as, crosses_reference, card_below, card_in_row, crossing_pair, in_row, flag_card, word_in_row}
 use Rattle.std.specs.FinSet as fin
-use Rattle.atomic_table.proofs.Lists.{set_else}
 use Rattle.g1_layout.specs.Shape as layout
-use Rattle.g1_layout.specs.Shape.{slot_count}
-use Rattle.g1_core.specs.Table.{Enters, Table}
-use Rattle.g1_core.specs.Calls.{clear_entry}
-use Rattle.g1_race_words.specs.declared.view.Shape.{Shape}
-use Rattle.g1_race_words.specs.Rule.{IsBegun, IsMarked, IsWholeShape, HasBit, bit_word, bit_place, slot_card, flag, front, mark_word, word_count, region_at, started}
-use Rattle.g1_race.specs.Race.{shape_of}
-use Rattle.g1_race.specs.Over.{ended, table_of}
-use Rattle.g1_core.specs.declared.entry.Call.TheVariants.{Clear}
 use Rattle.g1_core.specs.declared.entry.Reply.TheVariants as reply
-use Rattle.g1_core.specs.declared.reply.ClearReply.TheVariants.{Cleared, Pending, StillReferenced}
-use Rattle.g1_core.specs.Run.{IsStep, settled}
-use Rattle.g1_core.proofs.RefinedLemmas.{refined_none}
-use Rattle.g1_core.proofs.StoreLemmas.{none_refinable}
-use Rattle.g1_race.specs.Clearing.{Into, IsLeastInto, IsEmptied}
-use Rattle.g1_race.specs.Telling.{marked_cards}
-use Rattle.g1_race_words.proofs.AtBeginning.{no_bit}
-use Rattle.g1_race_words.proofs.Places.{at_take, at_untake, reads_as}
-use Rattle.g1_race_words.proofs.Crossing.{crosses_reference}
-use Rattle.g1_race_words.proofs.PairBits.{card_below, card_in_row, crossing_pair, in_row}
-use Rattle.g1_race_words.proofs.Flags.{flag_card, word_in_row}
 use Rattle.g1_race.proofs.StoreCalls.{other_region}
 use Rattle.g1_race.proofs.Ends.{crosses_apart, word_back, word_refers}
 use Rattle.g1_race.proofs.ForgottenTable.{retained_is}

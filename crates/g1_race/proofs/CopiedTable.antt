@@ -1,31 +1,10 @@
 -- Words that have all of a core's table say that table.
-use Rattle.std.proofs.Common.{◌^◌, ◌≡◌, ◌≢◌, ℕ, suc, ◌+◌, ◌-◌, ◌<◌, ◌≤◌, eqb, List, [], ◌∷◌, length, take, get_or, Bool, true, false, Option, None, Some, refl, sym, ap, ◌∙◌, subst, inl, inr, ⊎_elim, arith}
-use mathlib.Core.Option.{some, some-injective}
-use lib.ListN.{get_elem?}
+use Rattle.std.specs.Prelude.{◌^◌, ◌≡◌, ◌≢◌, ◌+◌, ◌-◌, ◌<◌, ◌≤◌, ◌∷◌}
+use Rattle.g1_race.specs.{ℕ, suc, eqb, List, [], length, take, get_or, Bool, true, false, Option, None, Some, refl, sym, ap, ◌∙◌, subst, inl, inr, ⊎_elim, arith, some, some-injective, get_elem?, length-map, length-take-le, get_or_past, cases_lt, true≢false, slot_count, card_count, region_of, Table, State, IsSound, pending_of, marks_for, same_cards, same_pairs, in_pairs, to_pairs, pending_flag, Shape, In, IsWholeShape, IsPair, HasBit, mark_word, region_at, as_number, word_count, shape_of, word_of, Ended, ended, target_of_word, refs_of, marks_of, table_of, Notes, AreMarked, ArePlaced, AreCovered, zeros, zero_at, no_bit, zeros_read, within, crosses_reference, card_below, at_take, in_contains, contains_in, reads_as, listed_set, set_listed}
 use Rattle.std.specs.FinSet as set_of
-use Rattle.std.proofs.lemmas.List.{length-map, length-take-le, get_or_past}
-use Rattle.std.proofs.lemmas.Bool.{cases_lt, true≢false}
 use Rattle.g1_layout.specs.Shape as layout
-use Rattle.g1_layout.specs.Shape.{slot_count, card_count, region_of}
 use Rattle.g1_core.specs.Table as table
-use Rattle.g1_core.specs.Table.{Table}
-use Rattle.g1_core.specs.Machine.{State, IsSound, pending_of}
-use Rattle.g1_core.specs.Adoption.{marks_for}
-use Rattle.g1_core.proofs.SetLemmas.{same_cards, same_pairs, in_pairs, to_pairs}
-use Rattle.g1_core.proofs.AdoptionLemmas.{pending_flag}
-use Rattle.g1_race_words.specs.declared.view.Shape.{Shape}
-use Rattle.g1_race_words.specs.Rule.{In, IsWholeShape, IsPair, HasBit, mark_word, region_at, as_number, word_count}
-use Rattle.g1_race.specs.Race.{shape_of, word_of}
-use Rattle.g1_race.specs.Over.{Ended, ended, target_of_word, refs_of, marks_of, table_of}
-use Rattle.g1_race.specs.Refining.{Notes}
-use Rattle.g1_race.specs.Resumed.{AreMarked, ArePlaced, AreCovered}
-use Rattle.g1_race_words.proofs.AtBeginning.{zeros, zero_at, no_bit, zeros_read}
-use Rattle.g1_race_words.proofs.Plain.{within}
-use Rattle.g1_race_words.proofs.Crossing.{crosses_reference}
-use Rattle.g1_race_words.proofs.PairBits.{card_below}
 use Rattle.g1_race.proofs.StoreCalls.{word_fits}
-use Rattle.g1_race_words.proofs.Places.{at_take, in_contains, contains_in, reads_as}
-use Rattle.g1_race_words.proofs.Listing.{listed_set, set_listed}
 use Rattle.g1_race.proofs.Parts.{length_marks}
 use Rattle.g1_race.proofs.Ends.{refs_here, marks_here, word_target, crosses_apart, marked_pending}
 

@@ -1,15 +1,6 @@
 -- A range of slots that is copied, slot by slot.
-use Rattle.std.proofs.Common.{◌≡◌, ◌≢◌, ◌⊎◌, ℕ, suc, ◌+◌, ◌-◌, ◌<◌, ◌≤◌, ◌&&◌, ltb, leb, eqb, get_or, length, List, sym, ap, ◌∙◌, subst, inl, inr, arith, eq-eqb, ne_eqb}
-use mathlib.Core.Option.{some}
-use Rattle.std.proofs.lemmas.Bool.{and_from, and_left, and_right, cases_eq, cases_lt, le-leb, le-ltb, lt-leb, lt-ltb}
-use Rattle.g1_core.specs.Table.{target_of}
-use Rattle.g1_core.specs.Run.{stored}
-use Rattle.g1_core.specs.Copying.{copied}
-use Rattle.g1_core.proofs.CopyLemmas.{table_up, table_down}
-use Rattle.g1_race_words.proofs.Plain.{false_is, read_at, read_is, true_is}
-use Rattle.g1_race_words.specs.declared.view.Shape.{Shape}
-use Rattle.g1_race.specs.Over.{Pause, table_at}
-use Rattle.g1_race.specs.Evacuating.{IsSameRace, SlotsBecome, copied_word, one_word}
+use Rattle.std.specs.Prelude.{◌≡◌, ◌≢◌, ◌⊎◌, ◌+◌, ◌-◌, ◌<◌, ◌≤◌, ◌&&◌}
+use Rattle.g1_race.specs.{ℕ, suc, ltb, leb, eqb, get_or, length, List, sym, ap, ◌∙◌, subst, inl, inr, arith, eq-eqb, ne_eqb, some, and_from, and_left, and_right, cases_eq, cases_lt, le-leb, le-ltb, lt-leb, lt-ltb, target_of, stored, copied, table_up, table_down, false_is, read_at, read_is, true_is, Shape, Pause, table_at, IsSameRace, SlotsBecome, copied_word, one_word}
 
 -- the words
 
@@ -41,12 +32,15 @@ pub record CopiesOne (old new : Pause) (from to : ℕ) : Type 0 where
 
 race_then : (old mid new : Pause) → IsSameRace old mid → IsSameRace mid new → IsSameRace old new
 race_then old mid new a b = record {
-  layout = b.layout ∙ a.layout;
-  shape = b.shape ∙ a.shape;
-  address = b.address ∙ a.address;
-  table_id = b.table_id ∙ a.table_id;
+  kept = record {
+    layout = b.kept.layout ∙ a.kept.layout;
+    shape = b.kept.shape ∙ a.kept.shape;
+    address = b.kept.address ∙ a.kept.address;
+    table_id = b.kept.table_id ∙ a.kept.table_id;
+    racers = b.kept.racers ∙ a.kept.racers;
+    sweepers = b.kept.sweepers ∙ a.kept.sweepers;
+  };
   logs = b.logs ∙ a.logs;
-  sweepers = b.sweepers ∙ a.sweepers;
 }
 
 module _ (old mid new : Pause) (full : old.shape.slots ≤ length old.words) where
@@ -70,7 +64,7 @@ module _ (old mid new : Pause) (full : old.shape.slots ≤ length old.words) whe
       let out : (from + count < to) ⊎ (to + count ≤ from + count) = inr (omega (arith, le)) in
       record {
         race = race_then old mid new so.race one.race;
-        words = word_by_word (copied_word old.words from to count) (copied_word old.words from to (suc count)) (to + count) (get_or mid.words (from + count) 0) so.race.shape so.words one.words
+        words = word_by_word (copied_word old.words from to count) (copied_word old.words from to (suc count)) (to + count) (get_or mid.words (from + count) 0) so.race.kept.shape so.words one.words
             (λ n. read_before from to count (from + count) so lt out ∙ (ap (λ (i : ℕ). get_or old.words (from + i) 0) (let e : count ≡ to + count - to = omega arith in e) ∙ sym (copied_in old.words from to (suc count) (to + count) n (omega arith) (omega arith))))
             (λ p n ne. elim (in_or_out to count p) [
               | inl i ↦ copied_in old.words from to count p n i.0 i.1 ∙ sym (copied_in old.words from to (suc count) p n i.0 (omega (arith, i.1)))
@@ -85,7 +79,7 @@ module _ (old mid new : Pause) (full : old.shape.slots ≤ length old.words) whe
       let out : (from < suc to) ⊎ (suc to + count ≤ from) = inl (omega (arith, less)) in
       record {
         race = race_then old mid new so.race one.race;
-        words = word_by_word (copied_word old.words (suc from) (suc to) count) (copied_word old.words from to (suc count)) to (get_or mid.words from 0) so.race.shape so.words one.words
+        words = word_by_word (copied_word old.words (suc from) (suc to) count) (copied_word old.words from to (suc count)) to (get_or mid.words from 0) so.race.kept.shape so.words one.words
             (λ n. read_before (suc from) (suc to) count from so lt out ∙ (ap (λ (i : ℕ). get_or old.words i 0) (let e : from ≡ from + (to - to) = omega arith in e) ∙ sym (copied_in old.words from to (suc count) to n (omega arith) (omega arith))))
             (λ p n ne. elim (in_or_out (suc to) count p) [
               | inl i ↦ copied_in old.words (suc from) (suc to) count p n i.0 i.1

@@ -1,24 +1,13 @@
 -- How many pairs are recorded at a pause.
-use Rattle.std.proofs.Common.{◌≡◌, ℕ, zero, suc, ◌+◌, ◌*◌, ◌<◌, ◌≤◌, ◌^◌, List, [], ◌∷◌, ◌++◌, length, Contains, refl, sym, ap, ◌∙◌, subst, inl, inr, arith, eq-eqb, eqb-true}
-use Rattle.std.specs.Prelude.{nat_eq, sum_by}
-use Rattle.std.specs.List.{IsDistinct}
+use Rattle.std.specs.Prelude.{◌≡◌, ◌+◌, ◌*◌, ◌<◌, ◌≤◌, ◌^◌, ◌∷◌, ◌++◌}
+use Rattle.g1_race.specs.{ℕ, zero, suc, List, [], length, Contains, refl, sym, ap, ◌∙◌, subst, inl, inr, arith, eq-eqb, nat_eq, sum_by, IsDistinct, mul-le-mul, mul-le-mul_left, cases_lt, get_or_append_left, get_or_past, get_or_push, length_push, sum_by_push, card_count, All_by_member, same_pairs, in_pairs, Shape, IsBegun, IsWholeShape, pairs_up_to, started, shape_of, ended, table_of, is_member, member_cards, pair_count}
+use Rattle.std.proofs.Common.{eqb-true}
 use Rattle.std.specs.FinSet as set
-use Rattle.std.proofs.Math.Nat.{mul-le-mul, mul-le-mul_left}
-use Rattle.std.proofs.lemmas.Bool.{cases_lt}
-use Rattle.std.proofs.lemmas.List.{get_or_append_left, get_or_past, get_or_push, length_push}
-use Rattle.std.proofs.lemmas.List.Sums.{sum_by_push}
 use Rattle.g1_layout.specs.Shape as layout
-use Rattle.g1_layout.specs.Shape.{card_count}
 use Rattle.g1_sets.specs.Pairs.{AreLists, list_at, pairs_of}
 use Rattle.g1_sets.proofs.BoundLemmas.{few_outside}
 use Rattle.g1_sets.proofs.PairLemmas.{in_set, to_set}
 use Rattle.g1_sets.proofs.TotalLemmas.{total_is}
-use Rattle.g1_core.proofs.SetLemmas.{All_by_member, same_pairs, in_pairs}
-use Rattle.g1_race_words.specs.declared.view.Shape.{Shape}
-use Rattle.g1_race_words.specs.Rule.{IsBegun, IsWholeShape, pairs_up_to, started}
-use Rattle.g1_race.specs.Race.{shape_of}
-use Rattle.g1_race.specs.Over.{ended, table_of}
-use Rattle.g1_race.specs.Telling.{is_member, member_cards, pair_count}
 use Rattle.g1_race.proofs.Ends.{pair_listed, recorded_set, set_recorded}
 use Rattle.g1_race.proofs.NextCards.{cards_fit}
 use Rattle.g1_race.proofs.Telling.{few, is_listed, listed_below, listed_distinct, listed_is}

@@ -1,18 +1,7 @@
 -- A store at a pause that dirties its card, whose flag is set before.
-use Rattle.std.proofs.Common.{◌≡◌, ℕ, ◌<◌, List, set, Option, ap, ◌∙◌, arith}
-use mathlib.Core.Option.{some}
-use lib.ListN.{get_elem?}
-use Rattle.atomic_table.proofs.Lists.{set_here}
-use Rattle.g1_layout.specs.declared.kind.Kind.TheVariants.{Logged}
+use Rattle.std.specs.Prelude.{◌≡◌, ◌<◌}
+use Rattle.g1_race.specs.{ℕ, List, set, Option, ap, ◌∙◌, arith, some, get_elem?, set_here, Logged, Table, kind_of, stored, Shape, IsBegun, slot_card, mark_word, started, ended, table_of, target_of_word, shape_of, IsDirtied, card_below}
 use Rattle.g1_layout.specs.Shape as layout
-use Rattle.g1_core.specs.Table.{Table}
-use Rattle.g1_core.specs.Run.{kind_of, stored}
-use Rattle.g1_race_words.specs.declared.view.Shape.{Shape}
-use Rattle.g1_race_words.specs.Rule.{IsBegun, slot_card, mark_word, started}
-use Rattle.g1_race.specs.Over.{ended, table_of, target_of_word}
-use Rattle.g1_race.specs.Race.{shape_of}
-use Rattle.g1_race.specs.Refining.{IsDirtied}
-use Rattle.g1_race_words.proofs.PairBits.{card_below}
 use Rattle.g1_race.proofs.FlagWords.{flag_ended}
 use Rattle.g1_race.proofs.PauseStores.{logged_store}
 

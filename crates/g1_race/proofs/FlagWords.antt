@@ -1,23 +1,7 @@
 -- The cards' flags at a pause.
-use Rattle.std.proofs.Common.{◌≡◌, ◌≢◌, ℕ, zero, suc, ◌+◌, ◌*◌, ◌/◌, ◌%◌, ◌<◌, ◌≤◌, ◌++◌, List, [], ◌∷◌, Option, false, Some, None, refl, sym, ap, ◌∙◌, subst, inl, inr, ⊎_elim, arith, eq-eqb}
-use native.Mathlib.Decide.{ℕ_discrete}
-use mathlib.Core.Option.{some}
-use lib.ListN.{get_elem?}
-use Rattle.std.specs.Int.{bit_at}
-use Rattle.std.specs.List.{slice_index}
-use Rattle.std.proofs.lemmas.Bool.{cases_Bool, cases_lt, true≢false}
+use Rattle.std.specs.Prelude.{◌≡◌, ◌≢◌, ◌+◌, ◌*◌, ◌/◌, ◌%◌, ◌<◌, ◌≤◌, ◌++◌, ◌∷◌}
+use Rattle.g1_race.specs.{ℕ, zero, suc, List, [], Option, false, Some, None, refl, sym, ap, ◌∙◌, subst, inl, inr, ⊎_elim, arith, eq-eqb, ℕ_discrete, some, get_elem?, bit_at, slice_index, cases_Bool, cases_lt, true≢false, Shape, HasBit, In, IsBegun, IsPair, IsWholeShape, bit_place, bit_word, flag, front, mark_word, pairs_of_card, pairs_up_to, started, ended, IsEmptied, AreRefined, AreUnflagged, Notes, Acquires, AreMovedAway, IsNext, SkipsNone, is_marked, is_member, flag_card, card_in_row, one_pair, pair_clear, pair_set, take_at, take_same}
 use Rattle.g1_layout.specs.Shape as layout
-use Rattle.g1_race_words.specs.declared.view.Shape.{Shape}
-use Rattle.g1_race_words.specs.Rule.{HasBit, In, IsBegun, IsPair, IsWholeShape, bit_place, bit_word, flag, front, mark_word, pairs_of_card, pairs_up_to, started}
-use Rattle.g1_race.specs.Over.{ended}
-use Rattle.g1_race.specs.Clearing.{IsEmptied}
-use Rattle.g1_race.specs.Refining.{AreRefined, AreUnflagged, Notes}
-use Rattle.g1_race.specs.Moving.{Acquires, AreMovedAway}
-use Rattle.g1_race.specs.Telling.{IsNext, SkipsNone, is_marked, is_member}
-use Rattle.g1_race_words.proofs.Flags.{flag_card}
-use Rattle.g1_race_words.proofs.PairBits.{card_in_row}
-use Rattle.g1_race_words.proofs.Listing.{one_pair, pair_clear, pair_set}
-use Rattle.g1_race_words.proofs.Places.{take_at, take_same}
 use Rattle.g1_race.proofs.NextCards.{mark_is, mark_is_not, marked_word}
 
 -- a card whose flag is clear is clean

@@ -1,19 +1,6 @@
 -- Bits of pairs that are cleared, row by row.
-use Rattle.std.proofs.Common.{◌≡◌, ◌≢◌, ℕ, ◌+◌, ◌*◌, ◌/◌, ◌%◌, ◌^◌, ◌<◌, ◌≤◌, true, false, List, length, set, get_or, bit_and, w64, length-set, sym, ap, ◌∙◌, subst, inl, inr, ⊎_elim, arith, eq-eqb}
-use mathlib.Core.Option.{some}
-use lib.ListN.{get_elem?}
-use Rattle.std.specs.Int.{bit_at, bit_not}
-use Rattle.std.proofs.lemmas.Bool.{cases_eq, cases_lt, true≢false}
-use Rattle.std.proofs.lemmas.List.{get_or-set_same, get_or-set_other, take-set-le}
-use Rattle.std.proofs.lemmas.Nat.Bits.{bit_at_clear_same, bit_at_clear_other}
-use Rattle.atomic_table.proofs.Lists.{set_else}
-use Rattle.g1_race_words.specs.declared.view.Shape.{Shape}
-use Rattle.g1_race_words.specs.Rule.{IsBegun, IsMarked, IsPair, HasBit, bit_place, bit_word, slot_card, crosses, flag, front, mark_word, region_at, started}
-use Rattle.g1_race.specs.Clearing.{AreUnset}
-use Rattle.g1_race.specs.Telling.{is_member}
-use Rattle.g1_race_words.proofs.Places.{at_take, at_untake, reads_as}
-use Rattle.g1_race_words.proofs.PairBits.{bit_apart, card_below, crossing_pair}
-use Rattle.g1_race_words.proofs.Flags.{bit_below, flag_card}
+use Rattle.std.specs.Prelude.{◌≡◌, ◌≢◌, ◌+◌, ◌*◌, ◌/◌, ◌%◌, ◌^◌, ◌<◌, ◌≤◌}
+use Rattle.g1_race.specs.{ℕ, true, false, List, length, set, get_or, bit_and, w64, length-set, sym, ap, ◌∙◌, subst, inl, inr, ⊎_elim, arith, eq-eqb, some, get_elem?, bit_at, bit_not, cases_eq, cases_lt, true≢false, get_or-set_same, get_or-set_other, take-set-le, bit_at_clear_same, bit_at_clear_other, set_else, Shape, IsBegun, IsMarked, IsPair, HasBit, bit_place, bit_word, slot_card, crosses, flag, front, mark_word, region_at, started, AreUnset, is_member, at_take, at_untake, reads_as, bit_apart, card_below, crossing_pair, bit_below, flag_card}
 
 module _ (k : Shape) (words : List ℕ) (x : ℕ × ℕ) where
   abbrev pub without_bit : ℕ

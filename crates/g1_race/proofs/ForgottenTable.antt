@@ -1,23 +1,8 @@
 -- Tables some of whose pairs are gone, and that of a region that is forgotten.
-use Rattle.std.proofs.Common.{◌≡◌, ◌≢◌, ℕ, ◌+◌, ◌-◌, ◌*◌, ◌/◌, ◌%◌, div-add-mod', mod-lt, ◌<◌, ◌≤◌, not, eqb, ◌&&◌, Bool, true, false, List, sym, ap, ◌∙◌, subst, inl, inr, arith, eq-eqb}
-use mathlib.Core.Option.{some}
-use lib.ListN.{get_elem?}
+use Rattle.std.specs.Prelude.{◌≡◌, ◌≢◌, ◌+◌, ◌-◌, ◌*◌, ◌/◌, ◌%◌, ◌<◌, ◌≤◌, ◌&&◌}
+use Rattle.g1_race.specs.{ℕ, div-add-mod', mod-lt, not, eqb, Bool, true, false, List, sym, ap, ◌∙◌, subst, inl, inr, arith, eq-eqb, some, get_elem?, mul-div_cancel_left, and_from, and_parts, cases_Bool, cases_lt, eqb-true, not-false, true≢false, div-mul-add, mul-add-lt, slot_count, region_of, Crosses, pair_exact, same_pairs, Shape, IsBegun, IsWholeShape, slot_card, crosses, pairs_up_to, started, shape_of, ended, refs_of, table_of, AreUnset, forgotten, at_take, crosses_reference}
 use Rattle.std.specs.FinSet as fin
-use Rattle.std.proofs.Math.Nat.{mul-div_cancel_left}
-use Rattle.std.proofs.lemmas.Bool.{and_from, and_parts, cases_Bool, cases_lt, eqb-true, not-false, true≢false}
-use Rattle.std.proofs.lemmas.Nat.{div-mul-add, mul-add-lt}
 use Rattle.g1_layout.specs.Shape as layout
-use Rattle.g1_layout.specs.Shape.{slot_count, region_of}
-use Rattle.g1_core.specs.Table.{Crosses}
-use Rattle.g1_core.proofs.SetLemmas.{pair_exact, same_pairs}
-use Rattle.g1_race_words.specs.declared.view.Shape.{Shape}
-use Rattle.g1_race_words.specs.Rule.{IsBegun, IsWholeShape, slot_card, crosses, pairs_up_to, started}
-use Rattle.g1_race.specs.Race.{shape_of}
-use Rattle.g1_race.specs.Over.{ended, refs_of, table_of}
-use Rattle.g1_race.specs.Clearing.{AreUnset}
-use Rattle.g1_race.specs.Evacuating.{forgotten}
-use Rattle.g1_race_words.proofs.Places.{at_take}
-use Rattle.g1_race_words.proofs.Crossing.{crosses_reference}
 use Rattle.g1_race.proofs.Ends.{crosses_apart, recorded_set, region_of_quotient, set_recorded, word_refers}
 
 -- the pairs that are not kept are gone, and nothing else has changed

@@ -1,20 +1,8 @@
 -- Members that a resume hands out are fresh where the logs are empty.
-use Rattle.std.proofs.Common.{◌≡◌, ℕ, zero, suc, ◌+◌, ◌<◌, Vec, vec_len, List, [], ◌∷◌, drop, get_or, length, map, replicate, All, sym, ap, ◌∙◌, subst, arith}
-use Rattle.std.specs.Global.{Global}
-use Rattle.std.proofs.lemmas.List.{length-replicate}
-use Rattle.atomic_table.specs.Seated.{TableId}
+use Rattle.std.specs.Prelude.{◌≡◌, ◌+◌, ◌<◌, ◌∷◌}
+use Rattle.g1_race.specs.{ℕ, zero, suc, Vec, vec_len, List, [], drop, get_or, length, map, replicate, All, sym, ap, ◌∙◌, subst, arith, Global, length-replicate, TableId, Table, Shape, Racer, Sweeper, Start, began, Pause, table_at, start_at, beginning, started, start_of, blank, race_begun, racer_view, sweeper_view, racer_log, racer_number, racer_start, sweeper_start, AreFreshRacers, AreFreshSweepers, HaveBegun, HaveBegunWith, IsNewRacer, IsNewSweeper, IsFreshRacer, IsFreshSweeper}
 use Rattle.g1_layout.specs.Shape as layout
-use Rattle.g1_core.specs.Table.{Table}
-use Rattle.g1_race_words.specs.declared.view.Shape.{Shape}
 use Rattle.g1_race.specs.declared.race.Race.{Race}
-use Rattle.g1_race.specs.declared.race.Racer.{Racer}
-use Rattle.g1_race.specs.declared.race.Sweeper.{Sweeper}
-use Rattle.g1_race_words.specs.Begin.{Start}
-use Rattle.g1_race.specs.Drain.{began}
-use Rattle.g1_race.specs.Over.{Pause, table_at, start_at}
-use Rattle.g1_race_words.specs.Rule.{beginning, started, start_of}
-use Rattle.g1_race_words.specs.Steps.{blank}
-use Rattle.g1_race.specs.Members.{race_begun, racer_view, sweeper_view, racer_log, racer_number, racer_start, sweeper_start, AreFreshRacers, AreFreshSweepers, HaveBegun, HaveBegunWith, IsNewRacer, IsNewSweeper, IsFreshRacer, IsFreshSweeper}
 
 empty_log : (rs : List Racer) (n : ℕ) → map racer_log rs ≡ replicate n [] → All (λ r. racer_log r ≡ []) rs
 empty_log [] n e i d lt = absurd (omega (arith, lt))

@@ -1,9 +1,6 @@
 -- Lists by their fronts and by what lies behind, and the numbers that flags are.
-use Rattle.std.proofs.Common.{◌≡◌, ℕ, zero, suc, ◌+◌, ◌<◌, ◌≤◌, eqb, List, [], ◌∷◌, take, drop, get_or, Bool, true, false, refl, sym, ap, subst, arith, ne_eqb}
-use mathlib.Core.Option.{some, some-ne-none, some-injective}
-use native.Mathlib.Decide.{ℕ_discrete}
-use lib.ListN.{get_elem?}
-use Rattle.std.proofs.Common.{◌+◌}
+use Rattle.std.specs.Prelude.{◌≡◌, ◌+◌, ◌<◌, ◌≤◌, ◌∷◌}
+use Rattle.g1_race.specs.{ℕ, zero, suc, eqb, List, [], take, drop, get_or, Bool, true, false, refl, sym, ap, subst, arith, ne_eqb, some, some-ne-none, some-injective, ℕ_discrete, get_elem?}
 
 -- lists of which the first n items are the same
 pub take_same : {A : Type 0} (n : ℕ) (xs ys : List A) → ((p : ℕ) → p < n → get_elem? xs p ≡ get_elem? ys p) → take n xs ≡ take n ys

@@ -1,12 +1,7 @@
 -- What a pause lends is the race that it holds.
-use Rattle.std.proofs.Common.{◌≡◌, ℕ, ◌<◌, List, sym, ap, ◌∙◌, subst, arith}
-use Rattle.g1_layout.specs.Shape.{slot_count}
-use Rattle.g1_core.specs.Table.{Table}
-use Rattle.g1_race_words.specs.declared.view.Shape.{Shape}
-use Rattle.g1_race_words.specs.Rule.{IsBegun, started}
+use Rattle.std.specs.Prelude.{◌≡◌, ◌<◌}
+use Rattle.g1_race.specs.{ℕ, List, sym, ap, ◌∙◌, subst, arith, slot_count, Table, Shape, IsBegun, started, at_pause_of, Pause, ended, table_at, table_of}
 use Rattle.g1_race.specs.declared.race.Race.{Race}
-use Rattle.g1_race.specs.Members.{at_pause_of}
-use Rattle.g1_race.specs.Over.{Pause, ended, table_at, table_of}
 
 pub lent_view : {race held : Race} {words : List ℕ} {logs : List (List ℕ)} {sweepers : ℕ} {pause : Pause} → race ≡ held → at_pause_of held words logs sweepers ≡ pause → at_pause_of race words logs sweepers ≡ pause
 lent_view {words = words} {logs = logs} {sweepers = sweepers} is view = ap (λ (r : Race). at_pause_of r words logs sweepers) is ∙ view

@@ -1,14 +1,6 @@
 -- The least slot that refers into a region, slot by slot of a card.
-use Rattle.std.proofs.Common.{◌≡◌, ℕ, ◌+◌, ◌*◌, ◌%◌, ◌<◌, ◌≤◌, true, false, List, div-add-mod', mod-lt, div-lt_iff_lt-mul, Some, None, eq-eqb, sym, ap, ◌∙◌, subst, inl, inr, ⊎_elim, arith}
-use mathlib.Core.Option.{some, some-injective}
-use native.Mathlib.Decide.{ℕ_discrete}
-use lib.ListN.{get_elem?}
-use Rattle.std.proofs.lemmas.Bool.{cases_lt, true≢false}
-use Rattle.g1_race_words.specs.declared.view.Shape.{Shape}
-use Rattle.g1_race_words.specs.Rule.{IsBegun, IsMarked, HasBit, slot_card, crosses, mark_word, region_at, started}
-use Rattle.g1_race.specs.Telling.{IsNext, is_member}
-use Rattle.g1_race.specs.Clearing.{Into, IsLeastInto, IsLeastOfCard}
-use Rattle.g1_race_words.proofs.PairBits.{card_below}
+use Rattle.std.specs.Prelude.{◌≡◌, ◌+◌, ◌*◌, ◌%◌, ◌<◌, ◌≤◌}
+use Rattle.g1_race.specs.{ℕ, true, false, List, div-add-mod', mod-lt, div-lt_iff_lt-mul, Some, None, eq-eqb, sym, ap, ◌∙◌, subst, inl, inr, ⊎_elim, arith, some, some-injective, ℕ_discrete, get_elem?, cases_lt, true≢false, Shape, IsBegun, IsMarked, HasBit, slot_card, crosses, mark_word, region_at, started, IsNext, is_member, Into, IsLeastInto, IsLeastOfCard, card_below}
 
 -- a slot of a region's member
 

@@ -38,3 +38,20 @@ pub mod Blocks
 pub mod SlotWords
 pub mod Copying
 pub mod Held
+use AtPause.*
+use ClearWords.*
+use Collected.*
+use Ends.*
+use FlagWords.*
+use Forgetting.*
+use Held.*
+use MovedCards.*
+use NextCards.*
+use PauseStores.*
+use PauseTable.*
+use PauseWords.*
+use SeatCalls.*
+use SlotWords.*
+use StoreCalls.*
+use SweepCalls.*
+use Telling.*

@@ -1,17 +1,7 @@
 -- How many references a redirect moves, and those that it has moved card by card.
-use Rattle.std.proofs.Common.{◌≡◌, ℕ, zero, suc, ◌+◌, ◌-◌, ◌*◌, ◌<◌, ◌≤◌, eqb, true, false, List, length, get_or, div-lt_iff_lt-mul, refl, sym, ap, ◌∙◌, subst, inl, inr, arith, eq-eqb}
-use mathlib.Core.Option.{some, some-injective}
-use lib.ListN.{get_elem?}
-use Rattle.std.proofs.lemmas.Bool.{and_from, and_parts, cases_lt, eqb-true, true≢false, false_from_ne_true}
-use Rattle.std.proofs.Math.Nat.{mul-le-mul_left}
-use Rattle.g1_race_words.specs.declared.view.Shape.{Shape}
-use Rattle.g1_race_words.specs.Rule.{IsBegun, HasBit, slot_card, crosses, mark_word, as_number, region_at, started, word_count}
-use Rattle.g1_race.specs.Clearing.{Into}
-use Rattle.g1_race.specs.Telling.{is_member}
+use Rattle.std.specs.Prelude.{◌≡◌, ◌+◌, ◌-◌, ◌*◌, ◌<◌, ◌≤◌}
+use Rattle.g1_race.specs.{ℕ, zero, suc, eqb, true, false, List, length, get_or, div-lt_iff_lt-mul, refl, sym, ap, ◌∙◌, subst, inl, inr, arith, eq-eqb, some, some-injective, get_elem?, and_from, and_parts, cases_lt, eqb-true, true≢false, false_from_ne_true, mul-le-mul_left, Shape, IsBegun, HasBit, slot_card, crosses, mark_word, as_number, region_at, started, word_count, Into, is_member, AreMoved, into_count, is_into, word_after, read_at, reads_as}
 use Rattle.g1_race.proofs.LeastInto.{into_bit}
-use Rattle.g1_race.specs.Moving.{AreMoved, into_count, is_into, word_after}
-use Rattle.g1_race_words.proofs.Plain.{read_at}
-use Rattle.g1_race_words.proofs.Places.{reads_as}
 use Rattle.g1_race.proofs.Moving.{not_into, moved_none, moved_then}
 
 -- how many there are

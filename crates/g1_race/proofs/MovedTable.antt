@@ -1,30 +1,11 @@
 -- A redirect at a pause as a step of the plain table.
-use Rattle.std.proofs.Common.{◌≡◌, ◌≢◌, ℕ, zero, suc, ◌+◌, ◌/◌, ◌<◌, ◌≤◌, cond, eqb, map, take, Bool, true, false, List, length, get_or, Option, Some, None, refl, sym, ap, ◌∙◌, subst, inl, inr, ⊎_elim, arith, ne_eqb}
-use Rattle.std.specs.Prelude.{not, ◌&&◌, ◌||◌, count_by}
-use mathlib.Core.Option.{some}
-use lib.ListN.{get_elem?}
-use Rattle.std.specs.List.{enumerate_from, filter_map, range_with_len}
+use Rattle.std.specs.Prelude.{◌≡◌, ◌≢◌, ◌+◌, ◌/◌, ◌<◌, ◌≤◌, ◌&&◌, ◌||◌}
+use Rattle.g1_race.specs.{ℕ, zero, suc, cond, eqb, map, take, Bool, true, false, List, length, get_or, Option, Some, None, refl, sym, ap, ◌∙◌, subst, inl, inr, ⊎_elim, arith, ne_eqb, not, count_by, some, get_elem?, enumerate_from, filter_map, range_with_len, and_from, and_parts, cases_Bool, eqb-false, not-true, or_cases, or_left, or_right, get_or_default, get_or-map, length-map, length-take, count_by_more_no, count_by_more_yes, slot_count, region_of, pair_cmp, Table, enters, moved_target, moved_pair, moved, moved_count, pair_total, pair_exact, listed, unlisted, Kept, from_kept, to_kept, slot_of, Shape, IsBegun, IsPair, HasBit, slot_card, front, mark_word, as_number, started, word_count, shape_of, ended, refs_of, table_of, target_of_word, AreMovedAway, Acquires, into_count, is_into, word_after, card_below, in_row, at_take, at_untake, reads_as, take_all, read_at}
 use Rattle.std.specs.FinSet as set
-use Rattle.std.proofs.lemmas.Bool.{and_from, and_parts, cases_Bool, eqb-false, not-true, or_cases, or_left, or_right}
-use Rattle.std.proofs.lemmas.List.{get_or_default, get_or-map, length-map, length-take}
 use Rattle.std.proofs.lemmas.List.FromFn.{fill_by_all, get_or-enumerate_from, length-enumerate_from}
-use Rattle.std.proofs.lemmas.List.Sums.{count_by_more_no, count_by_more_yes}
 use Rattle.g1_layout.specs.Shape as layout
-use Rattle.g1_layout.specs.Shape.{slot_count, region_of}
-use Rattle.g1_layout.specs.Sets.{pair_cmp}
-use Rattle.g1_core.specs.Table.{Table, enters, moved_target, moved_pair, moved, moved_count}
-use Rattle.g1_core.proofs.SetLemmas.{pair_total, pair_exact, listed, unlisted, Kept, from_kept, to_kept}
-use Rattle.g1_core.proofs.TableLemmas.{slot_of}
-use Rattle.g1_race_words.specs.declared.view.Shape.{Shape}
-use Rattle.g1_race_words.specs.Rule.{IsBegun, IsPair, HasBit, slot_card, front, mark_word, as_number, started, word_count}
-use Rattle.g1_race.specs.Race.{shape_of}
-use Rattle.g1_race.specs.Over.{ended, refs_of, table_of, target_of_word}
-use Rattle.g1_race.specs.Moving.{AreMovedAway, Acquires, into_count, is_into, word_after}
 use Rattle.g1_race.proofs.Ends.{recorded_set, refs_here, set_recorded}
-use Rattle.g1_race_words.proofs.PairBits.{card_below, in_row}
 use Rattle.g1_race.proofs.PauseTable.{pending_word, slots_are, table_is, word_pending}
-use Rattle.g1_race_words.proofs.Places.{at_take, at_untake, reads_as, take_all}
-use Rattle.g1_race_words.proofs.Plain.{read_at}
 use Rattle.g1_race.proofs.Moving.{moved_low}
 use Rattle.g1_race.proofs.MovedTargets.{enters_to, enters_from, enters_is, after_target, span_is}
 

@@ -1,19 +1,8 @@
 -- The word of a slot after a redirect, as the target that a table has there.
-use Rattle.std.proofs.Common.{◌^◌, ◌≡◌, ◌≢◌, ℕ, zero, suc, ◌+◌, ◌-◌, ◌*◌, ◌/◌, ◌%◌, ◌<◌, cond, eqb, Bool, true, false, Option, Some, None, refl, sym, ap, ◌∙◌, subst, inl, inr, arith, eq-eqb, ne_eqb}
-use Rattle.std.specs.Prelude.{not}
-use Rattle.std.proofs.lemmas.Bool.{and_from, and_parts, cases_Bool, cases_lt, eqb-false, eqb-true, not-true, true≢false}
+use Rattle.std.specs.Prelude.{◌^◌, ◌≡◌, ◌≢◌, ◌+◌, ◌-◌, ◌*◌, ◌/◌, ◌%◌, ◌<◌}
+use Rattle.g1_race.specs.{ℕ, zero, suc, cond, eqb, Bool, true, false, Option, Some, None, refl, sym, ap, ◌∙◌, subst, inl, inr, arith, eq-eqb, ne_eqb, not, and_from, and_parts, cases_Bool, cases_lt, eqb-false, eqb-true, not-true, true≢false, region_of, same_offset, enters, moved_target, same_bools, Shape, IsReference, crosses, region_at, shape_of, target_of_word, is_into, moved_word, word_after, crosses_reference, false_is, true_is}
 use Rattle.g1_layout.specs.Shape as layout
-use Rattle.g1_layout.specs.Shape.{region_of, same_offset}
-use Rattle.g1_core.specs.Table.{enters, moved_target}
-use Rattle.g1_core.proofs.SetLemmas.{same_bools}
-use Rattle.g1_race_words.specs.declared.view.Shape.{Shape}
-use Rattle.g1_race_words.specs.Rule.{IsReference, crosses, region_at}
-use Rattle.g1_race.specs.Race.{shape_of}
-use Rattle.g1_race.specs.Over.{target_of_word}
-use Rattle.g1_race.specs.Moving.{is_into, moved_word, word_after}
 use Rattle.g1_race.proofs.Ends.{target_data, crosses_apart, target_some}
-use Rattle.g1_race_words.proofs.Crossing.{crosses_reference}
-use Rattle.g1_race_words.proofs.Plain.{false_is, true_is}
 use Rattle.g1_race.proofs.StoreCalls.{other_region}
 
 module _ (k : Shape) (l : layout.Shape) (laid : k ≡ shape_of l k.members) where

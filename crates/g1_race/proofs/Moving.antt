@@ -1,19 +1,8 @@
 -- References that are moved from one region to another at a pause, slot by slot.
-use Rattle.std.proofs.Common.{◌^◌, ◌≡◌, ◌≢◌, ℕ, ◌+◌, ◌-◌, ◌*◌, ◌/◌, ◌%◌, ◌<◌, ◌≤◌, true, false, List, length, set, get_or, mod-lt, refl, sym, ap, ◌∙◌, subst, inl, inr, ⊎_elim, arith}
-use mathlib.Core.Option.{some, some-injective}
-use lib.ListN.{get_elem?}
-use Rattle.std.proofs.lemmas.Bool.{and_parts, cases_Bool, cases_lt, eqb-true, true≢false}
-use Rattle.std.proofs.lemmas.Nat.{div-mul-add}
-use Rattle.atomic_table.proofs.Lists.{set_else, set_here}
-use Rattle.g1_race_words.specs.declared.view.Shape.{Shape}
-use Rattle.g1_race_words.specs.Rule.{In, IsBegun, IsWholeShape, HasBit, slot_card, crosses, mark_word, region_at, started, word_count}
-use Rattle.g1_race.specs.Refining.{Notes}
-use Rattle.g1_race.specs.Moving.{AreMoved, Acquires, is_into, moved_word, word_after}
+use Rattle.std.specs.Prelude.{◌^◌, ◌≡◌, ◌≢◌, ◌+◌, ◌-◌, ◌*◌, ◌/◌, ◌%◌, ◌<◌, ◌≤◌}
+use Rattle.g1_race.specs.{ℕ, true, false, List, length, set, get_or, mod-lt, refl, sym, ap, ◌∙◌, subst, inl, inr, ⊎_elim, arith, some, some-injective, get_elem?, and_parts, cases_Bool, cases_lt, eqb-true, true≢false, div-mul-add, set_else, set_here, Shape, In, IsBegun, IsWholeShape, HasBit, slot_card, crosses, mark_word, region_at, started, word_count, Notes, AreMoved, Acquires, is_into, moved_word, word_after, mark_apart, bit_as, same_bits, false_is, read_at, true_is}
 use Rattle.g1_race.proofs.AtPause.{begun_placed}
-use Rattle.g1_race_words.proofs.CoverStores.{mark_apart}
 use Rattle.g1_race.proofs.Ends.{crosses_apart}
-use Rattle.g1_race_words.proofs.PairBits.{bit_as, same_bits}
-use Rattle.g1_race_words.proofs.Plain.{false_is, read_at, true_is}
 use Rattle.g1_race.proofs.PauseStores.{slot_in}
 use Rattle.g1_race.proofs.StoreCalls.{other_region}
 

@@ -1,16 +1,6 @@
 -- The next card of a row of bits, in a word that was read.
-use Rattle.std.proofs.Common.{◌≡◌, ◌≢◌, ℕ, ◌+◌, ◌-◌, ◌*◌, ◌/◌, ◌%◌, ◌^◌, ◌<◌, ◌≤◌, true, false, List, Some, None, get_or, w64, refl, sym, ap, ◌∙◌, inl, inr, ⊎_elim, arith, eq-eqb, ne_eqb}
-use mathlib.Core.Option.{some}
-use lib.ListN.{get_elem?}
-use Rattle.std.specs.Int.{bit_at, trailing_zeros}
-use Rattle.std.proofs.Math.Nat.{div-div-eq-div-mul, div-le_self, mul-le-mul_left}
-use Rattle.std.proofs.lemmas.Bool.{cases_lt, true≢false}
-use Rattle.std.proofs.lemmas.Nat.{pow-add}
-use Rattle.std.proofs.lemmas.Nat.Bits.{bit_at_above, bit_at-zero, bit_at-trailing_zeros}
-use Rattle.g1_race_words.specs.declared.view.Shape.{Shape}
-use Rattle.g1_race_words.specs.Rule.{IsBegun, IsWholeShape, bit_place, bit_word, mark_word, started}
-use Rattle.g1_race.specs.Telling.{IsNext, is_marked, is_member}
-use Rattle.g1_race_words.proofs.Places.{reads_as}
+use Rattle.std.specs.Prelude.{◌≡◌, ◌≢◌, ◌+◌, ◌-◌, ◌*◌, ◌/◌, ◌%◌, ◌^◌, ◌<◌, ◌≤◌}
+use Rattle.g1_race.specs.{ℕ, true, false, List, Some, None, get_or, w64, refl, sym, ap, ◌∙◌, inl, inr, ⊎_elim, arith, eq-eqb, ne_eqb, some, get_elem?, bit_at, trailing_zeros, div-div-eq-div-mul, div-le_self, mul-le-mul_left, cases_lt, true≢false, pow-add, bit_at_above, bit_at-zero, bit_at-trailing_zeros, Shape, IsBegun, IsWholeShape, bit_place, bit_word, mark_word, started, IsNext, is_marked, is_member, reads_as}
 
 -- a card whose mark was read
 pub mark_is : (k : Shape) (words : List ℕ) (card n : ℕ) → get_elem? words (mark_word k card) ≡ some n → n ≡ 1 → is_marked k words card ≡ true

@@ -1,21 +1,11 @@
 -- A race over nulls begins with the opening table.
-use Rattle.std.proofs.Common.{◌≡◌, ℕ, zero, suc, ◌+◌, ◌≤◌, arith, eqb, List, [], ◌∷◌, map, take, drop, Option, None, refl, ap, ◌∙◌, replicate, ◌++◌}
+use Rattle.std.specs.Prelude.{◌≡◌, ◌+◌, ◌≤◌, ◌∷◌, ◌++◌}
+use Rattle.g1_race.specs.{ℕ, zero, suc, arith, eqb, List, [], map, take, drop, Option, None, refl, ap, ◌∙◌, replicate, slot_count, card_count, opening, pending_of, marks_for, target_of_word, ended, table_of, Shape, HasBit, beginning, bit_word, front, null_of, pairs_of_card, pairs_up_to, word_count, shape_of, null_begun, pair_clear, zeros, no_bit, zeros_read}
 use Rattle.std.specs.FinSet as set
 use Rattle.g1_heap.specs.declared.mark.Mark.{Mark}
 use Rattle.g1_heap.specs.declared.mark.Mark.TheVariants.{Clean}
 use Rattle.g1_layout.specs.Shape as layout
-use Rattle.g1_layout.specs.Shape.{slot_count, card_count}
-use Rattle.g1_core.specs.Table.{opening}
-use Rattle.g1_core.specs.Machine.{pending_of}
 use Rattle.g1_core.proofs.OpeningLemmas.{none_pending}
-use Rattle.g1_core.specs.Adoption.{marks_for}
-use Rattle.g1_race.specs.Over.{target_of_word, ended, table_of}
-use Rattle.g1_race_words.specs.declared.view.Shape.{Shape}
-use Rattle.g1_race_words.specs.Rule.{HasBit, beginning, bit_word, front, null_of, pairs_of_card, pairs_up_to, word_count}
-use Rattle.g1_race.specs.Race.{shape_of}
-use Rattle.g1_race.specs.Members.{null_begun}
-use Rattle.g1_race_words.proofs.Listing.{pair_clear}
-use Rattle.g1_race_words.proofs.AtBeginning.{zeros, no_bit, zeros_read}
 
 null_refs : (n count : ℕ) → n ≤ count → map target_of_word (take n (zeros count)) ≡ replicate {A = Option ℕ} n None
 null_refs zero count le = refl

@@ -1,18 +1,8 @@
 -- What a closed race keeps is what a core is made of.
-use Rattle.std.proofs.Common.{◌≤◌, ◌≡◌, ℕ, ◌+◌, ◌<◌, eqb, List, take, drop, get_or, length, Bool, Option, Some, None, All, IfSome, sym, ◌∙◌, subst, arith}
-use mathlib.Core.Option.{some}
-use lib.ListN.{get_elem?}
-use Rattle.std.proofs.lemmas.List.{length-map, length-take-le, length-drop}
-use Rattle.std.proofs.lemmas.List.Elements.{Contains-get_or}
+use Rattle.std.specs.Prelude.{◌≤◌, ◌≡◌, ◌+◌, ◌<◌}
+use Rattle.g1_race.specs.{ℕ, eqb, List, take, drop, get_or, length, Bool, Option, Some, None, All, IfSome, sym, ◌∙◌, subst, arith, some, get_elem?, length-map, length-take-le, length-drop, Contains-get_or, slot_count, card_count, IsCovered, table_with, IsPairOf, shape_of, Ended, ended, target_of_word, refs_of, marks_of, IsEnded, low_word, at_read, at_untake, at_unmap}
 use Rattle.g1_layout.specs.Shape as layout
-use Rattle.g1_layout.specs.Shape.{slot_count, card_count}
-use Rattle.g1_core.specs.Table.{IsCovered}
-use Rattle.g1_core.specs.Adoption.{table_with, IsPairOf}
-use Rattle.g1_race.specs.Race.{shape_of}
-use Rattle.g1_race.specs.Over.{Ended, ended, target_of_word, refs_of, marks_of, IsEnded}
-use Rattle.g1_race_words.proofs.Crossing.{low_word}
 use Rattle.g1_race.proofs.Ends.{target_back, begun_covered, pair_listed}
-use Rattle.g1_race_words.proofs.Places.{at_read, at_untake, at_unmap}
 
 pub length_marks : (e : Ended) → length e.words ≡ slot_count e.layout + card_count e.layout → length (marks_of e) ≡ card_count e.layout
 length_marks e sized = length-map (drop (slot_count e.layout) e.words) (λ n. eqb n 1) ∙ (length-drop (slot_count e.layout) e.words ∙ (let f = sized in omega arith))

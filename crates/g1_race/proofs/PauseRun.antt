@@ -1,29 +1,14 @@
 -- What is recorded at a pause after some of its calls.
-use Rattle.std.proofs.Common.{◌≡◌, ◌⊎◌, inl, inr, ℕ, suc, ◌<◌, List, [], ◌∷◌, length, Contains, sym, ap, ◌∙◌, subst, ⊎_elim, arith}
-use Rattle.std.specs.Prelude.{fold}
-use Rattle.std.proofs.lemmas.Bool.{and_parts}
+use Rattle.std.specs.Prelude.{◌≡◌, ◌⊎◌, ◌<◌, ◌∷◌}
+use Rattle.g1_race.specs.{inl, inr, ℕ, suc, List, [], length, Contains, sym, ap, ◌∙◌, subst, ⊎_elim, arith, fold, and_parts, Table, Holds, IsRecorded, refined, Entry, Store, Clear, Redirect, written, settled, table_after, in_pairs, to_pairs, recorded_cases, Holds_from_held, Shape, View, Begun, BeganInto, In, IsWholeShape, AmongStores, IsKnown, IsOver, shape_of, Ended, table_of, DrainAtPause, HadInto, HeldDuring, table_at_moment, in_contains}
 use Rattle.std.proofs.lemmas.List.{take_all}
-use Rattle.g1_core.specs.Table.{Table, Holds, IsRecorded, refined}
 use Rattle.g1_core.specs.declared.entry.Call.{Call}
 use Rattle.g1_core.specs.declared.entry.Reply.{Reply}
-use Rattle.g1_core.specs.declared.entry.Entry.{Entry}
-use Rattle.g1_core.specs.declared.entry.Call.TheVariants.{Store, Clear, Redirect}
 use Rattle.g1_core.specs.declared.entry.Reply.TheVariants as reply
 use Rattle.g1_core.specs.declared.reply.ClearReply.TheVariants as clear_reply
-use Rattle.g1_core.specs.Run.{written, settled, table_after}
 use Rattle.g1_core.proofs.MovedLemmas.{moved_known}
 use Rattle.g1_core.proofs.RunLemmas.{forgotten, HasSlots, layout_after, written_layout}
-use Rattle.g1_core.proofs.SetLemmas.{in_pairs, to_pairs}
-use Rattle.g1_core.proofs.TableLemmas.{recorded_cases, Holds_from_held}
-use Rattle.g1_race_words.specs.declared.view.Shape.{Shape}
-use Rattle.g1_race_words.specs.declared.view.View.{View}
-use Rattle.g1_race_words.specs.Begin.{Begun}
-use Rattle.g1_race_words.specs.Rule.{BeganInto, In, IsWholeShape}
-use Rattle.g1_race.specs.Race.{AmongStores, IsKnown, IsOver, shape_of}
-use Rattle.g1_race.specs.Over.{Ended, table_of}
-use Rattle.g1_race.specs.Drain.{DrainAtPause, HadInto, HeldDuring, table_at_moment}
 use Rattle.g1_race.proofs.Draining.{HoldsInto, began_holds, in_shape, known_once, stored_now}
-use Rattle.g1_race_words.proofs.Places.{in_contains}
 
 -- one call
 

@@ -1,38 +1,9 @@
 -- A store at a pause as a step of the plain table.
-use Rattle.std.proofs.Common.{◌≤◌, ◌^◌, eqb, ◌≡◌, ◌≢◌, ℕ, ◌+◌, ◌-◌, ◌*◌, ◌/◌, ◌<◌, cond, Bool, true, List, set, take, map, get_or, Option, None, refl, sym, ap, ◌∙◌, subst, inl, inr, arith, ne_eqb}
-use mathlib.Core.Option.{some}
-use lib.ListN.{get_elem?}
+use Rattle.std.specs.Prelude.{◌≤◌, ◌^◌, ◌≡◌, ◌≢◌, ◌+◌, ◌-◌, ◌*◌, ◌/◌, ◌<◌}
+use Rattle.g1_race.specs.{eqb, ℕ, cond, Bool, true, List, set, take, map, get_or, Option, None, refl, sym, ap, ◌∙◌, subst, inl, inr, arith, ne_eqb, some, get_elem?, nat_cmp, eq_by_cmp, Equal-is, take-set-lt, cases_Bool, cases_eq, or_cases, or_left, or_right, nat_cmp_total, eq_by_cmp_equiv, map-set, exact_unsigned, set_else, set_here, Kind, SameRegion, Null, AlreadyDirty, Logged, slot_count, region_of, CardSet, Table, IsPending, IsStep, kind_of, pending_after, stored, store_entry, refined_none, none_refinable, IfSome, Shape, IsReference, IsBegun, IsWholeShape, HasBit, slot_card, crosses, mark_word, started, shape_of, ended, refs_of, table_of, target_of_word, plain_reply, mark_apart, mul-add-lt, at_take, crosses_reference, bit_as, card_below, same_bits}
 use Rattle.std.specs.FinSet as fin
-use Rattle.std.specs.Ordering.{nat_cmp, eq_by_cmp}
-use Rattle.std.specs.Cmp.{Equal-is}
-use Rattle.std.proofs.Math.Seq.{take-set-lt}
-use Rattle.std.proofs.lemmas.Bool.{cases_Bool, cases_eq, or_cases, or_left, or_right}
-use Rattle.std.proofs.lemmas.Cmp.{nat_cmp_total, eq_by_cmp_equiv}
-use Rattle.std.proofs.lemmas.List.{map-set}
-use Rattle.std.proofs.lemmas.Map.Lookups.{exact_unsigned}
-use Rattle.atomic_table.proofs.Lists.{set_else, set_here}
-use Rattle.g1_layout.specs.declared.kind.Kind.{Kind}
-use Rattle.g1_layout.specs.declared.kind.Kind.TheVariants.{SameRegion, Null, AlreadyDirty, Logged}
 use Rattle.g1_layout.specs.Shape as layout
-use Rattle.g1_layout.specs.Shape.{slot_count, region_of}
-use Rattle.g1_layout.specs.Sets.{CardSet}
-use Rattle.g1_core.specs.Table.{Table, IsPending}
-use Rattle.g1_core.specs.Run.{IsStep, kind_of, pending_after, stored}
-use Rattle.g1_core.specs.Calls.{store_entry}
-use Rattle.g1_core.proofs.RefinedLemmas.{refined_none}
-use Rattle.g1_core.proofs.StoreLemmas.{none_refinable}
-use Rattle.std.specs.Prelude.{IfSome}
-use Rattle.g1_race_words.specs.declared.view.Shape.{Shape}
-use Rattle.g1_race_words.specs.Rule.{IsReference, IsBegun, IsWholeShape, HasBit, slot_card, crosses, mark_word, started}
-use Rattle.g1_race.specs.Race.{shape_of}
-use Rattle.g1_race.specs.Over.{ended, refs_of, table_of, target_of_word}
-use Rattle.g1_race.specs.Evacuating.{plain_reply}
-use Rattle.g1_race_words.proofs.CoverStores.{mark_apart}
-use Rattle.std.proofs.lemmas.Nat.{mul-add-lt}
-use Rattle.g1_race_words.proofs.Places.{at_take}
 use Rattle.g1_race.proofs.Ends.{target_data, crosses_apart, recorded_set, set_recorded, target_some, word_gives}
-use Rattle.g1_race_words.proofs.Crossing.{crosses_reference}
-use Rattle.g1_race_words.proofs.PairBits.{bit_as, card_below, same_bits}
 use Rattle.g1_race.proofs.PauseTable.{pending_word, refs_same, slots_are, table_is, word_pending}
 
 pub store_step : (t new : Table) (caller slot : ℕ) (target : Option ℕ) (kind : Kind) → slot < slot_count t.layout → IfSome target (λ place. place < slot_count t.layout) → kind ≡ kind_of t slot target → new ≡ stored t slot target → IsStep t (store_entry caller slot target (plain_reply kind)) new

@@ -1,31 +1,11 @@
 -- What a pause's words say as a table.
-use Rattle.std.proofs.Common.{◌≡◌, ◌≢◌, ℕ, ◌+◌, ◌<◌, ◌≤◌, eqb, List, map, drop, true, Contains, refl, sym, ap, ◌∙◌, subst, inl, inr, ⊎_elim, arith}
-use mathlib.Core.Option.{some}
-use lib.ListN.{get_elem?}
+use Rattle.std.specs.Prelude.{◌≡◌, ◌≢◌, ◌+◌, ◌<◌, ◌≤◌}
+use Rattle.g1_race.specs.{ℕ, eqb, List, map, drop, true, Contains, refl, sym, ap, ◌∙◌, subst, inl, inr, ⊎_elim, arith, some, get_elem?, slot_count, region_of, region_of_card, nat_cmp, and_parts, not-true, true≢false, eqb-true, Option, length, eq-eqb, CardSet, set_of, Table, Holds, IsCovered, IsPending, IsRecorded, AreMembers, refined, IsStep, drained, pending_flag, none_of, All_by_member, same_cards, same_pairs, refined_pending, still_recorded, newly_recorded, recorded_cases, held_from_Holds, Holds_from_held, Shape, BeganInto, IsBegun, IsPair, HasBit, IsWholeShape, mark_word, front, started, shape_of, ended, target_of_word, refs_of, marks_of, table_of, AreRefined, MembersAreExact, is_marked, is_member, marked_cards, member_cards, AreAllRefined, IsExactAtPause, never_both, at_take, at_untake, at_unmap}
 use Rattle.g1_layout.specs.Shape as layout
-use Rattle.g1_layout.specs.Shape.{slot_count, region_of, region_of_card}
 use Rattle.std.specs.FinSet as fin
-use Rattle.std.specs.Ordering.{nat_cmp}
-use Rattle.std.proofs.lemmas.Bool.{and_parts, not-true, true≢false, eqb-true}
-use Rattle.std.proofs.Common.{Option, length, ◌+◌, eq-eqb}
-use Rattle.g1_layout.specs.Sets.{CardSet, set_of}
-use Rattle.g1_core.specs.Table.{Table, Holds, IsCovered, IsPending, IsRecorded, AreMembers, refined}
-use Rattle.g1_core.specs.Run.{IsStep, drained}
-use Rattle.g1_core.proofs.AdoptionLemmas.{pending_flag}
-use Rattle.g1_core.proofs.MarkLemmas.{none_of}
-use Rattle.g1_core.proofs.SetLemmas.{All_by_member, same_cards, same_pairs, in_list as from_cards, in_set as in_cards}
-use Rattle.g1_core.proofs.TableLemmas.{refined_pending, still_recorded, newly_recorded, recorded_cases, held_from_Holds, Holds_from_held}
-use Rattle.g1_race_words.specs.declared.view.Shape.{Shape}
-use Rattle.g1_race_words.specs.Rule.{BeganInto, IsBegun, IsPair, HasBit, IsWholeShape, mark_word, front, started}
-use Rattle.g1_race.specs.Race.{shape_of}
-use Rattle.g1_race.specs.Over.{ended, target_of_word, refs_of, marks_of, table_of}
-use Rattle.g1_race.specs.Refining.{AreRefined, MembersAreExact}
-use Rattle.g1_race.specs.Telling.{is_marked, is_member, marked_cards, member_cards}
-use Rattle.g1_race.specs.Evacuating.{AreAllRefined, IsExactAtPause}
+use Rattle.g1_core.proofs.SetLemmas.{in_list as from_cards, in_set as in_cards}
 use Rattle.g1_race.proofs.Telling.{at_most_both, gathered, is_listed, listed_is, listed_below, listed_distinct, set_len}
 use Rattle.g1_race.proofs.NextCards.{mark_is, marked_word}
-use Rattle.g1_race_words.proofs.AtBeginning.{never_both}
-use Rattle.g1_race_words.proofs.Places.{at_take, at_untake, at_unmap}
 use Rattle.g1_race.proofs.Ends.{begun_covered, marked_pending, marks_here, recorded_set, set_recorded, region_of_quotient}
 use Rattle.g1_race.proofs.Draining.{began_holds}
 use Rattle.g1_race.proofs.Fronts.{take_same, take_less, undrop, flag_at, one_of}

@@ -1,24 +1,7 @@
 -- What refinement at a pause does to the words.
-use Rattle.std.proofs.Common.{◌≡◌, ◌≢◌, ◌⊎◌, ℕ, zero, suc, ◌+◌, ◌*◌, ◌%◌, ◌^◌, ◌<◌, ◌≤◌, cond, Bool, true, false, List, [], ◌∷◌, ◌++◌, length, set, get_or, bit_or, length-set, div-add-mod', mod-lt, refl, sym, ap, ◌∙◌, subst, inl, inr, ⊎_elim, arith}
-use mathlib.Core.Option.{some}
-use native.Mathlib.Decide.{ℕ_discrete}
-use lib.ListN.{get_elem?}
-use Rattle.std.proofs.lemmas.Bool.{cases_lt}
-use Rattle.std.specs.Int.{bit_at}
-use Rattle.std.proofs.lemmas.Nat.{div-mul-add}
-use Rattle.atomic_table.proofs.Lists.{set_else, set_here}
-use Rattle.g1_race_words.specs.declared.view.Shape.{Shape}
-use Rattle.g1_race_words.specs.Rule.{In, IsBegun, IsMarked, IsOfCrossing, HasBit, BeganInto, bit_word, bit_place, flag, mark_word, word_count, slot_card, region_at, crosses, started}
-use Rattle.g1_race_words.specs.Steps.{pair_at}
-use Rattle.g1_race.specs.Refining.{Notes, RefinesCard, AreRefined, card_pairs}
-use Rattle.g1_race_words.proofs.Plain.{in_left, in_right, in_either, read_at, true_is}
-use Rattle.g1_race_words.proofs.Places.{reads_as}
-use Rattle.g1_race_words.proofs.Crossing.{word_low}
-use Rattle.g1_race_words.proofs.PairBits.{SameBits, same_bits, bit_as, with_pair, bit_here, bits_stay, bits_back, card_below}
-use Rattle.g1_race_words.proofs.Flags.{are_flagged, bit_below, front_stays}
-use Rattle.g1_race_words.proofs.AtBeginning.{never_both}
+use Rattle.std.specs.Prelude.{◌≡◌, ◌≢◌, ◌⊎◌, ◌+◌, ◌*◌, ◌%◌, ◌^◌, ◌<◌, ◌≤◌, ◌∷◌, ◌++◌}
+use Rattle.g1_race.specs.{ℕ, zero, suc, cond, Bool, true, false, List, [], length, set, get_or, bit_or, length-set, div-add-mod', mod-lt, refl, sym, ap, ◌∙◌, subst, inl, inr, ⊎_elim, arith, some, ℕ_discrete, get_elem?, cases_lt, bit_at, div-mul-add, set_else, set_here, Shape, In, IsBegun, IsMarked, IsOfCrossing, HasBit, BeganInto, bit_word, bit_place, flag, mark_word, word_count, slot_card, region_at, crosses, started, pair_at, Notes, RefinesCard, AreRefined, card_pairs, in_left, in_right, in_either, read_at, true_is, reads_as, word_low, SameBits, same_bits, bit_as, with_pair, bit_here, bits_stay, bits_back, card_below, are_flagged, bit_below, front_stays, never_both, bounded_same, same_slots_at_mark}
 use Rattle.g1_race.proofs.SweepCalls.{slot_below}
-use Rattle.g1_race_words.proofs.Unchanged.{bounded_same, same_slots_at_mark}
 
 -- one bit is set, of a pair or a card's flag
 

@@ -1,24 +1,10 @@
 -- A core's table is placed into the words of a heap of nulls.
-use Rattle.std.proofs.Common.{◌^◌, ◌≡◌, ◌≢◌, ◌⊎◌, ℕ, zero, suc, ◌+◌, ◌-◌, ◌*◌, ◌/◌, ◌<◌, ◌≤◌, List, [], ◌∷◌, set, length, Bool, true, false, All, refl, sym, ap, ◌∙◌, subst, inl, inr, ⊎_elim, arith}
-use mathlib.Core.Option.{some}
-use native.Mathlib.Decide.{ℕ_discrete}
-use lib.ListN.{get_elem?}
+use Rattle.std.specs.Prelude.{◌^◌, ◌≡◌, ◌≢◌, ◌⊎◌, ◌+◌, ◌-◌, ◌*◌, ◌/◌, ◌<◌, ◌≤◌, ◌∷◌}
+use Rattle.g1_race.specs.{ℕ, zero, suc, List, [], set, length, Bool, true, false, All, refl, sym, ap, ◌∙◌, subst, inl, inr, ⊎_elim, arith, some, ℕ_discrete, get_elem?, div-mul-add, mul-add-lt, set_else, set_here, slot_count, card_count, Table, IsPairOf, Shape, In, IsWholeShape, IsMarked, IsPair, IsOfCrossing, HasBit, slot_card, crosses, flag, mark_word, region_at, as_number, shape_of, word_of, Notes, KeepsBits, AreMarked, ArePlaced, AreCovered, SameBits, same_bits, bit_as, card_below, mark_apart}
 use Rattle.std.specs.FinSet as set_of
-use Rattle.std.proofs.lemmas.Nat.{div-mul-add, mul-add-lt}
-use Rattle.atomic_table.proofs.Lists.{set_else, set_here}
 use Rattle.g1_layout.specs.Shape as layout
-use Rattle.g1_layout.specs.Shape.{slot_count, card_count}
 use Rattle.g1_core.specs.Table as table
-use Rattle.g1_core.specs.Table.{Table}
-use Rattle.g1_core.specs.Adoption.{IsPairOf}
-use Rattle.g1_race_words.specs.declared.view.Shape.{Shape}
-use Rattle.g1_race_words.specs.Rule.{In, IsWholeShape, IsMarked, IsPair, IsOfCrossing, HasBit, slot_card, crosses, flag, mark_word, region_at, as_number}
-use Rattle.g1_race.specs.Race.{shape_of, word_of}
-use Rattle.g1_race.specs.Refining.{Notes}
-use Rattle.g1_race.specs.Resumed.{KeepsBits, AreMarked, ArePlaced, AreCovered}
-use Rattle.g1_race_words.proofs.PairBits.{SameBits, same_bits, bit_as, card_below}
 use Rattle.g1_race.proofs.FlagWords.{flag_only}
-use Rattle.g1_race_words.proofs.CoverStores.{mark_apart}
 use Rattle.g1_race.proofs.StoreCalls.{other_region}
 use Rattle.g1_race.proofs.Ends.{region_of_quotient}
 

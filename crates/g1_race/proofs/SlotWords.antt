@@ -1,18 +1,6 @@
 -- What the calls of a pause make of the slots' words.
-use Rattle.std.proofs.Common.{◌≡◌, ◌≢◌, ◌⊎◌, ℕ, ◌+◌, ◌-◌, ◌*◌, ◌/◌, ◌%◌, ◌<◌, ◌≤◌, mod-lt, div-add-mod', eqb, List, set, sym, ap, ◌∙◌, subst, inl, inr, arith, eq-eqb, ne_eqb}
-use mathlib.Core.Option.{some}
-use lib.ListN.{get_elem?}
-use Rattle.std.proofs.lemmas.Bool.{cases_eq, cases_lt}
-use Rattle.std.proofs.lemmas.Nat.{div-mul-add}
-use Rattle.atomic_table.proofs.Lists.{set_else, set_here}
-use Rattle.g1_race_words.specs.declared.view.Shape.{Shape}
-use Rattle.g1_race_words.specs.Rule.{front, mark_word}
-use Rattle.g1_race_words.proofs.CoverStores.{mark_apart}
-use Rattle.g1_race_words.proofs.Places.{at_take, at_untake}
-use Rattle.g1_race_words.proofs.Plain.{false_is, true_is, within}
-use Rattle.g1_race.specs.Evacuating.{WordsBecome, one_word, same_word, wiped_word}
-use Rattle.g1_race.specs.Moving.{AreMovedAway, word_after}
-use Rattle.g1_race.specs.Refining.{AreRefined, IsDirtied}
+use Rattle.std.specs.Prelude.{◌≡◌, ◌≢◌, ◌⊎◌, ◌+◌, ◌-◌, ◌*◌, ◌/◌, ◌%◌, ◌<◌, ◌≤◌}
+use Rattle.g1_race.specs.{ℕ, mod-lt, div-add-mod', eqb, List, set, sym, ap, ◌∙◌, subst, inl, inr, arith, eq-eqb, ne_eqb, some, get_elem?, cases_eq, cases_lt, div-mul-add, set_else, set_here, Shape, front, mark_word, mark_apart, at_take, at_untake, false_is, true_is, within, WordsBecome, one_word, same_word, wiped_word, AreMovedAway, word_after, AreRefined, IsDirtied}
 
 pub front_words : (k : Shape) (old new : List ℕ) → front k new ≡ front k old → WordsBecome same_word k old new
 front_words k old new same p n lt at =

@@ -1,22 +1,8 @@
 -- Cards that are told apart by a test.
-use Rattle.std.proofs.Common.{◌≡◌, ◌⊎◌, inl, inr, ℕ, zero, suc, ◌+◌, ◌<◌, ◌≤◌, cond, Bool, true, false, List, [], ◌∷◌, ◌++◌, length, Contains, Option, Some, None, sym, ap, ◌∙◌, subst, arith}
-use Rattle.std.proofs.lemmas.Bool.{cases_Bool, cases_lt}
-use Rattle.std.proofs.lemmas.List.{append-nil, length_push}
+use Rattle.std.specs.Prelude.{◌≡◌, ◌⊎◌, ◌+◌, ◌<◌, ◌≤◌, ◌∷◌, ◌++◌}
+use Rattle.g1_race.specs.{inl, inr, ℕ, zero, suc, cond, Bool, true, false, List, [], length, Contains, Option, Some, None, sym, ap, ◌∙◌, subst, arith, cases_Bool, cases_lt, append-nil, length_push, nat_eq, IsDistinct, false_from_ne_true, nat_cmp, eq_by_cmp, Equal-is, nat_cmp_total, eq_by_cmp_equiv, exact_unsigned, or_cases, or_left, or_right, true≢false, Contains-append_left, Contains-push, Contains-push_cases, set_of, in_list, same_cards, one_more, push_distinct, cards_where, IsNext}
 use Rattle.std.specs.FinSet as set
-use Rattle.std.specs.Prelude.{nat_eq}
-use Rattle.std.specs.List.{IsDistinct}
-use Rattle.std.proofs.lemmas.Bool.{false_from_ne_true}
-use Rattle.std.specs.Ordering.{nat_cmp, eq_by_cmp}
-use Rattle.std.specs.Cmp.{Equal-is}
-use Rattle.std.proofs.lemmas.Cmp.{nat_cmp_total, eq_by_cmp_equiv}
-use Rattle.std.proofs.lemmas.Map.Lookups.{exact_unsigned}
-use Rattle.std.proofs.lemmas.Bool.{or_cases, or_left, or_right, true≢false}
-use Rattle.std.proofs.lemmas.List.Elements.{Contains-append_left, Contains-push, Contains-push_cases}
-use Rattle.g1_layout.specs.Sets.{set_of}
-use Rattle.g1_core.proofs.SetLemmas.{in_list, in_set, same_cards}
-use Rattle.g1_core.proofs.MarkLemmas.{one_more}
-use Rattle.g1_core.proofs.RefinedLemmas.{push_distinct}
-use Rattle.g1_race.specs.Telling.{cards_where, IsNext}
+use Rattle.g1_core.proofs.SetLemmas.{in_set}
 use Rattle.g1_race.proofs.Gathering.{Gathered, gathered_none, gathered_in, gathered_out}
 
 module _ (test : ℕ → Bool) where

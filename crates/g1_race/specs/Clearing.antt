@@ -1,9 +1,7 @@
 -- What a clear at a pause does.
-use Rattle.std.specs.Prelude.{◌≡◌, ◌≢◌, ℕ, ◌/◌, ◌<◌, ◌≤◌, List, Option, Some, None, true}
-use mathlib.Core.Option.{some}
-use lib.ListN.{get_elem?}
-use Rattle.g1_race_words.specs.declared.view.Shape.{Shape}
-use Rattle.g1_race_words.specs.Rule.{IsPair, HasBit, slot_card, crosses, front, region_at}
+use Rattle.std.specs.Prelude.{◌≡◌, ◌≢◌, ◌/◌, ◌<◌, ◌≤◌}
+use Rattle.g1_race.specs.Prelude.{ℕ, List, Option, Some, None, true, some, get_elem?, Shape, IsPair}
+use Rattle.g1_race.specs.Prelude.{HasBit, slot_card, crosses, front, region_at}
 
 -- the slot lies outside the region and refers into it
 abbrev pub Into : Shape → List ℕ → ℕ → ℕ → Type 0

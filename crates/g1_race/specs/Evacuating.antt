@@ -1,40 +1,35 @@
 -- What the calls of an evacuation pause do to the plain table.
-use Rattle.std.specs.Prelude.{◌≡◌, ◌⊎◌, ℕ, ◌+◌, ◌*◌, ◌/◌, ◌<◌, ◌==◌, not, if◌then◌else◌, zero}
-use Rattle.std.specs.Prelude.{suc, false, List, [], None, Contains, length, replicate, slice_index}
-use Rattle.std.specs.Prelude.{◌-◌, ◌&&◌, nat_le, nat_lt}
-use mathlib.Core.Option.{some}
-use lib.ListN.{get_elem?}
+use Rattle.std.specs.Prelude.{◌≡◌, ◌⊎◌, ◌+◌, ◌*◌, ◌/◌, ◌<◌, ◌==◌, if◌then◌else◌, ◌-◌, ◌&&◌}
+use Rattle.g1_race.specs.Prelude.{ℕ, not, zero, suc, false, List, [], None, Contains, length}
+use Rattle.g1_race.specs.Prelude.{replicate, slice_index, nat_le, nat_lt, some, get_elem?}
+use Rattle.g1_race.specs.Prelude.{IsStrictlyIncreasing, Kind, region_of_card, Table, Holds}
+use Rattle.g1_race.specs.Prelude.{IsRecorded, IsCovered, AreRefinable, refined, stored, Shape}
 use Rattle.std.specs.FinSet as set
-use Rattle.std.specs.List.Sorted.{IsStrictlyIncreasing}
 use Rattle.g1_core.specs.declared.reply.Drained.{Drained}
 use Rattle.g1_core.specs.declared.reply.Drained.TheVariants.{Cards, Short}
-use Rattle.g1_layout.specs.declared.kind.Kind.{Kind}
-use Rattle.g1_layout.specs.Shape.{region_of_card}
 use Rattle.g1_core.specs.declared.reply.Fill.TheVariants.{No}
 use Rattle.g1_core.specs.declared.reply.StoreReply.{StoreReply}
-use Rattle.g1_core.specs.Table.{Table, Holds, IsRecorded, IsCovered, AreRefinable, refined}
-use Rattle.g1_core.specs.Run.{stored}
-use Rattle.g1_race_words.specs.declared.view.Shape.{Shape}
 use Rattle.g1_race.specs.Over.{Pause}
 use Rattle.g1_race.specs.Refining.{AreUnflagged}
 
--- all of a race at a pause but its words is as it was
-pub record IsSameRace (old new : Pause) : Type 0 where
+-- whose words these are, how they are laid out, and how many members there are is as it was
+pub record IsKept (old new : Pause) : Type 0 where
   pub layout : new.layout ≡ old.layout
   pub shape : new.shape ≡ old.shape
   pub address : new.address ≡ old.address
   pub table_id : new.table_id ≡ old.table_id
-  pub logs : new.logs ≡ old.logs
+  pub racers : length new.logs ≡ length old.logs
   pub sweepers : new.sweepers ≡ old.sweepers
+
+-- all of a race at a pause but its words is as it was
+pub record IsSameRace (old new : Pause) : Type 0 where
+  pub kept : IsKept old new
+  pub logs : new.logs ≡ old.logs
 
 -- the same once all is refined: each racer's log is empty, and no flag is set
 pub record IsRefinedRace (old new : Pause) : Type 0 where
-  pub layout : new.layout ≡ old.layout
-  pub shape : new.shape ≡ old.shape
-  pub address : new.address ≡ old.address
-  pub table_id : new.table_id ≡ old.table_id
+  pub kept : IsKept old new
   pub logs : new.logs ≡ replicate (length old.logs) []
-  pub sweepers : new.sweepers ≡ old.sweepers
   pub flags : AreUnflagged new.shape new.words
 
 -- each slot's word becomes this

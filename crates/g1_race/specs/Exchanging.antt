@@ -1,11 +1,7 @@
 -- What a racer's store of a word does: a reference, null, or data, which refers to nothing.
-use Rattle.std.specs.Prelude.{◌≡◌, ◌≢◌, ℕ, ◌++◌, [], ◌∷◌, false, true, if◌then◌else◌}
-use Rattle.g1_layout.specs.declared.kind.Kind.{Kind}
-use Rattle.g1_layout.specs.declared.kind.Kind.TheVariants.{SameRegion, Null, AlreadyDirty, Logged}
-use Rattle.g1_race_words.specs.declared.view.Shape.{Shape}
-use Rattle.g1_race_words.specs.declared.view.View.{View}
-use Rattle.g1_race_words.specs.Rule.{IsReference, IsWord, slot_card, crosses}
-use Rattle.g1_race_words.specs.Seats.{IsFound}
+use Rattle.std.specs.Prelude.{◌≡◌, ◌≢◌, ◌++◌, ◌∷◌, if◌then◌else◌}
+use Rattle.g1_race.specs.Prelude.{ℕ, [], false, true, Kind, SameRegion, Null, AlreadyDirty, Logged}
+use Rattle.g1_race.specs.Prelude.{Shape, View, IsReference, IsWord, slot_card, crosses, IsFound}
 use Rattle.g1_race.specs.declared.race.Racer.{Racer}
 use Rattle.g1_race.specs.Race.{stored_view}
 use Rattle.g1_race.specs.Members.{is_logged, racer_log, racer_view}

@@ -1,14 +1,10 @@
 -- What a redirect at a pause does to the words.
-use Rattle.std.specs.Prelude.{◌≡◌, ◌≢◌, ◌⊎◌, ℕ, ◌+◌, ◌-◌, ◌*◌, ◌/◌, ◌%◌, ◌<◌, ◌≤◌, ◌==◌, ◌&&◌, Bool}
-use Rattle.std.specs.Prelude.{true, List, zero, suc, if◌then◌else◌, slice_index}
-use mathlib.Core.Option.{some}
-use lib.ListN.{get_elem?}
+use Rattle.std.specs.Prelude.{◌≡◌, ◌≢◌, ◌⊎◌, ◌+◌, ◌-◌, ◌*◌, ◌/◌, ◌%◌, ◌<◌, ◌≤◌, ◌==◌, ◌&&◌}
+use Rattle.std.specs.Prelude.{if◌then◌else◌}
+use Rattle.g1_race.specs.Prelude.{ℕ, Bool, true, List, zero, suc, slice_index, some, get_elem?}
+use Rattle.g1_race.specs.Prelude.{Moved, Short, Shape, IsBegun, HasBit, slot_card, crosses}
+use Rattle.g1_race.specs.Prelude.{mark_word, as_number, region_at, started}
 use Rattle.g1_core.specs.declared.reply.Redirected.{Redirected}
-use Rattle.g1_core.specs.declared.reply.Redirected.TheVariants.{Moved, Short}
-use Rattle.g1_race_words.specs.declared.view.Shape.{Shape}
-use Rattle.g1_race_words.specs.Rule.{IsBegun, HasBit, slot_card, crosses, mark_word}
-use Rattle.g1_race_words.specs.Rule.{as_number}
-use Rattle.g1_race_words.specs.Rule.{region_at, started}
 use Rattle.g1_race.specs.Clearing.{IsEmptied}
 
 -- the slot, with this word, lies outside the region and refers into it

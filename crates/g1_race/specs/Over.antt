@@ -1,17 +1,10 @@
 -- What is left of a race at a pause or at its end, as a table, and what a core asks of it.
-use Rattle.std.specs.Prelude.{nat_lt, ◌≡◌, ℕ, ◌-◌, ◌^◌, ◌==◌, if◌then◌else◌, List, map, take, drop}
-use Rattle.std.specs.Prelude.{Bool, Option, Some, None}
-use denote.RawPtr.{Ptr}
-use Rattle.atomic_table.specs.Seated.{TableId}
+use Rattle.std.specs.Prelude.{◌≡◌, ◌-◌, ◌^◌, ◌==◌, if◌then◌else◌}
+use Rattle.g1_race.specs.Prelude.{nat_lt, ℕ, List, map, take, drop, Bool, Option, Some, None, Ptr}
+use Rattle.g1_race.specs.Prelude.{TableId, slot_count, Table, Machine, table_with, adopted_machine}
+use Rattle.g1_race.specs.Prelude.{Shape, Start, IsBegun, front, pairs_up_to, started}
 use Rattle.g1_layout.specs.Shape as layout
-use Rattle.g1_layout.specs.Shape.{slot_count}
-use Rattle.g1_core.specs.Table.{Table}
 use Rattle.g1_core.specs.declared.config.Settings.{Settings}
-use Rattle.g1_core.specs.Machine.{Machine}
-use Rattle.g1_core.specs.Adoption.{table_with, adopted_machine}
-use Rattle.g1_race_words.specs.declared.view.Shape.{Shape}
-use Rattle.g1_race_words.specs.Begin.{Start}
-use Rattle.g1_race_words.specs.Rule.{IsBegun, front, pairs_up_to, started}
 use Rattle.g1_race.specs.Race.{shape_of}
 
 -- the words of the slots and of the marks, and the recorded pairs

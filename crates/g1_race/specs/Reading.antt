@@ -1,13 +1,7 @@
 -- A race at a pause that several threads read.
-use Rattle.std.specs.Prelude.{◌≡◌, ℕ, ◌≤◌, Option, Some, None}
-use Rattle.atomic_table.specs.Seated.{TableId}
-use Rattle.atomic_table.specs.declared.shared.Seat.{Seat}
-use Rattle.g1_core.specs.Table.{Table, IsPending, IsRecorded}
-use Rattle.g1_race_words.specs.declared.view.Shape.{Shape}
-use Rattle.g1_race_words.specs.declared.view.View.{View}
-use Rattle.g1_race_words.specs.Begin.{Start}
-use Rattle.g1_race_words.specs.Seats.{IsPaused}
-use Rattle.g1_race_words.specs.Readers.{IsReading}
+use Rattle.std.specs.Prelude.{◌≡◌, ◌≤◌}
+use Rattle.g1_race.specs.Prelude.{ℕ, Option, Some, None, TableId, Seat, Table, IsPending}
+use Rattle.g1_race.specs.Prelude.{IsRecorded, Shape, View, Start, IsPaused, IsReading}
 use Rattle.g1_race.specs.declared.race.Race.{Race}
 use Rattle.g1_race.specs.Over.{Pause, ended, start_at, table_of}
 

@@ -1,13 +1,9 @@
 -- What refinement at a pause does to the words.
-use Rattle.std.specs.Prelude.{◌≡◌, ◌≢◌, ◌⊎◌, ℕ, ◌+◌, ◌*◌, ◌<◌, ◌≤◌, List, [], ◌∷◌, ◌++◌, zero, suc}
-use Rattle.std.specs.Prelude.{Contains, slice_index_or, slice_set}
-use mathlib.Core.Option.{some}
-use lib.ListN.{get_elem?}
-use Rattle.g1_core.specs.Table.{Table, Holds, IsPending, IsCovered, AreMembers}
-use Rattle.g1_race_words.specs.declared.view.Shape.{Shape}
-use Rattle.g1_race_words.specs.Rule.{In, IsBegun, IsPair, HasBit, BeganInto, flag, mark_word}
-use Rattle.g1_race_words.specs.Rule.{started}
-use Rattle.g1_race_words.specs.Steps.{pair_at}
+use Rattle.std.specs.Prelude.{◌≡◌, ◌≢◌, ◌⊎◌, ◌+◌, ◌*◌, ◌<◌, ◌≤◌, ◌∷◌, ◌++◌}
+use Rattle.g1_race.specs.Prelude.{ℕ, List, [], zero, suc, Contains, slice_index_or, slice_set, some}
+use Rattle.g1_race.specs.Prelude.{get_elem?, Table, Holds, IsPending, IsCovered, AreMembers, Shape}
+use Rattle.g1_race.specs.Prelude.{In, IsBegun, IsPair, HasBit, BeganInto, flag, mark_word, started}
+use Rattle.g1_race.specs.Prelude.{pair_at}
 
 -- the pairs of the card's first slots, as many as this
 abbrev pub card_pairs : Shape → List ℕ → ℕ → ℕ → List (ℕ × ℕ)

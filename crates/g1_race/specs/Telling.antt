@@ -1,10 +1,8 @@
 -- Cards that are told apart by a test: the dirty ones, and those of a region's remembered set.
-use Rattle.std.specs.Prelude.{◌≡◌, ℕ, ◌+◌, ◌*◌, not, length, ◌<◌, ◌≤◌, ◌==◌, List, [], ◌∷◌, ◌++◌}
-use Rattle.std.specs.Prelude.{zero, suc, Bool, true, false, Option, Some, None, if◌then◌else◌}
-use Rattle.std.specs.Prelude.{slice_index}
-use Rattle.std.specs.Int.{bit_at}
-use Rattle.g1_race_words.specs.declared.view.Shape.{Shape}
-use Rattle.g1_race_words.specs.Rule.{bit_place, bit_word, mark_word}
+use Rattle.std.specs.Prelude.{◌≡◌, ◌+◌, ◌*◌, ◌<◌, ◌≤◌, ◌==◌, ◌∷◌, ◌++◌, if◌then◌else◌}
+use Rattle.g1_race.specs.Prelude.{ℕ, not, length, List, [], zero, suc, Bool, true, false, Option}
+use Rattle.g1_race.specs.Prelude.{Some, None, slice_index, bit_at, Shape, bit_place, bit_word}
+use Rattle.g1_race.specs.Prelude.{mark_word}
 
 -- those of the first cards, as many as this, of which the test is true, ascending
 abbrev pub cards_where : (ℕ → Bool) → ℕ → List ℕ

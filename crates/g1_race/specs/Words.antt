@@ -1,12 +1,8 @@
 -- What the rule of a race says of the words alone.
-use Rattle.std.specs.Prelude.{◌≡◌, ◌⊎◌, ℕ, ◌<◌, ◌≤◌, List, true, Some}
-use mathlib.Core.Option.{some}
-use lib.ListN.{get_elem?}
-use Rattle.g1_race_words.specs.declared.view.Shape.{Shape}
-use Rattle.g1_race_words.specs.declared.view.View.{View}
-use Rattle.g1_race_words.specs.Begin.{Begun}
-use Rattle.g1_race_words.specs.Rule.{In, Held, held_of, slot_card, region_at, crosses, IsMarked}
-use Rattle.g1_race_words.specs.Rule.{IsPair, HasBit, StoredInto, BeganInto, Raced}
+use Rattle.std.specs.Prelude.{◌≡◌, ◌⊎◌, ◌<◌, ◌≤◌}
+use Rattle.g1_race.specs.Prelude.{ℕ, List, true, Some, some, get_elem?, Shape, View, Begun, In}
+use Rattle.g1_race.specs.Prelude.{Held, held_of, slot_card, region_at, crosses, IsMarked, IsPair}
+use Rattle.g1_race.specs.Prelude.{HasBit, StoredInto, BeganInto, Raced}
 
 -- the seat owes the card of the slot, still has the slot to read, or holds the pair of the slot and
 -- its word

@@ -1,6 +1,6 @@
 //! Where the words of a race lie, for a runtime that reads its fields there.
 ghost use Rattle.std.specs.Prelude.{◌≡◌};
-ghost use Rattle.g1_race.specs.Members.{race_words};
+ghost use Rattle.g1_race.specs.{race_words};
 
 use crate::paused::Paused;
 use crate::paused::holds::Holds;

@@ -1,19 +1,10 @@
 //! Words that are no references: a slot may hold data, which refers to nothing.
-ghost use Rattle.std.specs.Prelude.{◌≡◌, ℕ, ◌<◌, ◌≤◌, ◌^◌, false, None};
-ghost use mathlib.Core.Option.{some};
-ghost use lib.ListN.{get_elem?};
-ghost use Rattle.g1_layout.specs.declared.kind.Kind.TheVariants.{Null};
-ghost use Rattle.g1_layout.specs.Shape.{slot_count};
-ghost use Rattle.g1_core.specs.Run.{IsStep, stored};
-ghost use Rattle.g1_core.specs.Calls.{store_entry};
-ghost use Rattle.g1_race_words.specs.Rule.{IsWord};
-ghost use Rattle.g1_race_words.specs.Seats.{IsFound};
-ghost use Rattle.g1_race.specs.Evacuating.{IsSameRace, SlotsBecome, one_word, plain_reply};
-ghost use Rattle.g1_race.specs.Members.{race_id, race_layout, race_shape, racer_log, racer_race};
-ghost use Rattle.g1_race.specs.Members.{racer_start, racer_view};
-ghost use Rattle.g1_race.specs.Over.{table_at};
+ghost use Rattle.std.specs.Prelude.{◌≡◌, ◌<◌, ◌≤◌, ◌^◌};
+ghost use Rattle.g1_race.specs.{ℕ, false, None, some, get_elem?, Null, slot_count, IsStep, stored};
+ghost use Rattle.g1_race.specs.{store_entry, IsWord, IsFound, IsSameRace, SlotsBecome, one_word};
+ghost use Rattle.g1_race.specs.{plain_reply, race_id, race_layout, race_shape, racer_log};
+ghost use Rattle.g1_race.specs.{racer_race, racer_start, racer_view, table_at, reader_race};
 ghost use Rattle.g1_race.specs.Race as racing;
-ghost use Rattle.g1_race.specs.Reading.{reader_race};
 
 use crate::paused::Paused;
 use crate::paused::access::{put, see};

@@ -8,11 +8,9 @@ mod close;
 mod into_core;
 mod pairs;
 
-ghost use Rattle.std.specs.Prelude.{◌≡◌, ◌+◌, ◌<◌, ◌↔◌, IsTrue, IfSome};
-ghost use Rattle.g1_core.specs.Table.{target_of, IsPending, IsRecorded};
-ghost use mathlib.Core.Option.{some};
-ghost use lib.ListN.{get_elem?};
-ghost use Rattle.g1_layout.specs.Shape.{slot_count, card_count};
+ghost use Rattle.std.specs.Prelude.{◌≡◌, ◌+◌, ◌<◌, ◌↔◌};
+ghost use Rattle.g1_race.specs.Prelude.{IsTrue, IfSome, target_of, IsPending, IsRecorded, some};
+ghost use Rattle.g1_race.specs.Prelude.{get_elem?, slot_count, card_count};
 ghost use Rattle.g1_race.specs.Over.{refs_of, marks_of, table_of};
 
 use crate::ended::pairs::has_bit;
@@ -35,8 +33,7 @@ pub struct Closed {
 
 impl Model for Closed {
     ghost use Rattle.std.specs.Prelude.{◌≡◌};
-    ghost use Rattle.g1_race_words.specs.Rule.{word_count};
-    ghost use Rattle.std.specs.Slots.{slots_items, slots_len, IsFull};
+    ghost use Rattle.g1_race.specs.Prelude.{word_count, slots_items, slots_len, IsFull};
     ghost use Rattle.g1_race.specs.Over.{Ended, IsEnded, ended};
 
     ghost Value = { Ended };

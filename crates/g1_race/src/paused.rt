@@ -53,10 +53,10 @@ pub struct Paused<R: Holds = Race> {
 }
 
 impl<R: Holds> Model for Paused<R> {
-    ghost use Rattle.std.specs.Prelude.{◌≡◌, ◌+◌, map, vec_len};
+    ghost use Rattle.std.specs.Prelude.{◌≡◌, ◌+◌};
+    ghost use Rattle.g1_race.specs.Prelude.{map, vec_len, IsPaused};
     ghost use Rattle.g1_race.specs.Members.{at_pause_of, racer_log};
     ghost use Rattle.g1_race.specs.Over.{Pause};
-    ghost use Rattle.g1_race_words.specs.Seats.{IsPaused};
 
     ghost Value = { Pause };
 

@@ -12,8 +12,8 @@ mod exchange;
 mod pause;
 pub(crate) mod refinement;
 
-ghost use Rattle.std.specs.Prelude.{◌≡◌, ◌<◌, []};
-ghost use Rattle.g1_race_words.specs.Rule.{IsWholeShape};
+ghost use Rattle.std.specs.Prelude.{◌≡◌, ◌<◌};
+ghost use Rattle.g1_race.specs.Prelude.{[], IsWholeShape};
 ghost use Rattle.g1_race.specs.Race.{shape_of, IsRacing, IsSweeping};
 
 use arrayvec::ArrayVec;

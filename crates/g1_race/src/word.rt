@@ -1,10 +1,8 @@
 //! A slot's word, and what it refers to.
-ghost use Rattle.std.specs.Prelude.{◌≡◌, ◌<◌, ◌^◌, ◌↔◌, ◌∷◌, [], IsTrue, IfSome, MatchOption};
-ghost use Rattle.g1_layout.specs.Shape.{slot_count};
-ghost use Rattle.g1_race_words.specs.Rule.{IsReference, IsWord, IsPair, IsOfCrossing, slot_card};
-ghost use Rattle.g1_race_words.specs.Steps.{pair_at};
-ghost use Rattle.g1_race.specs.Race.{shape_of, word_of};
-ghost use Rattle.g1_race.specs.Over.{target_of_word};
+ghost use Rattle.std.specs.Prelude.{◌≡◌, ◌<◌, ◌^◌, ◌↔◌, ◌∷◌};
+ghost use Rattle.g1_race.specs.{[], IsTrue, IfSome, MatchOption, slot_count, IsReference, IsWord};
+ghost use Rattle.g1_race.specs.{IsPair, IsOfCrossing, slot_card, pair_at, shape_of, word_of};
+ghost use Rattle.g1_race.specs.{target_of_word};
 
 use crate::race::Race;
 use g1_layout::{Layout, Slot};

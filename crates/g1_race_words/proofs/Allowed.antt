@@ -1,18 +1,9 @@
 -- Each kind of step of a race is allowed, as a call on the table asks for it.
-use Rattle.std.proofs.Common.{inl, inr, ◌≡◌, ℕ, ◌-◌, ◌*◌, ◌%◌, ◌^◌, ◌<◌, ◌==◌, bit_or, cond, List, [], ◌∷◌, set, get_or, Bool, true, false, Some, None, refl, sym, ap, subst, arith}
-use mathlib.Core.Option.{some}
-use lib.ListN.{get_elem?}
-use prog.Atomic.{either}
-use Rattle.atomic_table.specs.Table.{State, Me, keeps, Allows, Splits, Joins, Enters}
-use Rattle.g1_race_words.specs.declared.view.Shape.{Shape}
-use Rattle.g1_race_words.specs.declared.view.View.{View}
-use Rattle.g1_race_words.specs.Begin.{Start}
-use Rattle.g1_race_words.specs.Rule.{IsWord, StoreHistory, Raced, beginning, mark_word, bit_word, bit_place, In, IsWholeShape, IsPair, AtRest, IsBlank, Going}
-use Rattle.g1_race_words.specs.Steps.{blank, wrote, exchanged, looked, owed_card, dirtied, cleaned, read, sought, recorded, after_split, new_racer, new_sweeper, both, no_seat}
+use Rattle.std.specs.Prelude.{◌≡◌, ◌-◌, ◌*◌, ◌%◌, ◌^◌, ◌<◌, ◌==◌, ◌∷◌}
+use Rattle.g1_race_words.specs.{inl, inr, ℕ, bit_or, cond, List, [], set, get_or, Bool, true, false, Some, None, refl, sym, ap, subst, arith, some, get_elem?, either, State, Me, keeps, Allows, Splits, Joins, Enters, Shape, View, Start, IsWord, StoreHistory, Raced, beginning, mark_word, bit_word, bit_place, In, IsWholeShape, IsPair, AtRest, IsBlank, Going, blank, wrote, exchanged, looked, owed_card, dirtied, cleaned, read, sought, recorded, after_split, new_racer, new_sweeper, both, no_seat, IsFound, Sits}
 use Rattle.g1_race_words.proofs.PairBits.{with_pair}
 use Rattle.g1_race_words.proofs.Plain.{set_read, set_there, read_at}
 use Rattle.g1_race_words.proofs.Tallies.{number_given, number_dropped}
-use Rattle.g1_race_words.specs.Seats.{IsFound, Sits}
 use Rattle.g1_race_words.proofs.Writing.{raced_wrote}
 use Rattle.g1_race_words.proofs.Marking.{raced_looked, raced_dirtied}
 use Rattle.g1_race_words.proofs.Cleaning.{raced_cleaned}

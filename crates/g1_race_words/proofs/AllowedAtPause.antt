@@ -1,12 +1,7 @@
 -- Each kind of step at a pause is allowed, as a call on the table asks for it.
-use Rattle.std.proofs.Common.{◌≡◌, ℕ, ◌<◌, List, set, true, refl, sym, ap, ◌∙◌, subst}
-use Rattle.atomic_table.specs.Table.{Me, keeps, Allows}
-use Rattle.g1_race_words.specs.declared.view.Shape.{Shape}
-use Rattle.g1_race_words.specs.declared.view.View.{View}
-use Rattle.g1_race_words.specs.Rule.{IsWholeShape, AtRest, IsBlank, IsBegun, Going, started}
-use Rattle.g1_race_words.specs.Steps.{frozen_seat, thawed, put}
+use Rattle.std.specs.Prelude.{◌≡◌, ◌<◌}
+use Rattle.g1_race_words.specs.{ℕ, List, set, true, refl, sym, ap, ◌∙◌, subst, Me, keeps, Allows, Shape, View, IsWholeShape, AtRest, IsBlank, IsBegun, Going, started, frozen_seat, thawed, put, Freezes}
 use Rattle.g1_race_words.proofs.Plain.{set_read}
-use Rattle.g1_race_words.specs.Seats.{Freezes}
 use Rattle.g1_race_words.proofs.GoingAnew.{going_anew, begun_here, known_words, raced_mine, shape_mine}
 use Rattle.g1_race_words.proofs.Allowed.{Rule}
 

@@ -1,34 +1,28 @@
 -- What a race begins with keeps its rule.
-use Rattle.std.proofs.Common.{◌≡◌, ℕ, zero, suc, ◌+◌, ◌<◌, ◌≤◌, true, List, [], ◌∷◌, length, get_or, take, refl, sym, ap, ◌∙◌, subst, inl, inr, ⊎_elim, arith, replicate}
-use Rattle.std.specs.Int.{bit_at}
-use Rattle.std.proofs.lemmas.Nat.Bits.{bit_at-zero}
-use mathlib.Core.Option.{some, some-ne-none, some-injective}
-use lib.ListN.{get_elem?}
-use Rattle.g1_race_words.specs.declared.view.Shape.{Shape}
-use Rattle.g1_race_words.specs.declared.view.View.{View}
-use Rattle.g1_race_words.specs.Rule.{MadeDirty, IsBegun, IsWholeShape, HasBit, bit_word, bit_place, slot_card, mark_word, region_at, In, Held, claims_of, pairs_found, IsMarked, IsBlank, Raced, Going, front, pairs_up_to, null_of, started, beginning, start_of, word_count}
-use Rattle.g1_race_words.specs.Steps.{frozen_seat}
+use Rattle.std.specs.Prelude.{◌≡◌, ◌+◌, ◌<◌, ◌≤◌, ◌∷◌}
+use Rattle.g1_race_words.specs.{ℕ, zero, suc, true, List, [], length, get_or, take, refl, sym, ap, ◌∙◌, subst, inl, inr, ⊎_elim, arith, replicate, bit_at, bit_at-zero, some, some-ne-none, some-injective, get_elem?, Shape, View, MadeDirty, IsBegun, IsWholeShape, HasBit, bit_word, bit_place, slot_card, mark_word, region_at, In, Held, claims_of, pairs_found, IsMarked, IsBlank, Raced, Going, front, pairs_up_to, null_of, started, beginning, start_of, word_count, frozen_seat}
 use Rattle.g1_race_words.proofs.PairBits.{crossing_pair}
-use Rattle.g1_race_words.proofs.Places.{at_take, at_untake}
+use Rattle.g1_race_words.proofs.Places.{at_read, at_take, at_untake, reads_as}
 use Rattle.g1_race_words.proofs.Listing.{in_set, set_in}
 use Rattle.g1_race_words.proofs.Reading.{null_stays}
 
 abbrev pub zeros : ℕ → List ℕ
 zeros n = replicate n 0
 
-pub at_zeros : (n i x : ℕ) → get_elem? (zeros n) i ≡ some x → x ≡ 0
-at_zeros zero i x e = absurd (some-ne-none x (sym e))
-at_zeros (suc n) zero x e = sym (some-injective 0 x e)
-at_zeros (suc n) (suc i) x e = at_zeros n i x e
-
-pub zero_at : (n i : ℕ) → i < n → get_elem? (zeros n) i ≡ some 0
-zero_at zero i h = absurd (omega arith)
-zero_at (suc n) zero h = refl
-zero_at (suc n) (suc i) h = zero_at n i (omega arith)
+pub zeros_read : (n i : ℕ) → get_or (zeros n) i 0 ≡ 0
+zeros_read zero i = refl
+zeros_read (suc n) zero = refl
+zeros_read (suc n) (suc i) = zeros_read n i
 
 pub length_zeros : (n : ℕ) → length (zeros n) ≡ n
 length_zeros zero = refl
 length_zeros (suc n) = ap suc (length_zeros n)
+
+pub at_zeros : (n i x : ℕ) → get_elem? (zeros n) i ≡ some x → x ≡ 0
+at_zeros n i x e = sym (reads_as (zeros n) i x 0 e) ∙ zeros_read n i
+
+pub zero_at : (n i : ℕ) → i < n → get_elem? (zeros n) i ≡ some 0
+zero_at n i h = at_read (zeros n) i 0 (omega (arith, length_zeros n)) ∙ ap some (zeros_read n i)
 
 only : (v w : View) (seat : ℕ) → get_elem? (v ∷ []) seat ≡ some w → v ≡ w
 only v w zero e = some-injective v w e
@@ -76,11 +70,6 @@ raced_beginning k words h = let v = frozen_seat (started k words) k.members in r
 
 pub no_bit : (k : Shape) (words : List ℕ) (x : ℕ × ℕ) → get_or words (bit_word k x) 0 ≡ 0 → HasBit k words x → ⊥
 no_bit k words x e b = absurd (let z : bit_at (get_or words (bit_word k x) 0) (bit_place k x) ≡ 0 = ap (λ (n : ℕ). bit_at n (bit_place k x)) e ∙ bit_at-zero (bit_place k x) in omega (arith, z, b))
-
-pub zeros_read : (n i : ℕ) → get_or (zeros n) i 0 ≡ 0
-zeros_read zero i = refl
-zeros_read (suc n) zero = refl
-zeros_read (suc n) (suc i) = zeros_read n i
 
 pub null_begun : (k : Shape) → IsWholeShape k → IsBegun (null_of k)
 null_begun k shaped = let all = word_count k in record {

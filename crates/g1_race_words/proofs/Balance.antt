@@ -1,14 +1,7 @@
 -- What was stored and what was overwritten: each step keeps their balance.
-use Rattle.std.proofs.Common.{◌≡◌, ◌≢◌, ℕ, ◌+◌, ◌<◌, cond, eqb, eq-eqb, ne_eqb, List, [], ◌∷◌, ◌++◌, length, set, get_or, Bool, refl, sym, ap, ◌∙◌, subst, inl, inr, arith, sum_by}
+use Rattle.std.specs.Prelude.{◌≡◌, ◌≢◌, ◌+◌, ◌<◌, ◌∷◌, ◌++◌}
+use Rattle.g1_race_words.specs.{ℕ, cond, eqb, eq-eqb, ne_eqb, List, [], length, set, get_or, Bool, refl, sym, ap, ◌∙◌, subst, inl, inr, arith, sum_by, some, some-injective, ℕ_discrete, get_elem?, set_here, set_else, Shape, View, In, StoreHistory, sum_at, stored_sum, overwritten_sum, total, Balanced, gains_store, wrote}
 use Rattle.std.proofs.lemmas.List.Sums.{sum_by-cons, sum_by-append}
-use mathlib.Core.Option.{some, some-injective}
-use native.Mathlib.Decide.{ℕ_discrete}
-use lib.ListN.{get_elem?}
-use Rattle.atomic_table.proofs.Lists.{set_here, set_else}
-use Rattle.g1_race_words.specs.declared.view.Shape.{Shape}
-use Rattle.g1_race_words.specs.declared.view.View.{View}
-use Rattle.g1_race_words.specs.Rule.{In, StoreHistory, sum_at, stored_sum, overwritten_sum, total, Balanced}
-use Rattle.g1_race_words.specs.Steps.{gains_store, wrote}
 use Rattle.g1_race_words.proofs.Plain.{read_at, total_set}
 use Rattle.g1_race_words.proofs.Unchanged.{SameSlots}
 

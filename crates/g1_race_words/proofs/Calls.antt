@@ -1,14 +1,6 @@
 -- What the calls of a step ask, of the table and the seat inside.
-use Rattle.std.proofs.Common.{◌≡◌, ℕ, ◌-◌, ◌*◌, ◌%◌, ◌^◌, ◌<◌, ◌==◌, bit_or, [], ◌∷◌, set, None, refl, sym, ap, subst, arith}
-use prog.Atomic.{either}
-use Rattle.atomic_table.specs.Table.{State, Me, Allows, Splits, Joins}
-use Rattle.atomic_table.specs.Seated.{TableId}
-use Rattle.atomic_table.specs.declared.shared.Seat.{Seat}
-use Rattle.g1_race_words.specs.declared.view.Shape.{Shape}
-use Rattle.g1_race_words.specs.declared.view.View.{View}
-use Rattle.g1_race_words.specs.Rule.{AtRest, Going, StoreHistory, IsBegun, IsBlank, IsWholeShape, IsWord, bit_place, flag, started, word_count}
-use Rattle.g1_race_words.specs.Steps.{both, whole_seat, cleaned, dirtied, exchanged, frozen_seat, after_split, looked, new_racer, new_sweeper, no_seat, owed_card, put, raised, read, recorded, sought, spotted, thawed, wrote}
-use Rattle.g1_race_words.specs.Seats.{Freezes, HoldsBit, IsWholeSeat, IsFound, IsMark, IsPaused, OwesFlag, OwesMark, Sits, Words}
+use Rattle.std.specs.Prelude.{◌≡◌, ◌-◌, ◌*◌, ◌%◌, ◌^◌, ◌<◌, ◌==◌, ◌∷◌}
+use Rattle.g1_race_words.specs.{ℕ, bit_or, [], set, None, refl, sym, ap, subst, arith, either, State, Me, Allows, Splits, Joins, TableId, Seat, Shape, View, AtRest, Going, StoreHistory, IsBegun, IsBlank, IsWholeShape, IsWord, bit_place, flag, started, word_count, both, whole_seat, cleaned, dirtied, exchanged, frozen_seat, after_split, looked, new_racer, new_sweeper, no_seat, owed_card, put, raised, read, recorded, sought, spotted, thawed, wrote, Freezes, HoldsBit, IsWholeSeat, IsFound, IsMark, IsPaused, OwesFlag, OwesMark, Sits, Words}
 use Rattle.g1_race_words.proofs.PairBits.{word_below}
 use Rattle.g1_race_words.proofs.Flags.{flag_below}
 use Rattle.g1_race_words.proofs.Flagging.{allows_raise, allows_spot}

@@ -1,14 +1,6 @@
 -- A sweeper cleans a mark.
-use Rattle.std.proofs.Common.{◌≡◌, ◌⊎◌, ℕ, ◌+◌, ◌<◌, eqb, List, length, set, get_or, refl, sym, ◌∙◌, subst, inl, inr, ⊎_elim, arith, length-set, eq-eqb}
-use mathlib.Core.Option.{some, some-injective}
-use native.Mathlib.Decide.{ℕ_discrete}
-use lib.ListN.{get_elem?}
-use Rattle.atomic_table.proofs.Lists.{set_here, set_else}
-use Rattle.g1_race_words.specs.declared.view.Shape.{Shape}
-use Rattle.g1_race_words.specs.declared.view.View.{View}
-use Rattle.g1_race_words.specs.Begin.{Begun}
-use Rattle.g1_race_words.specs.Rule.{MadeDirty, mark_word, flag, In, Held, claims_of, cleanings_of, claims_at, cleanings_at, total, Claimed, Counted, Raced}
-use Rattle.g1_race_words.specs.Steps.{cleaned}
+use Rattle.std.specs.Prelude.{◌≡◌, ◌⊎◌, ◌+◌, ◌<◌}
+use Rattle.g1_race_words.specs.{ℕ, eqb, List, length, set, get_or, refl, sym, ◌∙◌, subst, inl, inr, ⊎_elim, arith, length-set, eq-eqb, some, some-injective, ℕ_discrete, get_elem?, set_here, set_else, Shape, View, Begun, MadeDirty, mark_word, flag, In, Held, claims_of, cleanings_of, claims_at, cleanings_at, total, Claimed, Counted, Raced, cleaned, Sits}
 use Rattle.g1_race_words.proofs.Plain.{put_here, read_at, read_is, total_set, SameHeld, held_on, held_same}
 use Rattle.g1_race_words.proofs.CoverSweeps.{covered_cleaned}
 use Rattle.g1_race_words.proofs.PairBits.{same_bits, bit_as}
@@ -16,7 +8,6 @@ use Rattle.g1_race_words.proofs.Flags.{flags_stay, none_dirtied}
 use Rattle.g1_race_words.proofs.Keeping.{kept_stays}
 use Rattle.g1_race_words.proofs.Balance.{balance_stays}
 use Rattle.g1_race_words.proofs.Unchanged.{weighed_step, numbers_stay, same_slots_at_mark, bounded_same, Claim, made_on, claim_same, stores_stay, pairs_stay}
-use Rattle.g1_race_words.specs.Seats.{Sits}
 use Rattle.g1_race_words.proofs.Marking.{in_cond, in_cond_here, mark_is, times_here, times_unlisted, times_other}
 
 -- a sweeper cleans a card

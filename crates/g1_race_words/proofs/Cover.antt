@@ -1,12 +1,6 @@
 -- What the steps have in common: each reference between regions is answered for anew, or was answered for, and is still.
-use Rattle.std.proofs.Common.{◌≡◌, ◌⊎◌, ℕ, ◌<◌, List, set, true, ◌∙◌, subst, inl, inr, ⊎_elim}
-use mathlib.Core.Option.{some}
-use native.Mathlib.Decide.{ℕ_discrete}
-use lib.ListN.{get_elem?}
-use Rattle.atomic_table.proofs.Lists.{set_else}
-use Rattle.g1_race_words.specs.declared.view.Shape.{Shape}
-use Rattle.g1_race_words.specs.declared.view.View.{View}
-use Rattle.g1_race_words.specs.Rule.{slot_card, region_at, crosses, In, AnswersFor, IsMarked, Someone, Covered}
+use Rattle.std.specs.Prelude.{◌≡◌, ◌⊎◌, ◌<◌}
+use Rattle.g1_race_words.specs.{ℕ, List, set, true, ◌∙◌, subst, inl, inr, ⊎_elim, some, ℕ_discrete, get_elem?, set_else, Shape, View, slot_card, region_at, crosses, In, AnswersFor, IsMarked, Someone, Covered}
 use Rattle.g1_race_words.proofs.Plain.{put_here, one_there}
 
 -- what the steps have in common: each reference that crosses is answered for anew, or was answered for, and each answer is handed on

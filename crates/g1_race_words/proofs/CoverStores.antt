@@ -1,13 +1,6 @@
 -- A racer's steps keep that every reference between regions is answered for.
-use Rattle.std.proofs.Common.{◌≡◌, ◌≢◌, ◌⊎◌, ℕ, ◌<◌, cond, eqb, List, length, set, get_or, true, Some, None, refl, sym, ap, ◌∙◌, subst, inl, inr, ⊎_elim, arith, ne_eqb}
-use mathlib.Core.Option.{some}
-use native.Mathlib.Decide.{ℕ_discrete}
-use lib.ListN.{get_elem?}
-use Rattle.atomic_table.proofs.Lists.{at_set, set_here, set_else}
-use Rattle.g1_race_words.specs.declared.view.Shape.{Shape}
-use Rattle.g1_race_words.specs.declared.view.View.{View}
-use Rattle.g1_race_words.specs.Rule.{slot_card, mark_word, crosses, AnswersFor, IsMarked, Covered}
-use Rattle.g1_race_words.specs.Steps.{wrote, looked, dirtied}
+use Rattle.std.specs.Prelude.{◌≡◌, ◌≢◌, ◌⊎◌, ◌<◌}
+use Rattle.g1_race_words.specs.{ℕ, cond, eqb, List, length, set, get_or, true, Some, None, refl, sym, ap, ◌∙◌, subst, inl, inr, ⊎_elim, arith, ne_eqb, some, ℕ_discrete, get_elem?, at_set, set_here, set_else, Shape, View, slot_card, mark_word, crosses, AnswersFor, IsMarked, Covered, wrote, looked, dirtied}
 use Rattle.g1_race_words.proofs.Plain.{read_at, true_is, false_is}
 use Rattle.g1_race_words.proofs.Cover.{Answered, HandsOn, covered_moves, Passes, by_seat, others_pass}
 

@@ -1,13 +1,6 @@
 -- A sweeper's steps, and those of seats, keep that every reference between regions is answered for.
-use Rattle.std.proofs.Common.{◌≡◌, ◌⊎◌, ℕ, ◌+◌, ◌*◌, ◌/◌, ◌%◌, ◌<◌, ◌≤◌, List, [], ◌∷◌, ◌++◌, set, get_or, true, None, refl, sym, ap, ◌∙◌, subst, inl, inr, arith, div-add-mod', mod-lt}
-use mathlib.Core.Option.{some}
-use native.Mathlib.Decide.{ℕ_discrete}
-use lib.ListN.{get_elem?}
-use Rattle.atomic_table.proofs.Lists.{set_else, at_longer}
-use Rattle.g1_race_words.specs.declared.view.Shape.{Shape}
-use Rattle.g1_race_words.specs.declared.view.View.{View}
-use Rattle.g1_race_words.specs.Rule.{slot_card, mark_word, region_at, crosses, In, AnswersFor, IsMarked, Covered}
-use Rattle.g1_race_words.specs.Steps.{cleaned, pair_at, read, both}
+use Rattle.std.specs.Prelude.{◌≡◌, ◌⊎◌, ◌+◌, ◌*◌, ◌/◌, ◌%◌, ◌<◌, ◌≤◌, ◌∷◌, ◌++◌}
+use Rattle.g1_race_words.specs.{ℕ, List, [], set, get_or, true, None, refl, sym, ap, ◌∙◌, subst, inl, inr, arith, div-add-mod', mod-lt, some, ℕ_discrete, get_elem?, set_else, at_longer, Shape, View, slot_card, mark_word, region_at, crosses, In, AnswersFor, IsMarked, Covered, cleaned, pair_at, read, both}
 use Rattle.g1_race_words.proofs.Plain.{in_left, in_right, put_here, one_there, read_is, true_is}
 use Rattle.g1_race_words.proofs.Cover.{Answered, HandsOn, covered_moves, Passes, by_seat, others_pass}
 use Rattle.g1_race_words.proofs.CoverStores.{mark_apart}

@@ -1,8 +1,6 @@
 -- Which words refer into another region: neither null nor data.
-use Rattle.std.proofs.Common.{◌≡◌, ℕ, ◌/◌, ◌<◌, ◌≤◌, ◌^◌, eqb, not, nat_lt, true, false, sym, ap, ◌∙◌, inl, inr, arith, ne_eqb}
-use Rattle.std.proofs.lemmas.Bool.{cases_lt, lt-ltb, le-ltb}
-use Rattle.g1_race_words.specs.declared.view.Shape.{Shape}
-use Rattle.g1_race_words.specs.Rule.{IsReference, IsWord, region_at, crosses}
+use Rattle.std.specs.Prelude.{◌≡◌, ◌/◌, ◌<◌, ◌≤◌, ◌^◌}
+use Rattle.g1_race_words.specs.{ℕ, eqb, not, nat_lt, true, false, sym, ap, ◌∙◌, inl, inr, arith, ne_eqb, cases_lt, lt-ltb, le-ltb, Shape, IsReference, IsWord, region_at, crosses}
 use Rattle.g1_race_words.proofs.Plain.{true_is, false_is}
 
 pub null_crosses : (k : Shape) (p n : ℕ) → n ≡ 0 → crosses k p n ≡ false

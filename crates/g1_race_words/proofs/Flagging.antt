@@ -1,11 +1,6 @@
 -- The steps on a card's flag are allowed.
-use Rattle.std.proofs.Common.{◌≡◌, ℕ, ◌*◌, ◌%◌, ◌^◌, ◌<◌, bit_or, List, set, get_or, Some, refl, sym, subst, arith}
-use Rattle.atomic_table.specs.Table.{State, Me, keeps, Allows}
-use Rattle.g1_race_words.specs.declared.view.Shape.{Shape}
-use Rattle.g1_race_words.specs.declared.view.View.{View}
-use Rattle.g1_race_words.specs.Rule.{bit_word, bit_place, flag, IsWholeShape, Going}
-use Rattle.g1_race_words.specs.Steps.{spotted, raised}
-use Rattle.g1_race_words.specs.Seats.{Sits}
+use Rattle.std.specs.Prelude.{◌≡◌, ◌*◌, ◌%◌, ◌^◌, ◌<◌}
+use Rattle.g1_race_words.specs.{ℕ, bit_or, List, set, get_or, Some, refl, sym, subst, arith, State, Me, keeps, Allows, Shape, View, bit_word, bit_place, flag, IsWholeShape, Going, spotted, raised, Sits}
 use Rattle.g1_race_words.proofs.Plain.{set_read}
 use Rattle.g1_race_words.proofs.PairBits.{with_pair}
 use Rattle.g1_race_words.proofs.Raising.{raced_spotted, raced_raised}

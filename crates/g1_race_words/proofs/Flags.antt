@@ -1,14 +1,7 @@
 -- The cards' flags among the words.
-use Rattle.std.proofs.Common.{◌≡◌, ◌∙◌, ℕ, ◌+◌, ◌*◌, ◌/◌, ◌%◌, ◌<◌, ◌≤◌, suc, List, length, set, sym, subst, arith}
+use Rattle.std.specs.Prelude.{◌≡◌, ◌+◌, ◌*◌, ◌/◌, ◌%◌, ◌<◌, ◌≤◌}
+use Rattle.g1_race_words.specs.{◌∙◌, ℕ, suc, List, length, set, sym, subst, arith, mul-add-lt, some, some-injective, ℕ_discrete, get_elem?, set_else, set_here, Shape, View, AreFlagged, Flagged, Held, IsFlagged, IsWholeShape, bit_word, flag, flagged_of, mark_word, word_count}
 use Rattle.std.proofs.Math.Nat.{mul-suc}
-use Rattle.std.proofs.lemmas.Nat.{mul-add-lt}
-use mathlib.Core.Option.{some, some-injective}
-use native.Mathlib.Decide.{ℕ_discrete}
-use lib.ListN.{get_elem?}
-use Rattle.atomic_table.proofs.Lists.{set_else, set_here}
-use Rattle.g1_race_words.specs.declared.view.Shape.{Shape}
-use Rattle.g1_race_words.specs.declared.view.View.{View}
-use Rattle.g1_race_words.specs.Rule.{AreFlagged, Flagged, Held, IsFlagged, IsWholeShape, bit_word, flag, flagged_of, mark_word, word_count}
 use Rattle.g1_race_words.proofs.Plain.{held_same}
 use Rattle.g1_race_words.proofs.PairBits.{card_in_row, with_pair}
 

@@ -1,13 +1,6 @@
 -- What the steps, the splits and the joins do to the rule beside the race itself: who agrees on the beginning, and what is known at a pause.
-use Rattle.std.proofs.Common.{◌≡◌, ◌≢◌, ℕ, ◌<◌, ◌≤◌, List, [], ◌∷◌, ◌++◌, set, Bool, true, false, sym, ap, ◌∙◌, subst, ⊎_elim, arith}
-use mathlib.Core.Option.{some}
-use lib.ListN.{get_elem?}
-use Rattle.atomic_table.proofs.Lists.{at_set, at_snoc, set_else}
-use Rattle.g1_race_words.specs.declared.view.Shape.{Shape}
-use Rattle.g1_race_words.specs.declared.view.View.{View}
-use Rattle.g1_race_words.specs.Begin.{Start, Begun}
-use Rattle.g1_race_words.specs.Rule.{IsBlank, Raced, Going, started, beginning, start_of}
-use Rattle.g1_race_words.specs.Steps.{after_split, both, no_seat}
+use Rattle.std.specs.Prelude.{◌≡◌, ◌≢◌, ◌<◌, ◌≤◌, ◌∷◌, ◌++◌}
+use Rattle.g1_race_words.specs.{ℕ, List, [], set, Bool, true, false, sym, ap, ◌∙◌, subst, ⊎_elim, arith, some, get_elem?, at_set, at_snoc, set_else, Shape, View, Start, Begun, IsBlank, Raced, Going, started, beginning, start_of, after_split, both, no_seat}
 use Rattle.g1_race_words.proofs.Plain.{weigh_all}
 
 -- where one seat has all the weight, no other answers for anything
@@ -57,44 +50,30 @@ module _ (k : Shape) (words : List ℕ) (views : List View) (h : Going k words v
       mine : (start_of v ≡ begin) × (v.frozen ≡ h.frozen)
       mine = h.agreed id v at heavy
 
+  -- where the words stay
+  goes : (after : List View) → Raced begun words after → ((seat : ℕ) (v : View) → get_elem? after seat ≡ some v → One v) → ((seat : ℕ) (v : View) → get_elem? after seat ≡ some v → Few v) → Going k words after
+  goes after raced agreed spared = record { first = h.first; proper = h.proper; frozen = h.frozen; raced = raced; agreed = agreed; spared = spared; still = h.still }
+
   -- a seat is split off
   pub going_split : (id : ℕ) (v right : View) → get_elem? views id ≡ some v → 0 < v.weight → start_of right ≡ start_of v → right.frozen ≡ v.frozen → right.spare ≤ right.weight → Raced begun words (set views id (after_split v) ++ right ∷ []) → Going k words (set views id (after_split v) ++ right ∷ [])
-  going_split id v right at heavy same flag few raced = record {
-    first = h.first;
-    proper = h.proper;
-    frozen = h.frozen;
-    raced = raced;
-    agreed = each_snoc (set views id (after_split v)) right One (each_set views id (after_split v) One (λ seat u there ne. h.agreed seat u there) (λ lt. mine)) (λ lt. (same ∙ mine.0, flag ∙ mine.1));
-    spared = each_snoc (set views id (after_split v)) right Few (each_set views id (after_split v) Few (λ seat u there ne. h.spared seat u there) (let s = h.spared id v at in omega (arith, s))) few;
-    still = h.still;
-  }
+  going_split id v right at heavy same flag few raced = goes (set views id (after_split v) ++ right ∷ []) raced
+      (each_snoc (set views id (after_split v)) right One (each_set views id (after_split v) One (λ seat u there ne. h.agreed seat u there) (λ lt. mine)) (λ lt. (same ∙ mine.0, flag ∙ mine.1)))
+      (each_snoc (set views id (after_split v)) right Few (each_set views id (after_split v) Few (λ seat u there ne. h.spared seat u there) (let s = h.spared id v at in omega (arith, s))) few)
     where
       mine : (start_of v ≡ begin) × (v.frozen ≡ h.frozen)
       mine = h.agreed id v at heavy
 
   -- a seat takes in another
   pub going_join : (id : ℕ) (v : View) (other : ℕ) (u : View) → get_elem? views id ≡ some v → ¬ (other ≡ id) → get_elem? (set views id (both v u)) other ≡ some u → 0 < u.weight → Raced begun words (set (set views id (both v u)) other no_seat) → Going k words (set (set views id (both v u)) other no_seat)
-  going_join id v other u at apart there heavy raced = record {
-    first = h.first;
-    proper = h.proper;
-    frozen = h.frozen;
-    raced = raced;
-    agreed = each_set (set views id (both v u)) other no_seat One (λ seat y is ne. each_set views id (both v u) One (λ seat y is ne. h.agreed seat y is) (λ lt. mine) seat y is) (λ lt. absurd (omega (arith, lt)));
-    spared = each_set (set views id (both v u)) other no_seat Few (λ seat y is ne. each_set views id (both v u) Few (λ seat y is ne. h.spared seat y is) (let s = h.spared id v at in omega (arith, s)) seat y is) (omega arith);
-    still = h.still;
-  }
+  going_join id v other u at apart there heavy raced = goes (set (set views id (both v u)) other no_seat) raced
+      (each_set (set views id (both v u)) other no_seat One (λ seat y is ne. each_set views id (both v u) One (λ seat y is ne. h.agreed seat y is) (λ lt. mine) seat y is) (λ lt. absurd (omega (arith, lt))))
+      (each_set (set views id (both v u)) other no_seat Few (λ seat y is ne. each_set views id (both v u) Few (λ seat y is ne. h.spared seat y is) (let s = h.spared id v at in omega (arith, s)) seat y is) (omega arith))
     where
       mine : (start_of u ≡ begin) × (u.frozen ≡ h.frozen)
       mine = h.agreed other u (sym (set_else views id other (both v u) apart) ∙ there) heavy
 
   -- a seat comes
   pub going_enter : (w : View) → w.weight ≡ 0 → w.spare ≡ 0 → Raced begun words (views ++ w ∷ []) → Going k words (views ++ w ∷ [])
-  going_enter w light few raced = record {
-    first = h.first;
-    proper = h.proper;
-    frozen = h.frozen;
-    raced = raced;
-    agreed = each_snoc views w One h.agreed (λ lt. absurd (omega (arith, lt, light)));
-    spared = each_snoc views w Few h.spared (omega (arith, light, few));
-    still = h.still;
-  }
+  going_enter w light few raced = goes (views ++ w ∷ []) raced
+      (each_snoc views w One h.agreed (λ lt. absurd (omega (arith, lt, light))))
+      (each_snoc views w Few h.spared (omega (arith, light, few)))

@@ -1,12 +1,6 @@
 -- What is known where one seat has all the weight, and how a race begins anew.
-use Rattle.std.proofs.Common.{◌≡◌, ◌⊎◌, ℕ, zero, suc, ◌+◌, ◌<◌, ◌≤◌, List, [], ◌∷◌, set, true, refl, sym, ap, ◌∙◌, subst, inl, inr, ⊎_elim, arith, nat_lt}
-use mathlib.Core.Option.{some, some-ne-none}
-use native.Mathlib.Decide.{ℕ_discrete}
-use lib.ListN.{get_elem?}
-use Rattle.g1_race_words.specs.declared.view.Shape.{Shape}
-use Rattle.g1_race_words.specs.declared.view.View.{View}
-use Rattle.g1_race_words.specs.Begin.{Start}
-use Rattle.g1_race_words.specs.Rule.{In, Held, histories_of, claims_of, cleanings_of, pairs_found, held_of, flagged_of, slot_card, region_at, mark_word, AnswersFor, IsMarked, IsWholeShape, HasBit, IsNoted, StoredInto, BeganInto, Someone, AtRest, IsBlank, MadeDirty, times, claims_at, cleanings_at, sum_at, stored_sum, overwritten_sum, total, as_number, tally, numbers, front, pairs_up_to, Raced, IsBegun, Going, started, beginning, start_of}
+use Rattle.std.specs.Prelude.{◌≡◌, ◌⊎◌, ◌+◌, ◌<◌, ◌≤◌, ◌∷◌}
+use Rattle.g1_race_words.specs.{ℕ, zero, suc, List, [], set, true, refl, sym, ap, ◌∙◌, subst, inl, inr, ⊎_elim, arith, nat_lt, some, some-ne-none, ℕ_discrete, get_elem?, Shape, View, Start, In, Held, histories_of, claims_of, cleanings_of, pairs_found, held_of, flagged_of, slot_card, region_at, mark_word, AnswersFor, IsMarked, IsWholeShape, HasBit, IsNoted, StoredInto, BeganInto, Someone, AtRest, IsBlank, MadeDirty, times, claims_at, cleanings_at, sum_at, stored_sum, overwritten_sum, total, as_number, tally, numbers, front, pairs_up_to, Raced, IsBegun, Going, started, beginning, start_of}
 use Rattle.g1_race_words.proofs.Plain.{one_there, weigh_set, weigh_all}
 use Rattle.g1_race_words.proofs.PairBits.{crossing_pair}
 use Rattle.g1_race_words.proofs.Places.{at_take, at_untake}

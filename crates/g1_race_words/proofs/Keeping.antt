@@ -1,13 +1,6 @@
 -- Bits and pairs stay in step.
-use Rattle.std.proofs.Common.{◌≡◌, ◌⊎◌, ℕ, List, [], set, sym, ◌∙◌, subst, inl, inr, ⊎_elim}
-use mathlib.Core.Option.{some}
-use native.Mathlib.Decide.{ℕ_discrete}
-use lib.ListN.{get_elem?}
-use Rattle.atomic_table.proofs.Lists.{set_else}
-use Rattle.g1_race_words.specs.declared.view.Shape.{Shape}
-use Rattle.g1_race_words.specs.declared.view.View.{View}
-use Rattle.g1_race_words.specs.Rule.{In, Held, pairs_found, held_of, IsNoted, HasBit, Kept}
-use Rattle.g1_race_words.specs.Steps.{pair_at, read}
+use Rattle.std.specs.Prelude.{◌≡◌, ◌⊎◌}
+use Rattle.g1_race_words.specs.{ℕ, List, [], set, sym, ◌∙◌, subst, inl, inr, ⊎_elim, some, ℕ_discrete, get_elem?, set_else, Shape, View, In, Held, pairs_found, held_of, IsNoted, HasBit, Kept, pair_at, read}
 use Rattle.g1_race_words.proofs.Plain.{in_left, in_right, in_either, put_here, one_there, SameHeld, held_on, held_back, held_same}
 use Rattle.g1_race_words.proofs.PairBits.{SameBits, bit_as}
 

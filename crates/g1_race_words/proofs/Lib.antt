@@ -28,3 +28,4 @@ pub mod Calls
 pub mod Readers
 pub mod StepKinds
 pub mod Together
+use Calls.*

@@ -1,10 +1,6 @@
 -- The pairs whose bits are set, as a list.
-use Rattle.std.proofs.Common.{◌≡◌, ℕ, zero, suc, ◌<◌, cond, eqb, List, [], ◌∷◌, Contains, refl, sym, ap, subst, inl, inr, ⊎_elim, arith, eq-eqb, ne_eqb}
-use native.Mathlib.Decide.{ℕ_discrete}
-use Rattle.std.specs.List.{slice_index}
-use Rattle.std.specs.Int.{bit_at}
-use Rattle.g1_race_words.specs.declared.view.Shape.{Shape}
-use Rattle.g1_race_words.specs.Rule.{In, IsPair, HasBit, bit_word, bit_place, pairs_of_card, pairs_up_to}
+use Rattle.std.specs.Prelude.{◌≡◌, ◌<◌, ◌∷◌}
+use Rattle.g1_race_words.specs.{ℕ, zero, suc, cond, eqb, List, [], Contains, refl, sym, ap, subst, inl, inr, ⊎_elim, arith, eq-eqb, ne_eqb, ℕ_discrete, slice_index, bit_at, Shape, In, IsPair, HasBit, bit_word, bit_place, pairs_of_card, pairs_up_to}
 use Rattle.g1_race_words.proofs.Plain.{in_left, in_right, in_either, true_is, false_is}
 use Rattle.g1_race_words.proofs.Places.{in_contains, contains_in}
 

@@ -1,14 +1,6 @@
 -- A racer looks at a mark and dirties it.
-use Rattle.std.proofs.Common.{◌≡◌, ◌≢◌, ◌⊎◌, ℕ, ◌+◌, ◌<◌, cond, eqb, ne_eqb, ap, List, ◌∷◌, length, set, get_or, Bool, true, false, Some, refl, sym, ◌∙◌, subst, inl, inr, ⊎_elim, arith, length-set, eq-eqb}
-use mathlib.Core.Option.{some, some-injective}
-use native.Mathlib.Decide.{ℕ_discrete}
-use lib.ListN.{get_elem?}
-use Rattle.atomic_table.proofs.Lists.{set_here, set_else}
-use Rattle.g1_race_words.specs.declared.view.Shape.{Shape}
-use Rattle.g1_race_words.specs.declared.view.View.{View}
-use Rattle.g1_race_words.specs.Begin.{Begun}
-use Rattle.g1_race_words.specs.Rule.{MadeDirty, mark_word, In, Held, claims_of, cleanings_of, claims_at, cleanings_at, as_number, times, total, Claimed, Counted, Raced}
-use Rattle.g1_race_words.specs.Steps.{looked, owed_card, dirtied}
+use Rattle.std.specs.Prelude.{◌≡◌, ◌≢◌, ◌⊎◌, ◌+◌, ◌<◌, ◌∷◌}
+use Rattle.g1_race_words.specs.{ℕ, cond, eqb, ne_eqb, ap, List, length, set, get_or, Bool, true, false, Some, refl, sym, ◌∙◌, subst, inl, inr, ⊎_elim, arith, length-set, eq-eqb, some, some-injective, ℕ_discrete, get_elem?, set_here, set_else, Shape, View, Begun, MadeDirty, mark_word, In, Held, claims_of, cleanings_of, claims_at, cleanings_at, as_number, times, total, Claimed, Counted, Raced, looked, owed_card, dirtied, Sits}
 use Rattle.g1_race_words.proofs.Plain.{put_here, read_at, read_is, total_set, held_on, held_back, held_same}
 use Rattle.g1_race_words.proofs.CoverStores.{covered_looked, covered_dirtied}
 use Rattle.g1_race_words.proofs.PairBits.{same_bits}
@@ -18,7 +10,6 @@ use Rattle.g1_race_words.proofs.Keeping.{kept_stays}
 use Rattle.g1_race_words.proofs.Tallies.{one_is, zero_is}
 use Rattle.g1_race_words.proofs.Balance.{balance_stays}
 use Rattle.g1_race_words.proofs.Unchanged.{weighed_step, numbers_stay, same_slots_at_mark, same_slots, bounded_same, Claim, made_on, claim_same, claimed_same, counted_stays, stores_stay, pairs_stay}
-use Rattle.g1_race_words.specs.Seats.{Sits}
 
 -- a racer looks at the mark of the card that it owes
 

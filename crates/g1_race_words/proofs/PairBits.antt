@@ -1,12 +1,6 @@
 -- The bits of the pairs among the words.
-use Rattle.std.proofs.Common.{◌≡◌, ◌≢◌, ◌⊎◌, ℕ, ◌+◌, ◌-◌, ◌*◌, ◌/◌, ◌%◌, ◌^◌, ◌<◌, ◌≤◌, List, length, set, get_or, bit_or, w64, true, sym, ap, ◌∙◌, subst, inl, inr, arith, div-lt_iff_lt-mul}
-use Rattle.std.specs.Int.{bit_at}
-use Rattle.std.proofs.lemmas.Bool.{cases_eq}
-use Rattle.std.proofs.lemmas.List.{get_or-set_same, get_or-set_other}
-use Rattle.std.proofs.lemmas.Nat.{div-mul-add, mod-mul-add, mul-add-lt}
-use Rattle.std.proofs.lemmas.Nat.Bits.{bit_at_set_same, bit_at_set_other}
-use Rattle.g1_race_words.specs.declared.view.Shape.{Shape}
-use Rattle.g1_race_words.specs.Rule.{IsWord, slot_card, region_at, crosses, IsWholeShape, IsPair, HasBit, bit_word, bit_place}
+use Rattle.std.specs.Prelude.{◌≡◌, ◌≢◌, ◌⊎◌, ◌+◌, ◌-◌, ◌*◌, ◌/◌, ◌%◌, ◌^◌, ◌<◌, ◌≤◌}
+use Rattle.g1_race_words.specs.{ℕ, List, length, set, get_or, bit_or, w64, true, sym, ap, ◌∙◌, subst, inl, inr, arith, div-lt_iff_lt-mul, bit_at, cases_eq, get_or-set_same, get_or-set_other, div-mul-add, mod-mul-add, mul-add-lt, bit_at_set_same, bit_at_set_other, Shape, IsWord, slot_card, region_at, crosses, IsWholeShape, IsPair, HasBit, bit_word, bit_place}
 use Rattle.g1_race_words.proofs.Crossing.{crosses_reference, word_low}
 
 pub card_below : (k : Shape) (p : ℕ) → IsWholeShape k → p < k.slots → slot_card k p < k.cards

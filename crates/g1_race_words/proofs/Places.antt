@@ -1,8 +1,7 @@
 -- Lists by place.
-use Rattle.std.proofs.Common.{◌≡◌, ℕ, zero, suc, ◌+◌, ◌<◌, ◌≤◌, List, [], ◌∷◌, ◌++◌, length, map, take, drop, get_or, Contains, refl, sym, ap, ◌∙◌, subst, inl, inr, arith}
-use mathlib.Core.Option.{some, some-ne-none, some-injective}
-use lib.ListN.{get_elem?}
-use Rattle.g1_race_words.specs.Rule.{In}
+use Rattle.std.specs.Prelude.{◌≡◌, ◌+◌, ◌<◌, ◌≤◌, ◌∷◌, ◌++◌}
+use Rattle.g1_race_words.specs.{ℕ, zero, suc, List, [], length, map, take, drop, get_or, Contains, refl, sym, ap, ◌∙◌, subst, inl, inr, arith, some, some-ne-none, some-injective, get_elem?, In}
+use Rattle.std.proofs.Common.{take_all as all_taken}
 
 module _ {A : Type 0} where
   pub at_take : (l : List A) (n i : ℕ) (a : A) → i < n → get_elem? l i ≡ some a → get_elem? (take n l) i ≡ some a
@@ -55,10 +54,7 @@ module _ {A : Type 0} where
   take_next l j a e = ap (λ (n : ℕ). take n l) (let f : j + 1 ≡ suc j = omega arith in f) ∙ take_suc l j a e
 
   pub take_all : (l : List A) (n : ℕ) → length l ≤ n → take n l ≡ l
-  take_all [] zero le = refl
-  take_all [] (suc n) le = refl
-  take_all (x ∷ xs) zero le = absurd (omega arith)
-  take_all (x ∷ xs) (suc n) le = ap (λ l. x ∷ l) (take_all xs n (omega arith))
+  take_all l n le = all_taken n l le
 
   pub in_contains : (xs : List A) (x : A) → In xs x → Contains xs x
   in_contains [] x i = absurd i

@@ -1,11 +1,7 @@
 -- Lists, and what some seat's view holds.
-use Rattle.std.proofs.Common.{◌≡◌, ◌≢◌, ◌⊎◌, ℕ, zero, suc, ◌+◌, ◌<◌, ◌≤◌, cond, List, [], ◌∷◌, ◌++◌, length, set, get_or, Bool, true, false, refl, sym, ap, ◌∙◌, subst, inl, inr, ⊎_elim, arith}
-use mathlib.Core.Option.{some, some-ne-none, some-injective}
-use native.Mathlib.Decide.{ℕ_discrete}
-use lib.ListN.{get_elem?}
-use Rattle.atomic_table.proofs.Lists.{at_set, at_snoc, set_else, at_longer}
-use Rattle.g1_race_words.specs.declared.view.View.{View}
-use Rattle.g1_race_words.specs.Rule.{In, Held, total, weigh}
+use Rattle.std.specs.Prelude.{◌≡◌, ◌≢◌, ◌⊎◌, ◌+◌, ◌<◌, ◌≤◌, ◌∷◌, ◌++◌}
+use Rattle.g1_race_words.specs.{ℕ, zero, suc, cond, List, [], length, set, get_or, Bool, true, false, refl, sym, ap, ◌∙◌, subst, inl, inr, ⊎_elim, arith, some, some-ne-none, some-injective, ℕ_discrete, get_elem?, at_set, at_snoc, set_else, at_longer, View, In, Held, total, weigh}
+use Rattle.g1_race_words.proofs.Places.{at_read, reads_as}
 
 module _ {A : Type 0} where
   pub in_left : (xs ys : List A) (x : A) → In xs x → In (xs ++ ys) x
@@ -46,14 +42,10 @@ set_there (y ∷ ys) zero x e = let same : y ≡ x = cc in ap (λ (z : View). z 
 set_there (y ∷ ys) (suc i) x e = ap (λ zs. y ∷ zs) (set_there ys i x e)
 
 pub read_is : (l : List ℕ) (i n : ℕ) → get_elem? l i ≡ some n → get_or l i 0 ≡ n
-read_is [] i n e = absurd (some-ne-none n (sym e))
-read_is (x ∷ xs) zero n e = some-injective x n e
-read_is (x ∷ xs) (suc i) n e = read_is xs i n e
+read_is l i n = reads_as l i n 0
 
 pub read_at : (l : List ℕ) (i : ℕ) → i < length l → get_elem? l i ≡ some (get_or l i 0)
-read_at [] i h = absurd (omega arith)
-read_at (x ∷ xs) zero h = refl
-read_at (x ∷ xs) (suc i) h = read_at xs i (omega arith)
+read_at l i = at_read l i 0
 
 -- what some seat holds, while one seat's view changes from v to w
 

@@ -1,16 +1,6 @@
 -- A racer looks for the flag of the card that it owes, sets it, and dirties the card.
-use Rattle.std.proofs.Common.{◌≡◌, ℕ, ◌<◌, eqb, eq-eqb, ne_eqb, List, [], ◌∷◌, length, set, get_or, Option, Some, None, refl, sym, ap, ◌∙◌, subst, inl, inr, ⊎_elim, arith, length-set}
-use mathlib.Core.Option.{some}
-use native.Mathlib.Decide.{ℕ_discrete}
-use lib.ListN.{get_elem?}
-use Rattle.std.specs.Int.{bit_at}
-use Rattle.atomic_table.proofs.Lists.{set_else}
-use Rattle.g1_race_words.specs.declared.view.Shape.{Shape}
-use Rattle.g1_race_words.specs.declared.view.View.{View}
-use Rattle.g1_race_words.specs.Begin.{Begun}
-use Rattle.g1_race_words.specs.Rule.{In, Held, pairs_found, held_of, flagged_of, mark_word, bit_word, bit_place, flag, IsFlagged, IsWholeShape, HasBit, Flagged, Raced}
-use Rattle.g1_race_words.specs.Steps.{owed_card, set_flags, spotted, raised, dirtied}
-use Rattle.g1_race_words.specs.Seats.{Sits}
+use Rattle.std.specs.Prelude.{◌≡◌, ◌<◌, ◌∷◌}
+use Rattle.g1_race_words.specs.{ℕ, eqb, eq-eqb, ne_eqb, List, [], length, set, get_or, Option, Some, None, refl, sym, ap, ◌∙◌, subst, inl, inr, ⊎_elim, arith, length-set, some, ℕ_discrete, get_elem?, bit_at, set_else, Shape, View, Begun, In, Held, pairs_found, held_of, flagged_of, mark_word, bit_word, bit_place, flag, IsFlagged, IsWholeShape, HasBit, Flagged, Raced, owed_card, set_flags, spotted, raised, dirtied, Sits}
 use Rattle.g1_race_words.proofs.Plain.{held_back, held_same, true_is, false_is}
 use Rattle.g1_race_words.proofs.PairBits.{with_pair, bit_here, bits_stay, bits_back, same_bits, bit_as}
 use Rattle.g1_race_words.proofs.Keeping.{kept_stays, noted_on}

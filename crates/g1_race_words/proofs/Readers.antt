@@ -1,16 +1,6 @@
 -- A reader's seat is split off, and reads.
-use Rattle.std.proofs.Common.{◌≡◌, ℕ, ◌<◌, List, get_or, set, true, refl, sym, subst, arith}
-use mathlib.Core.Option.{some}
-use lib.ListN.{get_elem?}
-use Rattle.atomic_table.specs.Table.{State, Me, keeps, Allows, Splits}
-use Rattle.atomic_table.specs.Seated.{TableId}
-use Rattle.atomic_table.specs.declared.shared.Seat.{Seat}
-use Rattle.atomic_table.proofs.Lists.{set_again}
-use Rattle.g1_race_words.specs.declared.view.Shape.{Shape}
-use Rattle.g1_race_words.specs.declared.view.View.{View}
-use Rattle.g1_race_words.specs.Rule.{word_count, Going, IsBlank, IsWholeShape}
-use Rattle.g1_race_words.specs.Steps.{after_split}
-use Rattle.g1_race_words.specs.Readers.{IsLent, IsReading, new_reader}
+use Rattle.std.specs.Prelude.{◌≡◌, ◌<◌}
+use Rattle.g1_race_words.specs.{ℕ, List, get_or, set, true, refl, sym, subst, arith, some, get_elem?, State, Me, keeps, Allows, Splits, TableId, Seat, set_again, Shape, View, word_count, Going, IsBlank, IsWholeShape, after_split, IsLent, IsReading, new_reader}
 use Rattle.g1_race_words.proofs.Plain.{read_at, set_read}
 use Rattle.g1_race_words.proofs.Tallies.{number_dropped}
 use Rattle.g1_race_words.proofs.Splitting.{raced_split}

@@ -1,13 +1,6 @@
 -- A sweeper reads a slot.
-use Rattle.std.proofs.Common.{◌≡◌, ◌⊎◌, ℕ, ◌<◌, cond, eqb, List, [], ◌∷◌, length, set, get_or, Bool, true, false, Some, None, refl, sym, ◌∙◌, subst, inl, inr, ⊎_elim, arith, eq-eqb, ne_eqb}
-use mathlib.Core.Option.{some}
-use native.Mathlib.Decide.{ℕ_discrete}
-use lib.ListN.{get_elem?}
-use Rattle.g1_race_words.specs.declared.view.Shape.{Shape}
-use Rattle.g1_race_words.specs.declared.view.View.{View}
-use Rattle.g1_race_words.specs.Begin.{Begun}
-use Rattle.g1_race_words.specs.Rule.{BeganInto, slot_card, region_at, crosses, IsCrossing, In, Held, StoreHistory, histories_of, claims_of, cleanings_of, pairs_found, last_to, Bounded, Stored, StoredInto, Recorded, Raced}
-use Rattle.g1_race_words.specs.Steps.{pair_at, read}
+use Rattle.std.specs.Prelude.{◌≡◌, ◌⊎◌, ◌<◌, ◌∷◌}
+use Rattle.g1_race_words.specs.{ℕ, cond, eqb, List, [], length, set, get_or, Bool, true, false, Some, None, refl, sym, ◌∙◌, subst, inl, inr, ⊎_elim, arith, eq-eqb, ne_eqb, some, ℕ_discrete, get_elem?, Shape, View, Begun, BeganInto, slot_card, region_at, crosses, IsCrossing, In, Held, StoreHistory, histories_of, claims_of, cleanings_of, pairs_found, last_to, Bounded, Stored, StoredInto, Recorded, Raced, pair_at, read, Sits}
 use Rattle.g1_race_words.proofs.Crossing.{word_low}
 use Rattle.g1_race_words.proofs.Plain.{in_either, read_at, true_is, false_is, held_back, held_same}
 use Rattle.g1_race_words.proofs.CoverSweeps.{covered_read}
@@ -15,7 +8,6 @@ use Rattle.g1_race_words.proofs.Keeping.{kept_read}
 use Rattle.g1_race_words.proofs.Flags.{flags_stay}
 use Rattle.g1_race_words.proofs.Balance.{balance_stays}
 use Rattle.g1_race_words.proofs.Unchanged.{weighed_step, numbers_stay, same_slots, still_into, claimed_same, counted_stays, stores_stay}
-use Rattle.g1_race_words.specs.Seats.{Sits}
 
 pub last_in : (p n : ℕ) (h : List (ℕ × ℕ)) → last_to p h ≡ Some n → In h (p, n)
 last_in p n [] e = absurd (cc)

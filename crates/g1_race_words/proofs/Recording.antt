@@ -1,14 +1,6 @@
 -- A sweeper looks for the bit of the pair that it holds, and sets it.
-use Rattle.std.proofs.Common.{◌≡◌, ◌⊎◌, ℕ, ◌<◌, cond, eqb, Bool, true, false, List, [], ◌∷◌, length, set, get_or, refl, sym, ◌∙◌, subst, inl, inr, ⊎_elim, arith, length-set, ne_eqb}
-use mathlib.Core.Option.{some}
-use native.Mathlib.Decide.{ℕ_discrete}
-use lib.ListN.{get_elem?}
-use Rattle.std.specs.Int.{bit_at}
-use Rattle.g1_race_words.specs.declared.view.Shape.{Shape}
-use Rattle.g1_race_words.specs.declared.view.View.{View}
-use Rattle.g1_race_words.specs.Begin.{Begun}
-use Rattle.g1_race_words.specs.Rule.{slot_card, mark_word, flag, In, Held, claims_of, cleanings_of, pairs_found, held_of, IsWholeShape, IsPair, HasBit, Kept, Flagged, Raced, bit_word, bit_place, word_count}
-use Rattle.g1_race_words.specs.Steps.{unset, sought, recorded}
+use Rattle.std.specs.Prelude.{◌≡◌, ◌⊎◌, ◌<◌, ◌∷◌}
+use Rattle.g1_race_words.specs.{ℕ, cond, eqb, Bool, true, false, List, [], length, set, get_or, refl, sym, ◌∙◌, subst, inl, inr, ⊎_elim, arith, length-set, ne_eqb, some, ℕ_discrete, get_elem?, bit_at, Shape, View, Begun, slot_card, mark_word, flag, In, Held, claims_of, cleanings_of, pairs_found, held_of, IsWholeShape, IsPair, HasBit, Kept, Flagged, Raced, bit_word, bit_place, word_count, unset, sought, recorded, Sits}
 use Rattle.g1_race_words.proofs.Plain.{held_back, held_same, false_is}
 use Rattle.g1_race_words.proofs.PairBits.{card_below, word_below, with_pair, bit_here, bits_stay, bits_back}
 use Rattle.g1_race_words.proofs.Cover.{covered_moves, others_pass}
@@ -16,7 +8,6 @@ use Rattle.g1_race_words.proofs.Keeping.{noted_on, held_or}
 use Rattle.g1_race_words.proofs.Flags.{SameFront, flags_stay, front_stays}
 use Rattle.g1_race_words.proofs.Balance.{balance_stays}
 use Rattle.g1_race_words.proofs.Unchanged.{weighed_step, numbers_stay, bounded_same, stores_stay, pairs_stay, claim_same, counted_stays}
-use Rattle.g1_race_words.specs.Seats.{Sits}
 
 -- the words of slots and marks stay, and what a seat holds changes, of pairs and of flags
 

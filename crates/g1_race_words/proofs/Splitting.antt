@@ -1,14 +1,6 @@
 -- A seat is split off, takes in another, or comes.
-use Rattle.std.proofs.Common.{◌≡◌, ◌≢◌, ◌⊎◌, ℕ, ◌+◌, ◌<◌, List, [], ◌∷◌, ◌++◌, set, refl, sym, ap, ◌∙◌, subst, inl, inr, ⊎_elim, arith, nat_lt, ◌≤◌}
-use Rattle.std.proofs.lemmas.List.{append-nil}
-use mathlib.Core.Option.{some}
-use lib.ListN.{get_elem?}
-use Rattle.atomic_table.proofs.Lists.{at_set, at_snoc, at_longer}
-use Rattle.g1_race_words.specs.declared.view.Shape.{Shape}
-use Rattle.g1_race_words.specs.declared.view.View.{View}
-use Rattle.g1_race_words.specs.Begin.{Begun}
-use Rattle.g1_race_words.specs.Rule.{In, Held, StoreHistory, histories_of, claims_of, cleanings_of, pairs_found, held_of, flagged_of, Covered, AtRest, IsBlank, weigh, as_number, tally, numbers, Weighed, Numbered, Raced, times, claims_at, cleanings_at, sum_at, stored_sum, overwritten_sum, total}
-use Rattle.g1_race_words.specs.Steps.{after_split, both}
+use Rattle.std.specs.Prelude.{◌≡◌, ◌≢◌, ◌⊎◌, ◌+◌, ◌<◌, ◌∷◌, ◌++◌, ◌≤◌}
+use Rattle.g1_race_words.specs.{ℕ, List, [], set, refl, sym, ap, ◌∙◌, subst, inl, inr, ⊎_elim, arith, nat_lt, append-nil, some, get_elem?, at_set, at_snoc, at_longer, Shape, View, Begun, In, Held, StoreHistory, histories_of, claims_of, cleanings_of, pairs_found, held_of, flagged_of, Covered, AtRest, IsBlank, weigh, as_number, tally, numbers, Weighed, Numbered, Raced, times, claims_at, cleanings_at, sum_at, stored_sum, overwritten_sum, total, after_split, both}
 use Rattle.g1_race_words.proofs.Plain.{SameHeld, held_same, held_split, held_join, weigh_set, weigh_snoc, total_set, total_snoc}
 use Rattle.g1_race_words.proofs.Tallies.{tally_append, times_append, none_below}
 use Rattle.g1_race_words.proofs.Cover.{covered_moves}

@@ -1,13 +1,7 @@
 -- Each step is one of the five kinds, or changes nothing that is seen.
-use Rattle.std.proofs.Common.{◌≡◌, ◌⊎◌, ℕ, ◌+◌, ◌*◌, ◌/◌, ◌<◌, ◌≤◌, cond, eqb, List, [], ◌∷◌, ◌++◌, map, set, Bool, true, false, refl, sym, ap, ◌∙◌, subst, inl, inr, arith}
-use Rattle.std.proofs.lemmas.List.{take-set-le, take-take, map-set}
+use Rattle.std.specs.Prelude.{◌≡◌, ◌⊎◌, ◌+◌, ◌*◌, ◌/◌, ◌<◌, ◌≤◌, ◌∷◌, ◌++◌}
+use Rattle.g1_race_words.specs.{ℕ, cond, eqb, List, [], map, set, Bool, true, false, refl, sym, ap, ◌∙◌, subst, inl, inr, arith, take-set-le, take-take, map-set, at_map, set_again, Shape, View, bit_word, flag, front, wrote, Step, Write, Exchange, Look, Dirty, Spot, Raise, Clean, Read, Seek, Record, Status, Makes, May, Run, SeenRun, RunsAreOfFive, StepsAreOfFive, after, five_of, fives_of, found_by, left_by, place_of, seen, seen_view}
 use Rattle.std.proofs.Math.Seq.{take-set-lt}
-use Rattle.atomic_table.proofs.Lists.{at_map, set_again}
-use Rattle.g1_race_words.specs.declared.view.Shape.{Shape}
-use Rattle.g1_race_words.specs.declared.view.View.{View}
-use Rattle.g1_race_words.specs.Rule.{bit_word, flag, front}
-use Rattle.g1_race_words.specs.Steps.{wrote}
-use Rattle.g1_race_words.specs.StepKinds.{Step, Write, Exchange, Look, Dirty, Spot, Raise, Clean, Read, Seek, Record, Status, Makes, May, Run, SeenRun, RunsAreOfFive, StepsAreOfFive, after, five_of, fives_of, found_by, left_by, place_of, seen, seen_view}
 use Rattle.g1_race_words.proofs.Places.{at_take}
 
 seen_twice : (views : List View) → map seen_view (map seen_view views) ≡ map seen_view views

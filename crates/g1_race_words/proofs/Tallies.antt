@@ -1,9 +1,7 @@
 -- How often the numbers of racers stand in the views, and a card in a list.
-use Rattle.std.proofs.Common.{◌≡◌, ℕ, ◌+◌, ◌<◌, ◌≤◌, List, [], ◌∷◌, ◌++◌, Bool, true, false, refl, sym, ap, ◌∙◌, inl, inr, arith, eqb, eq-eqb, ne_eqb, nat_lt, ◌-◌, ltb-true, lt-ltb, le-ltb}
-use native.Mathlib.Decide.{ℕ_discrete}
-use Rattle.g1_race_words.specs.declared.view.View.{View}
-use Rattle.g1_race_words.specs.Rule.{In, StoreHistory, as_number, tally, numbers, times}
-use Rattle.g1_race_words.specs.Steps.{gains_store, after_split, new_racer, new_sweeper}
+use Rattle.std.specs.Prelude.{◌≡◌, ◌+◌, ◌<◌, ◌≤◌, ◌∷◌, ◌++◌, ◌-◌}
+use Rattle.g1_race_words.specs.{ℕ, zero, suc, List, [], Bool, true, false, refl, sym, ap, ◌∙◌, inl, inr, arith, eqb, eq-eqb, ne_eqb, nat_lt, ltb-true, ℕ_discrete, View, In, StoreHistory, as_number, tally, numbers, times, gains_store, after_split, new_racer, new_sweeper}
+use Rattle.std.proofs.Common.{lt-ltb, le-ltb}
 
 pub one_is : (b : Bool) → b ≡ true → as_number b ≡ 1
 one_is b e = ap as_number e
@@ -53,13 +51,8 @@ below_split m n pos = pick (nat_lt m (n - 1)) refl (ℕ_discrete m (n - 1))
         let y : as_number (eqb m (n - 1)) ≡ 0 = zero_is (eqb m (n - 1)) (ne_eqb m (n - 1) k) in omega arith
 
 pub below_less : (m n : ℕ) → as_number (nat_lt m (n - 1)) ≤ as_number (nat_lt m n)
-below_less m n = pick (nat_lt m (n - 1)) refl
-  where
-    pick : (b : Bool) → nat_lt m (n - 1) ≡ b → as_number (nat_lt m (n - 1)) ≤ as_number (nat_lt m n)
-    pick true e = let lt : m < n - 1 = ltb-true m (n - 1) e in
-        let x : as_number (nat_lt m (n - 1)) ≡ 1 = one_is (nat_lt m (n - 1)) e in
-        let z : as_number (nat_lt m n) ≡ 1 = one_is (nat_lt m n) (lt-ltb m n (omega arith)) in omega arith
-    pick false e = let x : as_number (nat_lt m (n - 1)) ≡ 0 = zero_is (nat_lt m (n - 1)) e in omega arith
+below_less m zero = omega arith
+below_less m (suc n) = let a = below_split m (suc n) (omega arith) in omega arith
 
 -- a racer gets the number that is cut off; a sweeper gets none
 pub number_given : (v : View) → 0 < v.spare → (m : ℕ) → numbers m (after_split v) + numbers m (new_racer v) ≤ numbers m v

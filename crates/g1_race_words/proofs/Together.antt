@@ -1,14 +1,6 @@
 -- Where seats come, are split or are joined, all of them together have what they had.
-use Rattle.std.proofs.Common.{◌≡◌, ◌≢◌, ◌⊎◌, ◌↔◌, ℕ, ◌-◌, ◌<◌, ◌≤◌, List, [], ◌∷◌, ◌++◌, set, Some, refl, sym, ◌∙◌, subst, inl, inr, ⊎_elim, arith}
-use mathlib.Core.Option.{some}
-use native.Mathlib.Decide.{ℕ_discrete}
-use lib.ListN.{get_elem?}
-use Rattle.atomic_table.proofs.Lists.{at_set, at_snoc, at_longer, set_else}
-use Rattle.g1_race_words.specs.declared.view.View.{View}
-use Rattle.g1_race_words.specs.Rule.{AtRest, In, IsBlank, StoreHistory}
-use Rattle.g1_race_words.specs.Steps.{both, after_split, new_racer, new_sweeper, no_seat}
-use Rattle.g1_race_words.specs.Readers.{new_reader}
-use Rattle.g1_race_words.specs.Together.{OfSome, HasStore, KeepAll, SeatsKeepAll}
+use Rattle.std.specs.Prelude.{◌≡◌, ◌≢◌, ◌⊎◌, ◌↔◌, ◌-◌, ◌<◌, ◌≤◌, ◌∷◌, ◌++◌}
+use Rattle.g1_race_words.specs.{ℕ, List, [], set, Some, refl, sym, ◌∙◌, subst, inl, inr, ⊎_elim, arith, some, ℕ_discrete, get_elem?, at_set, at_snoc, at_longer, set_else, View, AtRest, In, IsBlank, StoreHistory, both, after_split, new_racer, new_sweeper, no_seat, new_reader, OfSome, HasStore, KeepAll, SeatsKeepAll}
 use Rattle.g1_race_words.proofs.Plain.{in_left, in_right, in_either, one_there, put_here}
 
 module _ (P : View → Type 0) where

@@ -1,11 +1,6 @@
 -- What a step leaves as it was: the weights and numbers of seats, stores, slots, pairs and claims.
-use Rattle.std.proofs.Common.{subst, ◌≡◌, ◌≢◌, ◌⊎◌, ℕ, ◌+◌, ◌<◌, List, [], set, Some, None, sym, ap, ◌∙◌, inl, inr, ⊎_elim, arith, nat_lt, ◌≤◌}
-use mathlib.Core.Option.{some}
-use lib.ListN.{get_elem?}
-use Rattle.atomic_table.proofs.Lists.{at_set, set_else}
-use Rattle.g1_race_words.specs.declared.view.Shape.{Shape}
-use Rattle.g1_race_words.specs.declared.view.View.{View}
-use Rattle.g1_race_words.specs.Rule.{IsWord, BeganInto, MadeDirty, mark_word, Held, StoreHistory, histories_of, claims_of, cleanings_of, pairs_found, last_to, Bounded, IsBlank, weigh, as_number, tally, numbers, Weighed, Numbered, Stored, StoredInto, Recorded, Claimed, Counted, times, claims_at, cleanings_at, total}
+use Rattle.std.specs.Prelude.{◌≡◌, ◌≢◌, ◌⊎◌, ◌+◌, ◌<◌, ◌≤◌}
+use Rattle.g1_race_words.specs.{subst, ℕ, List, [], set, Some, None, sym, ap, ◌∙◌, inl, inr, ⊎_elim, arith, nat_lt, some, get_elem?, at_set, set_else, Shape, View, IsWord, BeganInto, MadeDirty, mark_word, Held, StoreHistory, histories_of, claims_of, cleanings_of, pairs_found, last_to, Bounded, IsBlank, weigh, as_number, tally, numbers, Weighed, Numbered, Stored, StoredInto, Recorded, Claimed, Counted, times, claims_at, cleanings_at, total}
 use Rattle.g1_race_words.proofs.Plain.{SameHeld, held_same, weigh_set, total_set}
 use Rattle.g1_race_words.proofs.CoverStores.{mark_apart}
 

@@ -1,14 +1,6 @@
 -- A racer writes a slot.
-use Rattle.std.proofs.Common.{◌≡◌, ◌≢◌, ◌⊎◌, ℕ, ◌<◌, eqb, List, [], ◌∷◌, set, get_or, Some, None, refl, sym, ap, ◌∙◌, subst, inl, inr, ⊎_elim, length-set, eq-eqb, ne_eqb, arith}
-use mathlib.Core.Option.{some}
-use native.Mathlib.Decide.{ℕ_discrete}
-use lib.ListN.{get_elem?}
-use Rattle.atomic_table.proofs.Lists.{at_set, set_else}
-use Rattle.g1_race_words.specs.declared.view.Shape.{Shape}
-use Rattle.g1_race_words.specs.declared.view.View.{View}
-use Rattle.g1_race_words.specs.Begin.{Begun}
-use Rattle.g1_race_words.specs.Rule.{IsWord, BeganInto, mark_word, flag, In, Held, StoreHistory, histories_of, claims_of, cleanings_of, pairs_found, last_to, Stored, StoredInto, Recorded, Raced}
-use Rattle.g1_race_words.specs.Steps.{gains_store, wrote}
+use Rattle.std.specs.Prelude.{◌≡◌, ◌≢◌, ◌⊎◌, ◌<◌, ◌∷◌}
+use Rattle.g1_race_words.specs.{ℕ, eqb, List, [], set, get_or, Some, None, refl, sym, ap, ◌∙◌, subst, inl, inr, ⊎_elim, length-set, eq-eqb, ne_eqb, arith, some, ℕ_discrete, get_elem?, at_set, set_else, Shape, View, Begun, IsWord, BeganInto, mark_word, flag, In, Held, StoreHistory, histories_of, claims_of, cleanings_of, pairs_found, last_to, Stored, StoredInto, Recorded, Raced, gains_store, wrote, Sits}
 use Rattle.g1_race_words.proofs.Plain.{put_here, one_there, true_is, false_is, held_back, held_same}
 use Rattle.g1_race_words.proofs.Tallies.{tally_gained}
 use Rattle.g1_race_words.proofs.CoverStores.{mark_apart, covered_wrote}
@@ -17,7 +9,6 @@ use Rattle.g1_race_words.proofs.Flags.{flags_stay}
 use Rattle.g1_race_words.proofs.Keeping.{kept_stays}
 use Rattle.g1_race_words.proofs.Balance.{balanced_wrote}
 use Rattle.g1_race_words.proofs.Unchanged.{weighed_step, numbered_step, same_numbers, bounded_wrote, claimed_same, counted_stays}
-use Rattle.g1_race_words.specs.Seats.{Sits}
 
 other_last : (p n q : ℕ) (h : List (ℕ × ℕ)) → q ≢ p → last_to q ((p, n) ∷ h) ≡ last_to q h
 other_last p n q h apart = false_is (eqb p q) (Some n) (last_to q h) (ne_eqb p q (λ e. apart (sym e)))

@@ -1,5 +1,5 @@
 -- What a race begins with.
-use Rattle.std.specs.Prelude.{ℕ, List}
+use Rattle.g1_race_words.specs.Prelude.{ℕ, List}
 use Rattle.g1_race_words.specs.declared.view.Shape.{Shape}
 
 -- the shape of its heap, and the words of its table: slots, marks and the bits of pairs

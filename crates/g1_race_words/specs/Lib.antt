@@ -1,3 +1,5 @@
+-- The root passes on what its modules have and what stands in Prelude.
+pub mod Prelude
 pub mod Begin
 pub mod Rule
 pub mod Steps
@@ -5,3 +7,13 @@ pub mod Seats
 pub mod Readers
 pub mod StepKinds
 pub mod Together
+pub use Prelude.*
+pub use Begin.*
+pub use Rule.*
+pub use Steps.*
+pub use Seats.*
+pub use Readers.*
+pub use StepKinds.*
+pub use Together.*
+pub use declared.view.Shape.{Shape}
+pub use declared.view.View.{View}

@@ -1,7 +1,6 @@
 -- Seats that share what the seat of a pause knows, and can read alone.
-use Rattle.std.specs.Prelude.{◌≡◌, ◌<◌, [], true}
-use Rattle.atomic_table.specs.Seated.{TableId}
-use Rattle.atomic_table.specs.declared.shared.Seat.{Seat}
+use Rattle.std.specs.Prelude.{◌≡◌, ◌<◌}
+use Rattle.g1_race_words.specs.Prelude.{[], true, TableId, Seat}
 use Rattle.g1_race_words.specs.declared.view.Shape.{Shape}
 use Rattle.g1_race_words.specs.declared.view.View.{View}
 use Rattle.g1_race_words.specs.Rule.{IsBegun, IsBlank, started, start_of}

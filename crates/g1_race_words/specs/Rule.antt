@@ -4,13 +4,11 @@
 -- the slots' words. Behind the marks' words come those with a bit for each pair of a card and a
 -- region, which is 1 once the pair is recorded: a row of words for each region, 64 cards to a word.
 -- One more row has a flag for each eight cards, which is 1 wherever a mark of theirs is.
-use Rattle.std.specs.Prelude.{nat_lt, ◌≡◌, ◌≢◌, ◌⊎◌, ℕ, ◌+◌, ◌-◌, ◌*◌, ◌/◌, ◌%◌, ◌<◌, ◌≤◌, ◌^◌}
-use Rattle.std.specs.Prelude.{slice_index, replicate, take, List, [], ◌∷◌, ◌++◌, length, zero, suc}
-use Rattle.std.specs.Prelude.{Bool, true, false, not, ◌==◌, if◌then◌else◌, Option, Some, None}
-use Rattle.std.specs.Prelude.{sum_by}
-use Rattle.std.specs.Int.{bit_at}
-use mathlib.Core.Option.{some}
-use lib.ListN.{get_elem?}
+use Rattle.std.specs.Prelude.{◌≡◌, ◌≢◌, ◌⊎◌, ◌+◌, ◌-◌, ◌*◌, ◌/◌, ◌%◌, ◌<◌, ◌≤◌, ◌^◌, ◌∷◌, ◌++◌}
+use Rattle.std.specs.Prelude.{◌==◌, if◌then◌else◌}
+use Rattle.g1_race_words.specs.Prelude.{nat_lt, ℕ, slice_index, replicate, take, List, [], length}
+use Rattle.g1_race_words.specs.Prelude.{zero, suc, Bool, true, false, not, Option, Some, None}
+use Rattle.g1_race_words.specs.Prelude.{sum_by, bit_at, some, get_elem?}
 use Rattle.g1_race_words.specs.declared.view.Shape.{Shape}
 use Rattle.g1_race_words.specs.declared.view.View.{View}
 use Rattle.g1_race_words.specs.Begin.{Start, Begun}

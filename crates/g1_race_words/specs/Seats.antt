@@ -1,11 +1,7 @@
 -- What a seat at the words of a race must be for a step, and what the step at a pause tells it.
-use Rattle.std.specs.Prelude.{◌≡◌, ℕ, ◌<◌, List, [], ◌∷◌, Some, true, false}
-use denote.RawPtr.{Ptr}
-use mathlib.Core.Option.{some}
-use lib.ListN.{get_elem?}
-use Rattle.atomic_table.specs.Table.{Me}
-use Rattle.atomic_table.specs.Seated.{TableId}
-use Rattle.atomic_table.specs.declared.shared.Seat.{Seat}
+use Rattle.std.specs.Prelude.{◌≡◌, ◌<◌, ◌∷◌}
+use Rattle.g1_race_words.specs.Prelude.{ℕ, List, [], Some, true, false, Ptr, some, get_elem?, Me}
+use Rattle.g1_race_words.specs.Prelude.{TableId, Seat}
 use Rattle.g1_race_words.specs.declared.view.Shape.{Shape}
 use Rattle.g1_race_words.specs.declared.view.View.{View}
 use Rattle.g1_race_words.specs.Begin.{Start}

@@ -1,8 +1,7 @@
 -- The kinds of step that members make on the words of a race: each is made on one word by one seat.
-use Rattle.std.specs.Prelude.{◌≡◌, ℕ, ◌<◌, ◌^◌, ◌==◌, if◌then◌else◌, bit_or}
-use Rattle.std.specs.Prelude.{List, [], ◌∷◌, ◌++◌, ◌⊎◌, map, slice_set, Some, None}
-use mathlib.Core.Option.{some}
-use lib.ListN.{get_elem?}
+use Rattle.std.specs.Prelude.{◌≡◌, ◌<◌, ◌^◌, ◌==◌, if◌then◌else◌, ◌∷◌, ◌++◌, ◌⊎◌}
+use Rattle.g1_race_words.specs.Prelude.{ℕ, bit_or, List, [], map, slice_set, Some, None, some}
+use Rattle.g1_race_words.specs.Prelude.{get_elem?}
 use Rattle.g1_race_words.specs.declared.view.Shape.{Shape}
 use Rattle.g1_race_words.specs.declared.view.View.{View}
 use Rattle.g1_race_words.specs.Rule.{StoreHistory, IsWord, bit_place, bit_word, flag, front}

@@ -1,7 +1,7 @@
 -- What a seat's view is after each kind of step, and how views are cut in two and joined.
-use Rattle.std.specs.Prelude.{ℕ, ◌+◌, ◌-◌, ◌*◌, slice_set, List, [], ◌∷◌, ◌++◌, true, false, ◌==◌}
-use Rattle.std.specs.Prelude.{if◌then◌else◌, Option, Some, None}
-use Rattle.std.specs.Int.{bit_at}
+use Rattle.std.specs.Prelude.{◌+◌, ◌-◌, ◌*◌, ◌∷◌, ◌++◌, ◌==◌, if◌then◌else◌}
+use Rattle.g1_race_words.specs.Prelude.{ℕ, slice_set, List, [], true, false, Option, Some, None}
+use Rattle.g1_race_words.specs.Prelude.{bit_at}
 use Rattle.g1_race_words.specs.declared.view.Shape.{Shape}
 use Rattle.g1_race_words.specs.declared.view.View.{View}
 use Rattle.g1_race_words.specs.Begin.{Start}

@@ -1,8 +1,7 @@
 -- How seats come, are split and are joined, and what all seats have together, which these steps
 -- leave as it is. No word changes.
-use Rattle.std.specs.Prelude.{◌≡◌, ◌≢◌, ◌⊎◌, ◌↔◌, ℕ, ◌<◌, ◌≤◌, List, [], ◌∷◌, ◌++◌, slice_set, Some}
-use mathlib.Core.Option.{some}
-use lib.ListN.{get_elem?}
+use Rattle.std.specs.Prelude.{◌≡◌, ◌≢◌, ◌⊎◌, ◌↔◌, ◌<◌, ◌≤◌, ◌∷◌, ◌++◌}
+use Rattle.g1_race_words.specs.Prelude.{ℕ, List, [], slice_set, Some, some, get_elem?}
 use Rattle.g1_race_words.specs.declared.view.View.{View}
 use Rattle.g1_race_words.specs.Rule.{AtRest, In, IsBlank}
 use Rattle.g1_race_words.specs.Steps.{both, after_split, new_racer, new_sweeper, no_seat}

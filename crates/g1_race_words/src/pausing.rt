@@ -1,5 +1,6 @@
 //! The steps of a pause. The one seat that has the weight of all members makes them.
-ghost use Rattle.std.specs.Prelude.{◌≡◌, ◌<◌, slice_set};
+ghost use Rattle.std.specs.Prelude.{◌≡◌, ◌<◌};
+ghost use Rattle.g1_race_words.specs.Prelude.{slice_set};
 ghost use Rattle.g1_race_words.specs.Rule.{AtRest, IsBegun, started, word_count};
 ghost use Rattle.g1_race_words.specs.Steps.{thawed};
 ghost use Rattle.g1_race_words.specs.Seats.{Freezes, IsPaused};

@@ -1,5 +1,6 @@
 //! The steps of a racer.
-ghost use Rattle.std.specs.Prelude.{◌≡◌, ℕ, ◌-◌, ◌<◌, [], ◌∷◌, None};
+ghost use Rattle.std.specs.Prelude.{◌≡◌, ◌-◌, ◌<◌, ◌∷◌};
+ghost use Rattle.g1_race_words.specs.Prelude.{ℕ, [], None};
 ghost use Rattle.g1_race_words.specs.Rule.{StoreHistory, IsWord, bit_place, flag};
 ghost use Rattle.g1_race_words.specs.Steps.{wrote, exchanged, looked, spotted, raised, owed_card};
 ghost use Rattle.g1_race_words.specs.Steps.{dirtied};

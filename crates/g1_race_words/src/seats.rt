@@ -1,5 +1,6 @@
 //! How seats are made, split and joined. No word changes.
-ghost use Rattle.std.specs.Prelude.{◌≡◌, []};
+ghost use Rattle.std.specs.Prelude.{◌≡◌};
+ghost use Rattle.g1_race_words.specs.Prelude.{[]};
 ghost use Rattle.g1_race_words.specs.Rule.{AtRest, null_of};
 ghost use Rattle.g1_race_words.specs.Steps.{after_split, blank, both, new_racer, new_sweeper};
 ghost use Rattle.g1_race_words.specs.Steps.{no_seat};
@@ -42,7 +43,8 @@ impl Join<View> for Gathers {
 pub(crate) struct Comes;
 
 impl Play<(), View> for Comes {
-    ghost use Rattle.std.specs.Prelude.{◌≡◌, []};
+    ghost use Rattle.std.specs.Prelude.{◌≡◌};
+    ghost use Rattle.g1_race_words.specs.Prelude.{[]};
     ghost use Rattle.g1_race_words.specs.Rule.{start_of};
     ghost use Rattle.g1_race_words.specs.Steps.{blank};
 
@@ -52,7 +54,8 @@ impl Play<(), View> for Comes {
 pub(crate) struct ComesSpent;
 
 impl Play<(), View> for ComesSpent {
-    ghost use Rattle.std.specs.Prelude.{◌≡◌, []};
+    ghost use Rattle.std.specs.Prelude.{◌≡◌};
+    ghost use Rattle.g1_race_words.specs.Prelude.{[]};
     ghost use Rattle.g1_race_words.specs.Steps.{no_seat};
 
     ghost then = { λ step before found after. after ≡ (no_seat, []) };

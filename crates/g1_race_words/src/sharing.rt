@@ -1,7 +1,6 @@
 //! The readers of a pause: seats that share what the pause's one seat knows.
-ghost use Rattle.std.specs.Prelude.{◌≡◌, ◌<◌, []};
-ghost use mathlib.Core.Option.{some};
-ghost use lib.ListN.{get_elem?};
+ghost use Rattle.std.specs.Prelude.{◌≡◌, ◌<◌};
+ghost use Rattle.g1_race_words.specs.Prelude.{[], some, get_elem?};
 ghost use Rattle.g1_race_words.specs.Rule.{word_count};
 ghost use Rattle.g1_race_words.specs.Steps.{after_split};
 ghost use Rattle.g1_race_words.specs.Readers.{IsLent, IsReading, new_reader};
@@ -25,8 +24,7 @@ pub(crate) struct Sees;
 
 impl Play<(), View> for Sees {
     ghost use Rattle.std.specs.Prelude.{◌≡◌};
-    ghost use mathlib.Core.Option.{some};
-    ghost use lib.ListN.{get_elem?};
+    ghost use Rattle.g1_race_words.specs.Prelude.{some, get_elem?};
 
     ghost then = { λ step before found after.
         (after ≡ before) × (get_elem? before.0.began_words step.word ≡ some found) };

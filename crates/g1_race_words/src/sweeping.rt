@@ -1,5 +1,6 @@
 //! The steps of a sweeper.
-ghost use Rattle.std.specs.Prelude.{◌≡◌, ℕ, ◌-◌, ◌<◌, []};
+ghost use Rattle.std.specs.Prelude.{◌≡◌, ◌-◌, ◌<◌};
+ghost use Rattle.g1_race_words.specs.Prelude.{ℕ, []};
 ghost use Rattle.g1_race_words.specs.Rule.{IsWord, bit_place};
 ghost use Rattle.g1_race_words.specs.Steps.{cleaned, read, sought, recorded};
 ghost use Rattle.g1_race_words.specs.Seats.{Sits, IsMark, HoldsBit};

@@ -1,5 +1,6 @@
 //! The table of words and a seat at it: how they begin, and how they end.
-ghost use Rattle.std.specs.Prelude.{◌≡◌, ◌<◌, [], IfOk};
+ghost use Rattle.std.specs.Prelude.{◌≡◌, ◌<◌};
+ghost use Rattle.g1_race_words.specs.Prelude.{[], IfOk};
 ghost use Rattle.std.specs.Slots.{slots_items, slots_len, IsFull};
 ghost use Rattle.g1_race_words.specs.Rule.{IsWholeShape, null_of, word_count};
 ghost use Rattle.g1_race_words.specs.Steps.{frozen_seat};
@@ -48,8 +49,8 @@ pub struct RaceSeat {
 }
 
 impl Model for RaceSeat {
-    ghost use Rattle.atomic_table.specs.declared.shared.Seat.{Seat};
-    ghost use Rattle.std.specs.Prelude.{◌≡◌, []};
+    ghost use Rattle.std.specs.Prelude.{◌≡◌};
+    ghost use Rattle.g1_race_words.specs.Prelude.{Seat, []};
     ghost use Rattle.g1_race_words.specs.declared.view.View.{View};
 
     ghost Value = { Seat (Unit {0}) View };

@@ -1,41 +1,61 @@
 -- The calls of a command, and the line of what they answer.
-use Rattle.std.proofs.Common.{ℕ, List, [], ◌∷◌, Option, Some, None, true, false, ◌≡◌, ◌≢◌, ◌≤◌, ◌⊎◌, inl, inr, refl, subst, sym, length, map, arith}
-use Rattle.std.specs.Prelude.{Bool, Result, Ok, Err, IsSome, All}
-use Rattle.std.proofs.lemmas.List.Elements.{All-nil, All-cons}
-use Rattle.std.proofs.lemmas.List.{length-map}
-use Rattle.std.specs.Io.KnownBytes.{Appends}
-use Rattle.std.proofs.KnownBytes.{Appends-nil}
-use Rattle.g1_core.specs.declared.reply.Fill.TheVariants.{Full, Helped}
-use Rattle.g1_core.specs.declared.reply.StoreReply.{StoreReply}
-use Rattle.g1_core.specs.declared.reply.RefineReply.{RefineReply}
+use Rattle.std.specs.Prelude.{◌||◌, if◌then◌else◌, ◌∷◌, ◌≡◌, ◌≢◌, ◌≤◌, ◌⊎◌}
+use Rattle.g1_replay.specs.{ap, sum_by, ◌∙◌, flat_map, All-head, All-tail, Kind, Logged, Fill, No, Entry, worked_line, IsOwnFill, IsRefinementBy, taken_in, hot_in, skipped_in, is_any_short, ℕ, List, [], Option, Some, None, true, false, inl, inr, refl, subst, sym, length, map, arith, Bool, Result, Ok, Err, IsSome, All, All-nil, All-cons, length-map, Appends, Full, Helped, StoreReply, RefineReply, Reply, store_entry, refine_entry, State, FlushReply, Refusal, History, CallMade, Stored, Refined, AreCalls, Grows, IsBookCall, Help, IsStored, help_calls, store_answer, flush_answer, nothing_flushed, filled, called, IsRound, Turn, round_calls, replies_of, round_size, Command, AppendsFront, store_text, refine_text, work_text, call_line, Stop, WriteFailed, played_one, HasPlayed, IsCallRefused, IsBookFull, Does, stop_of, flush_text, Piece, plain_piece, IsOfBuffer, IsOfNone, IsLineOf, IsSetBy}
 use Rattle.g1_core.specs.declared.entry.Call.{Call}
-use Rattle.g1_core.specs.declared.entry.Reply.{Reply}
-use Rattle.g1_core.specs.Calls.{store_entry, refine_entry}
-use Rattle.g1_core.specs.Machine.{State}
 use Rattle.g1_core.specs.Refinement.{IsRefined}
 use Rattle.g1_log.specs.declared.parcel.Parcel.{Parcel}
-use Rattle.g1_steps.specs.declared.steps.mutator.FlushReply.{FlushReply}
-use Rattle.g1_history.specs.declared.refusal.Refusal.{Refusal}
 use Rattle.g1_history.specs.declared.refusal.Refusal.TheVariants.{NoMemory, BookFull}
-use Rattle.g1_history.specs.History.{History}
 use Rattle.g1_history.specs.Asked.{MadeAsked, asked_entry}
-use Rattle.g1_steps.specs.Made.{CallMade, Stored, Refined, AreCalls, entries_made as calls_entries}
-use Rattle.g1_steps.specs.Lent.{Grows, IsBookCall}
-use Rattle.g1_steps.specs.Steps.{Help, IsStored, help_calls, store_answer, flush_answer, nothing_flushed, filled, called}
-use Rattle.g1_steps.specs.Rounds.{IsRound, Turn, round_calls, replies_of, round_size}
+use Rattle.g1_steps.specs.Made.{entries_made as calls_entries}
 use Rattle.g1_steps.proofs.StepLemmas.{grows_none, grows_entered, calls_grow, round_entries}
-use Rattle.g1_trace.specs.declared.command.Command.{Command}
 use Rattle.g1_trace.specs.declared.command.Command.TheVariants as command
-use Rattle.g1_trace.specs.Bytes.{AppendsFront}
-use Rattle.g1_trace.specs.Text.{store_text, refine_text, work_text, call_line}
-use Rattle.g1_replay.specs.declared.stop.Stop.{Stop}
-use Rattle.g1_replay.specs.declared.stop.Stop.TheVariants.{WriteFailed}
-use Rattle.g1_replay.specs.Laws.{played_one}
-use Rattle.g1_replay.specs.Playing.{HasPlayed, IsCallRefused, IsBookFull, Does}
-use Rattle.g1_replay.specs.Stops.{stop_of}
-use Rattle.g1_replay.specs.Flush.{flush_text}
-use Rattle.g1_replay.specs.Pieces.{Piece, plain_piece, IsOfBuffer, IsOfNone, IsLineOf, IsSetBy}
-use Rattle.g1_replay.proofs.PieceLemmas.{Takes, store_says, store_helped_says, store_refused_says, flush_none_says, flush_says, flush_helped_says, flush_refused_says, refine_says, work_says}
+use Rattle.std.proofs.lemmas.List.Concat.{length-flat_map}
+use Rattle.g1_log.proofs.Settles.{sum_by-map}
+use Rattle.g1_replay.proofs.PlayingLemmas.{one_done, one_undone}
+
+-- A refinement of a buffer takes it, unless it is short.
+abbrev Takes : RefineReply → Type 0
+Takes r = r.taken ≡ (if r.short then 0 else 1)
+
+own_fill : (kind : Kind) (fill : Fill) → fill ≢ Helped → (fill ≡ Full → kind ≡ Logged) → IsOwnFill kind fill
+own_fill kind No own full = tt
+own_fill kind Full own full = full refl
+own_fill kind Helped own full = own refl
+
+are_refinements : (replies : List RefineReply) → All Takes replies → All (IsRefinementBy 0) (map (refine_entry 0) replies)
+are_refinements [] h = All-nil (IsRefinementBy 0)
+are_refinements (r ∷ replies) h = All-cons (IsRefinementBy 0) (refine_entry 0 r) (map (refine_entry 0) replies) ((refl, refl), All-head Takes r replies h) (are_refinements replies (All-tail Takes r replies h))
+
+none_short : (replies : List RefineReply) → All (λ (r : RefineReply). r.short ≡ false) replies → is_any_short (map (refine_entry 0) replies) ≡ false
+none_short [] h = refl
+none_short (r ∷ replies) h =
+    let here : r.short ≡ false = All-head (λ (one : RefineReply). one.short ≡ false) r replies h in
+    rw here (none_short replies (All-tail (λ (one : RefineReply). one.short ≡ false) r replies h))
+
+or_true : (b : Bool) → b || true ≡ true
+or_true true = refl
+or_true false = refl
+
+short_in_all : (replies : List RefineReply) (short : Bool) → (short ≡ false → All (λ (r : RefineReply). r.short ≡ false) replies) → short ≡ is_any_short (map (refine_entry 0) replies) || short
+short_in_all replies true h = sym (or_true (is_any_short (map (refine_entry 0) replies)))
+short_in_all replies false h = sym (ap (λ b. b || false) (none_short replies (h refl)))
+
+same_line : {a b d s : ℕ} {a2 b2 d2 s2 : ℕ} {f f2 : Bool} → a ≡ a2 → b ≡ b2 → d ≡ d2 → s ≡ s2 → (left : ℕ) → f ≡ f2 → worked_line a b d s left f ≡ worked_line a2 b2 d2 s2 left f2
+same_line ea eb ed es left ef = cc
+
+-- A round answers the sums of its calls, is short where one of them is, and shows how many buffers it saw last.
+work_says : (replies : List RefineReply) (r : RefineReply) → r.taken ≡ sum_by (λ (one : RefineReply). one.taken) replies
+    → r.refined ≡ flat_map (λ (one : RefineReply). one.refined) replies → r.hot ≡ sum_by (λ (one : RefineReply). one.hot) replies
+    → r.skipped ≡ sum_by (λ (one : RefineReply). one.skipped) replies → (r.short ≡ false → All (λ (one : RefineReply). one.short ≡ false) replies) → All Takes replies
+    → IsLineOf command.Work (record { entries = map (refine_entry 0) replies; shown = record { cards = 0; left = r.left; refused = r.short } }) (work_text r)
+work_says replies r taken refined hot skipped whole takes =
+    let a : r.taken ≡ sum_by (λ (e : Entry). taken_in e.reply) (map (refine_entry 0) replies) = taken ∙ sym (sum_by-map (λ (e : Entry). taken_in e.reply) (refine_entry 0) replies) in
+    let b : length r.refined ≡ sum_by (λ (e : Entry). length e.refined) (map (refine_entry 0) replies) =
+    ap (λ l. length l) refined ∙ length-flat_map (λ (one : RefineReply). one.refined) replies ∙ sym (sum_by-map (λ (e : Entry). length e.refined) (refine_entry 0) replies) in
+    let d : r.hot ≡ sum_by (λ (e : Entry). hot_in e.reply) (map (refine_entry 0) replies) = hot ∙ sym (sum_by-map (λ (e : Entry). hot_in e.reply) (refine_entry 0) replies) in
+    let s : r.skipped ≡ sum_by (λ (e : Entry). skipped_in e.reply) (map (refine_entry 0) replies) = skipped ∙ sym (sum_by-map (λ (e : Entry). skipped_in e.reply) (refine_entry 0) replies) in
+    let f : r.short ≡ is_any_short (map (refine_entry 0) replies) || r.short = short_in_all replies r.short whole in
+    record { piece = are_refinements replies takes; line = same_line a b d s r.left f }
 
 -- some calls of the command, with a line
 abbrev pub Says : History → History → Command → List ℕ → Type 0
@@ -67,15 +87,15 @@ turns_take m old new (t ∷ u ∷ turns) (Some e) h = All-cons Takes t.reply (re
 -- a store whose own answer was the first
 store_calls : (old new : History) (m slot : ℕ) (target : Option ℕ) (cards : List ℕ) (first : StoreReply) (help : Help) → Grows old (store_entry m slot target first ∷ calls_entries m (help_calls cards help)) new → HelpTakes help
     → (first.refined ≡ []) × (first.short ≡ false) → first.fill ≢ Helped → (first.fill ≡ Full → first ≡ filled) → (IsSome help → first.fill ≡ Full) → Says old new (command.Store m slot target) (store_text (store_answer first help))
-store_calls old new m slot target cards first None g takes plain own full helps = (plain_piece (store_entry m slot target first ∷ []), g, store_says m slot target first plain own full, tt)
+store_calls old new m slot target cards first None g takes plain own full helps = (plain_piece (store_entry m slot target first ∷ []), g, record { piece = ((refl, refl), (own_fill first.kind first.fill own (λ e. ap (λ (r : StoreReply). r.kind) (full e)), plain.1, plain.0)); line = refl }, tt)
 store_calls old new m slot target cards first (Some (Ok reply)) g takes plain own full helps =
     let is = full (helps refl) in
     subst (λ (r : StoreReply). Says old new (command.Store m slot target) (store_text (store_answer r (Some (Ok reply))))) (sym is)
-    (plain_piece (store_entry m slot target filled ∷ refine_entry m reply ∷ []), subst (λ (r : StoreReply). Grows old (store_entry m slot target r ∷ refine_entry m reply ∷ []) new) is g, store_helped_says m slot target reply takes, tt)
+    (plain_piece (store_entry m slot target filled ∷ refine_entry m reply ∷ []), subst (λ (r : StoreReply). Grows old (store_entry m slot target r ∷ refine_entry m reply ∷ []) new) is g, record { piece = (((refl, refl), (refl, refl, refl)), tt, ((refl, refl), takes)); line = refl }, tt)
 store_calls old new m slot target cards first (Some (Err e)) g takes plain own full helps =
     let is = full (helps refl) in
     subst (λ (r : StoreReply). Says old new (command.Store m slot target) (store_text (store_answer r (Some (Err e))))) (sym is)
-    (record { entries = store_entry m slot target filled ∷ []; shown = record { cards = 0; left = 0; refused = true } }, subst (λ (r : StoreReply). Grows old (store_entry m slot target r ∷ []) new) is g, store_refused_says m slot target, tt)
+    (record { entries = store_entry m slot target filled ∷ []; shown = record { cards = 0; left = 0; refused = true } }, subst (λ (r : StoreReply). Grows old (store_entry m slot target r ∷ []) new) is g, record { piece = ((refl, refl), (refl, refl, refl)); line = refl }, tt)
 
 pub store_made : {S : Type 0} (did : S → List CallMade → S → Type 0) (s t : S) (old new : History) (m slot : ℕ) (target : Option ℕ) (cards : List ℕ) (reply : StoreReply) (h : IsStored did s slot target cards reply t)
     → AreCalls (IsBookCall m) old (Stored slot target h.first ∷ help_calls cards h.help) new → Says old new (command.Store m slot target) (store_text reply)
@@ -85,14 +105,14 @@ store_made did s t old new m slot target cards reply h made =
 
 -- a flush of a log with cards
 flush_calls : (old new : History) (m n : ℕ) (cards : List ℕ) (help : Help) → Grows old (calls_entries m (help_calls cards help)) new → HelpTakes help → Says old new (command.Flush m) (flush_text (flush_answer n help))
-flush_calls old new m n cards None g takes = (record { entries = []; shown = record { cards = n; left = 0; refused = false } }, g, flush_says m n, tt)
-flush_calls old new m n cards (Some (Ok reply)) g takes = (record { entries = refine_entry m reply ∷ []; shown = record { cards = n; left = 0; refused = false } }, g, flush_helped_says m n reply takes, tt)
-flush_calls old new m n cards (Some (Err e)) g takes = (record { entries = []; shown = record { cards = n; left = 0; refused = true } }, g, flush_refused_says m n, tt)
+flush_calls old new m n cards None g takes = (record { entries = []; shown = record { cards = n; left = 0; refused = false } }, g, record { piece = tt; line = refl }, tt)
+flush_calls old new m n cards (Some (Ok reply)) g takes = (record { entries = refine_entry m reply ∷ []; shown = record { cards = n; left = 0; refused = false } }, g, record { piece = ((refl, refl), takes); line = refl }, tt)
+flush_calls old new m n cards (Some (Err e)) g takes = (record { entries = []; shown = record { cards = n; left = 0; refused = true } }, g, record { piece = tt; line = refl }, tt)
 
 pub flush_nothing : (old new : History) (m : ℕ) (reply : FlushReply) → reply ≡ nothing_flushed → new ≡ old → Says old new (command.Flush m) (flush_text reply)
 flush_nothing old new m reply is same =
     let g : Grows old [] new = subst (λ (b : History). Grows old [] b) (sym same) (grows_none old) in
-    subst (λ (r : FlushReply). Says old new (command.Flush m) (flush_text r)) (sym is) (plain_piece [], g, flush_none_says m, tt)
+    subst (λ (r : FlushReply). Says old new (command.Flush m) (flush_text r)) (sym is) (plain_piece [], g, record { piece = tt; line = refl }, tt)
 
 pub flush_made : (old new : History) (m : ℕ) (cards : List ℕ) (reply : FlushReply) (help : Help) → AreCalls (IsBookCall m) old (help_calls cards help) new → reply ≡ flush_answer (length cards) help → Says old new (command.Flush m) (flush_text reply)
 flush_made old new m cards reply help h is =
@@ -105,7 +125,7 @@ refine_finds old new (Some cards) reply h = inl h.taken
 
 pub refine_made : (old new : History) (buffer : Option (List ℕ)) (reply : RefineReply) → AreCalls (IsBookCall 0) old (Refined buffer (called reply) ∷ []) new → Says old new command.Refine (refine_text reply)
 refine_made old new buffer reply h =
-    (plain_piece (refine_entry 0 (called reply) ∷ []), calls_grow 0 old new (Refined buffer (called reply) ∷ []) h, refine_says reply 0 (refine_finds old.machine.state new.machine.state buffer (called reply) h.1.refined), tt)
+    (plain_piece (refine_entry 0 (called reply) ∷ []), calls_grow 0 old new (Refined buffer (called reply) ∷ []) h, record { piece = ((refl, refl), refine_finds old.machine.state new.machine.state buffer (called reply) h.1.refined); line = refl }, tt)
 
 rounds_within : (turns : List Turn) (most size : ℕ) → length turns ≤ most → most ≡ size → length (map (refine_entry 0) (replies_of turns)) ≤ size
 rounds_within turns most size h is =
@@ -144,12 +164,12 @@ module _ {S : Type 0} (book_of : S → History) where
 
   -- a command whose answer was written, or a beginning of it
   pub does_answer : (old new : S) (c : Command) (text : List ℕ) (out out' : Option (List ℕ)) → Says (book_of old) (book_of new) c text → Appends out out' text → PlaysBook c old new out out' (Ok true)
-  does_answer old new c text out out' p w = record { done = c ∷ []; undone = []; all = refl; stopped = refl; text = text; made = played_by (book_of old) (book_of new) c text p; filled = λ e. cc; written = w }
+  does_answer old new c text out out' p w = one_done _ _ old new c text out out' (Ok true) (played_by (book_of old) (book_of new) c text p) refl (λ e. cc) w
 
   pub does_front : (old new : S) (c : Command) (text : List ℕ) (out out' : Option (List ℕ)) → Says (book_of old) (book_of new) c text → AppendsFront out out' text → PlaysBook c old new out out' (Err WriteFailed)
-  does_front old new c text out out' p w = record { done = c ∷ []; undone = []; all = refl; stopped = refl; text = text; made = played_by (book_of old) (book_of new) c text p; filled = λ e. cc; written = w }
+  does_front old new c text out out' p w = one_done _ _ old new c text out out' (Err WriteFailed) (played_by (book_of old) (book_of new) c text p) refl (λ e. cc) w
 
   -- a command that was refused
   pub does_refused : (old new : S) (c : Command) (refusal : Refusal) (out : Option (List ℕ)) → IsCallRefused (book_of old) (book_of new) refusal → PlaysBook c old new out out (Err (stop_of refusal))
-  does_refused old new c NoMemory out p = record { done = []; undone = c ∷ []; all = refl; stopped = omega arith; text = []; made = nothing_played (book_of old) (book_of new) p; filled = λ e. cc; written = Appends-nil out }
-  does_refused old new c BookFull out p = record { done = []; undone = c ∷ []; all = refl; stopped = (c, refl); text = []; made = nothing_played (book_of old) (book_of new) p.0; filled = λ e. p.1; written = Appends-nil out }
+  does_refused old new c NoMemory out p = one_undone _ _ old new c out (Err (stop_of NoMemory)) (nothing_played (book_of old) (book_of new) p) (omega arith) (λ e. cc)
+  does_refused old new c BookFull out p = one_undone _ _ old new c out (Err (stop_of BookFull)) (nothing_played (book_of old) (book_of new) p.0) (c, refl) (λ e. p.1)

@@ -1,32 +1,11 @@
 -- Drains of the core that a race has become.
-use Rattle.std.proofs.Common.{◌≡◌, ◌≢◌, ◌⊎◌, ℕ, List, [], ◌∷◌, append-nil, ap, sym, subst, ◌∙◌, refl, inl, inr, ⊎_elim, Option, true, Contains, arith}
-use Rattle.std.specs.Prelude.{Bool, Result, Ok, Err}
+use Rattle.std.specs.Prelude.{◌≡◌, ◌≢◌, ◌⊎◌, ◌∷◌}
+use Rattle.g1_replay.specs.{ℕ, List, [], append-nil, ap, sym, subst, ◌∙◌, refl, inl, inr, ⊎_elim, Option, true, Contains, arith, Bool, Result, Ok, Err, Appends, true≢false, Shape, card_of, region_of, region_of_card, Drained, Cards, Short, drain_entry, drain_reply, Machine, IsStep, Table, Holds, IsCovered, IsRecorded, held, refined, Ended, refs_of, table_of, Command, Drain, Call, AppendsFront, call_line, Stop, NoMemory, WriteFailed, AreDrains, CoreDrained, core_drained_none, Does, AreExact, IsExactByStores, drain_text, referring, IsTableLeftBy}
 use Rattle.std.specs.FinSet as set
 use Rattle.std.specs.Ordering.{nat_cmp}
-use Rattle.std.specs.Io.KnownBytes.{Appends}
-use Rattle.std.proofs.KnownBytes.{Appends-nil}
-use Rattle.std.proofs.lemmas.Bool.{true≢false}
-use Rattle.g1_layout.specs.Shape.{Shape, card_of, region_of, region_of_card}
 use Rattle.g1_layout.specs.Sets.{CardSet}
-use Rattle.g1_core.specs.declared.reply.Drained.{Drained}
-use Rattle.g1_core.specs.declared.reply.Drained.TheVariants.{Cards, Short}
-use Rattle.g1_core.specs.Calls.{drain_entry, drain_reply}
-use Rattle.g1_core.specs.Machine.{Machine}
-use Rattle.g1_core.specs.Run.{IsStep}
-use Rattle.g1_core.specs.Table.{Table, Holds, IsCovered, IsRecorded, held, refined}
 use Rattle.g1_core.proofs.TableLemmas.{refined_covered, recorded_cases, region_of_slot, Holds_from_held}
-use Rattle.g1_race.specs.Over.{Ended, refs_of, table_of}
-use Rattle.g1_trace.specs.declared.command.Command.{Command}
-use Rattle.g1_core.specs.declared.entry.Call.TheVariants.{Drain}
-use Rattle.g1_trace.specs.declared.command.Command.TheVariants.{Call}
-use Rattle.g1_trace.specs.Bytes.{AppendsFront}
-use Rattle.g1_trace.specs.Text.{call_line}
-use Rattle.g1_replay.specs.declared.stop.Stop.{Stop}
-use Rattle.g1_replay.specs.declared.stop.Stop.TheVariants.{NoMemory, WriteFailed}
-use Rattle.g1_replay.specs.CoreDrains.{AreDrains, CoreDrained}
-use Rattle.g1_replay.specs.Playing.{Does}
-use Rattle.g1_replay.specs.Race.{AreExact, IsExactByStores, drain_text, referring}
-use Rattle.g1_replay.specs.RaceJobs.{IsTableLeftBy}
+use Rattle.g1_replay.proofs.PlayingLemmas.{one_done, one_undone}
 
 -- what one drain of a core does
 abbrev pub Drives : ℕ → Machine → Machine → Option (List ℕ) → Option (List ℕ) → Result Bool Stop → Type 0
@@ -35,31 +14,31 @@ Drives region old new out out' r = Does CoreDrained (λ (m : Machine). ⊥) (Cal
 abbrev pub Steps : ℕ → Machine → Drained → Machine → Type 0
 Steps region old answer new = (caller : ℕ) → IsStep old.state.table (drain_entry caller region answer) new.state.table
 
-one_drain : (old new : Machine) (region : ℕ) (answer : Drained) → Steps region old answer new → CoreDrained old (Call (Drain region) ∷ []) (drain_text answer) new
-one_drain old new region answer s = record { answers = answer ∷ []; made = (new.state.table, s 0, refl); said = sym (append-nil (drain_text answer)) }
+step_layout : (old new : Table) (region : ℕ) (answer : Drained) → IsStep old (drain_entry 0 region answer) new → new.layout ≡ old.layout
+step_layout old new region (Cards cards refined) s = ap (λ (t : Table). t.layout) s.after
+step_layout old new region (Short refined) s = ap (λ (t : Table). t.layout) s.after
 
 -- the line of a drain's reply is that of its answer
-line_is : (region : ℕ) (answer : Drained) → call_line (Drain region) (drain_reply answer) ≡ drain_text answer
+line_is : (region : ℕ) (answer : Drained) → drain_text answer ≡ call_line (Drain region) (drain_reply answer)
 line_is region (Cards cards refined) = refl
 line_is region (Short refined) = refl
 
+one_drain : (old new : Machine) (region : ℕ) (answer : Drained) → Steps region old answer new → CoreDrained old (Call (Drain region) ∷ []) (call_line (Drain region) (drain_reply answer)) new
+one_drain old new region answer s = record {
+  answers = answer ∷ [];
+  made = (new.state.table, s 0, refl);
+  said = sym (append-nil (drain_text answer) ∙ line_is region answer);
+  heap = step_layout old.state.table new.state.table region answer (s 0);
+}
+
 pub drives_whole : (old new : Machine) (region : ℕ) (answer : Drained) (out out' : Option (List ℕ)) → Steps region old answer new → Appends out out' (call_line (Drain region) (drain_reply answer)) → Drives region old new out out' (Ok true)
-drives_whole old new region answer out out' s w = record { done = Call (Drain region) ∷ []; undone = []; all = refl; stopped = refl; text = drain_text answer; made = one_drain old new region answer s; filled = λ e. cc; written = subst (λ (text : List ℕ). Appends out out' text) (line_is region answer) w }
+drives_whole old new region answer out out' s w = one_done CoreDrained (λ m. ⊥) old new _ _ out out' (Ok true) (one_drain old new region answer s) refl (λ e. cc) w
 
 pub drives_front : (old new : Machine) (region : ℕ) (answer : Drained) (out out' : Option (List ℕ)) → Steps region old answer new → AppendsFront out out' (call_line (Drain region) (drain_reply answer)) → Drives region old new out out' (Err WriteFailed)
-drives_front old new region answer out out' s w = record { done = Call (Drain region) ∷ []; undone = []; all = refl; stopped = refl; text = drain_text answer; made = one_drain old new region answer s; filled = λ e. cc; written = subst (λ (text : List ℕ). AppendsFront out out' text) (line_is region answer) w }
+drives_front old new region answer out out' s w = one_done CoreDrained (λ m. ⊥) old new _ _ out out' (Err WriteFailed) (one_drain old new region answer s) refl (λ e. cc) w
 
 pub drives_refused : (old new : Machine) (region : ℕ) (out : Option (List ℕ)) → new ≡ old → Drives region old new out out (Err NoMemory)
-drives_refused old new region out same = record {
-  done = [];
-  undone = Call (Drain region) ∷ [];
-  all = refl;
-  stopped = omega arith;
-  text = [];
-  made = record { answers = []; made = ap (λ (m : Machine). m.state.table) same; said = refl };
-  filled = λ e. cc;
-  written = Appends-nil out;
-}
+drives_refused old new region out same = one_undone CoreDrained (λ m. ⊥) old new _ out (Err NoMemory) (subst (λ (m : Machine). CoreDrained old [] [] m) (sym same) (core_drained_none old)) (omega arith) (λ e. cc)
 
 -- a table to which drains of the first one led
 pub record IsFrom (first now : Table) : Type 0 where
@@ -117,9 +96,7 @@ module _ (e : Ended) (mutators : ℕ) (commands : List Command) (left : IsTableL
 
   pub are_exact : (now last : Table) (drains : List Command) (answers : List Drained) → IsFrom (table_of e) now → AreDrains now drains answers last → AreExact e.layout commands (refs_of e) drains answers
   are_exact now last [] [] f d = tt
-  are_exact now last [] (a ∷ answers) f d = absurd d
-  are_exact now last (Call (Drain region) ∷ drains) [] f d = absurd d
   are_exact now last (Call (Drain region) ∷ drains) (Cards cards done ∷ answers) f d =
       (exact_list now d.0 region cards done f d.1, are_exact d.0 last drains answers (step_from (table_of e) now d.0 region (Cards cards done) f d.1) d.2)
   are_exact now last (Call (Drain region) ∷ drains) (Short done ∷ answers) f d = are_exact d.0 last drains answers (step_from (table_of e) now d.0 region (Short done) f d.1) d.2
-  are_exact now last (c ∷ drains) answers f d = absurd d
+  are_exact now last drains answers f d = absurd d

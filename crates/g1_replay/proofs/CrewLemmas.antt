@@ -1,24 +1,12 @@
 -- The whole output of a crew where its end says what it is.
-use Rattle.std.proofs.Common.{◌≡◌, ℕ, List, ◌++◌, refl, subst, Option, Some, inl, inr}
-use Rattle.std.specs.Prelude.{Ok, count_by}
-use Rattle.std.specs.Io.KnownBytes.{Appends}
-use Rattle.g1_layout.specs.Shape.{Shape}
-use Rattle.g1_shared.specs.Counts.{is_store}
-use Rattle.g1_trace.specs.declared.dialect.Dialect.{Dialect}
-use Rattle.g1_trace.specs.Text.{stores_text}
-use Rattle.g1_replay.specs.declared.end.End.TheVariants.{Whole}
-use Rattle.g1_replay.specs.Crew.{IsCrewText, CrewRan, Crewed, IsWholeCrew}
-use Rattle.g1_replay.specs.Drains.{drains}
-use Rattle.g1_replay.specs.Pieces.{Walks, lines_of}
+use Rattle.std.specs.Prelude.{◌≡◌, ◌++◌}
+use Rattle.g1_replay.specs.{ℕ, List, refl, subst, Option, Some, inl, inr, Ok, count_by, Appends, is_store, Dialect, stores_text, Whole, IsCrewText, Entry, Command, Piece, Crewed, IsWholeCrew, drains, Walks, lines_of}
 use Rattle.g1_replay.proofs.EndLemmas.{Says, says_whole, whole_trace}
 
 -- the text of a whole end
-whole_said : (l : Shape) (history : ℕ) (text : List ℕ) (ran : CrewRan l history (Ok tt) text) → text ≡ stores_text (count_by is_store ran.entries) ++ lines_of (drains ran.drained) ran.pieces
-whole_said l history text ran = said ran.said
-  where
-    said : IsCrewText ran.entries (drains ran.drained) ran.pieces (Ok tt) text → text ≡ stores_text (count_by is_store ran.entries) ++ lines_of (drains ran.drained) ran.pieces
-    said (inl s) = let bad = s.1 in cc
-    said (inr e) = e.1
+whole_said : (entries : List Entry) (commands : List Command) (pieces : List Piece) (text : List ℕ) → IsCrewText entries commands pieces (Ok tt) text → text ≡ stores_text (count_by is_store entries) ++ lines_of commands pieces
+whole_said entries commands pieces text (inl s) = let bad = s.1 in cc
+whole_said entries commands pieces text (inr e) = e.1
 
 pub whole_crew : (d : Dialect) (history : ℕ) → Says (Crewed d history) Whole (IsWholeCrew d history)
 whole_crew d history = says_whole (Crewed d history) (IsWholeCrew d history) whole
@@ -36,5 +24,5 @@ whole_crew d history = says_whole (Crewed d history) (IsWholeCrew d history) who
           walked = subst (λ k. Walks (drains k) t.ran.pieces) all t.ran.walked;
           permitted = t.ran.permitted;
           within = t.ran.within;
-          written = subst (λ k. Appends out out' (stores_text (count_by is_store t.ran.entries) ++ lines_of (drains k) t.ran.pieces)) all (subst (λ (w : List ℕ). Appends out out' w) (whole_said t.layout history text t.ran) w);
+          written = subst (λ k. Appends out out' (stores_text (count_by is_store t.ran.entries) ++ lines_of (drains k) t.ran.pieces)) all (subst (λ (w : List ℕ). Appends out out' w) (whole_said t.ran.entries (drains t.ran.drained) t.ran.pieces text t.ran.said) w);
         }

@@ -1,21 +1,10 @@
--- Scripts that are kept as their trace is read, and the jobs that take them.
-use Rattle.std.proofs.Common.{◌≡◌, ◌≢◌, ◌==◌, ◌<◌, ◌≤◌, ℕ, ◌+◌, List, [], ◌∷◌, ◌++◌, suc, add-one, add-zero, ◌-◌, length, get_or, set, drop, drop-cons, refl, sym, subst, ap, ◌∙◌, append-nil, inl, inr, Option, Some, None, true, false, nat_lt, Bool, arith, rules}
-use Rattle.std.specs.Prelude.{All, unwrap_or, if◌then◌else◌}
-use Rattle.std.specs.List.{filter_map, cons_option}
-use Rattle.std.proofs.lemmas.Bool.{cases_Bool, eq-eqb, eqb-true, ne_eqb, false≢true}
-use Rattle.std.proofs.lemmas.List.{get_or-set_same, get_or-set_other, length-set, length-drop}
-use Rattle.g1_layout.specs.Shape.{Shape, slot_count}
-use Rattle.g1_steps.specs.Ask.{StepFits, ScriptFits}
-use Rattle.g1_steps.specs.declared.crew.desk.Step.{Step}
+-- Scripts of a crew and a race: they fit the heap that their commands are of, and are kept as their trace is read.
+use Rattle.std.specs.Prelude.{◌≡◌, ◌≢◌, ◌==◌, ◌<◌, ◌≤◌, ◌+◌, ◌∷◌, ◌++◌, ◌-◌, if◌then◌else◌}
+use Rattle.g1_replay.specs.{false, take, IfSome, take_more, filter_map-append, ℕ, List, [], suc, add-one, add-zero, length, get_or, set, drop, drop-cons, refl, sym, subst, ap, ◌∙◌, append-nil, inl, inr, Option, Some, None, true, nat_lt, Bool, arith, rules, All, unwrap_or, filter_map, cons_option, cases_Bool, eq-eqb, eqb-true, ne_eqb, false≢true, get_or-set_same, get_or-set_other, length-set, length-drop, Shape, slot_count, StepFits, ScriptFits, Step, Script, Mutate, Refine, Command, Store, IsCommandOf, AllFrom, AreKept, IsScriptAt, asked_in, step_for}
 use Rattle.g1_steps.specs.declared.crew.desk.Step.TheVariants as step
-use Rattle.g1_steps.specs.declared.crew.desk.Script.{Script}
-use Rattle.g1_steps.specs.declared.crew.desk.Script.TheVariants.{Mutate, Refine}
-use Rattle.g1_trace.specs.declared.command.Command.{Command}
-use Rattle.g1_trace.specs.declared.command.Command.TheVariants.{Store, Flush}
-use Rattle.g1_trace.specs.Grammar.{IsCommandOf}
+use Rattle.g1_trace.specs.declared.command.Command.TheVariants.{Flush}
 use Rattle.g1_replay.specs.declared.crews.listing.Scripts.{Scripts}
-use Rattle.g1_replay.specs.RaceJobs.{AllFrom}
-use Rattle.g1_replay.specs.Scripts.{AreKept, IsScriptAt, asked_in, step_for}
+use Rattle.g1_replay.proofs.PlacedLemmas.{all_chosen}
 
 -- what a command asks of the mutator that it names, and of another
 own_at : (by : ℕ) (s : Step) → (if by == by then Some s else None) ≡ Some s
@@ -128,3 +117,25 @@ Unfilled s = ⊥
 
 pub kept_silent : (s t : Scripts) (cs : List Command) (text : List ℕ) → Kept s cs text t → text ≡ []
 kept_silent s t cs text h = h.1
+
+-- one command more
+kept_more : (mutator : ℕ) (cs : List Command) (i : ℕ) (d : Command) → i < length cs → filter_map (step_for mutator) (take (i + 1) cs) ≡ filter_map (step_for mutator) (take i cs) ++ cons_option (step_for mutator (get_or cs i d)) []
+kept_more mutator cs i d h = ap (filter_map (step_for mutator)) (take_more cs i d h) ∙ filter_map-append (step_for mutator) (take i cs) (get_or cs i d ∷ [])
+
+pub step_more : (mutator : ℕ) (cs : List Command) (i : ℕ) (d : Command) (s : Step) → i < length cs → step_for mutator (get_or cs i d) ≡ Some s → filter_map (step_for mutator) (take (i + 1) cs) ≡ filter_map (step_for mutator) (take i cs) ++ s ∷ []
+step_more mutator cs i d s h e = kept_more mutator cs i d h ∙ ap (λ o. filter_map (step_for mutator) (take i cs) ++ cons_option o []) e
+
+pub no_step_more : (mutator : ℕ) (cs : List Command) (i : ℕ) (d : Command) → i < length cs → step_for mutator (get_or cs i d) ≡ None → filter_map (step_for mutator) (take (i + 1) cs) ≡ filter_map (step_for mutator) (take i cs)
+no_step_more mutator cs i d h e = kept_more mutator cs i d h ∙ ap (λ o. filter_map (step_for mutator) (take i cs) ++ cons_option o []) e ∙ append-nil (filter_map (step_for mutator) (take i cs))
+
+if_fits : (slots : ℕ) (b : Bool) (s : Step) → StepFits slots true s → IfSome (if b then Some s else None) (StepFits slots true)
+if_fits slots true s h = h
+if_fits slots false s h = tt
+
+step_fits : (l : Shape) (m mutator : ℕ) (c : Command) → IsCommandOf l m c → IfSome (step_for mutator c) (StepFits (slot_count l) true)
+step_fits l m mutator (Store by slot target) h = if_fits (slot_count l) (by == mutator) (step.Store slot target) (refl, h.1, h.2)
+step_fits l m mutator (Flush by) h = if_fits (slot_count l) (by == mutator) step.Flush refl
+step_fits l m mutator c h = tt
+
+pub steps_fit : (l : Shape) (m mutator : ℕ) (cs : List Command) → All (IsCommandOf l m) cs → All (StepFits (slot_count l) true) (filter_map (step_for mutator) cs)
+steps_fit l m mutator cs all = all_chosen (IsCommandOf l m) (StepFits (slot_count l) true) (step_for mutator) (step_fits l m mutator) cs all

@@ -1,17 +1,8 @@
 -- Drains of the first regions, one behind the other.
-use Rattle.std.proofs.Common.{◌≡◌, ℕ, suc, ◌+◌, List, [], ◌∷◌, ◌++◌, refl, sym, subst, append-nil, Option, inl, inr, ◌⊎◌, true, arith}
-use Rattle.std.specs.Prelude.{Ok, Err}
-use Rattle.std.specs.Io.KnownBytes.{Appends}
-use Rattle.std.proofs.KnownBytes.{Appends-nil, Appends-trans}
-use Rattle.g1_core.specs.declared.entry.Call.TheVariants.{Drain}
-use Rattle.g1_trace.specs.declared.command.Command.{Command}
-use Rattle.g1_trace.specs.declared.command.Command.TheVariants.{Call}
-use Rattle.g1_trace.proofs.PutLemmas.{puts_then}
-use Rattle.g1_replay.specs.declared.stop.Stop.{Stop}
-use Rattle.g1_replay.specs.Drains.{drains, HasDrained}
-use Rattle.g1_replay.specs.Playing.{Does, written_by}
+use Rattle.std.specs.Prelude.{◌≡◌, ◌+◌, ◌∷◌, ◌++◌, ◌⊎◌}
+use Rattle.g1_replay.specs.{ℕ, suc, List, [], refl, sym, subst, append-nil, Option, inl, inr, true, arith, Ok, Err, Appends, Appends-nil, Appends-trans, Drain, Command, Call, puts_then, Stop, drains, HasDrained, Does, ap, end_met, written_by}
 use Rattle.g1_replay.proofs.EndLemmas.{all_done}
-use Rattle.g1_replay.proofs.ToldLemmas.{written_as, full_as}
+use Rattle.g1_replay.proofs.ToldLemmas.{written_as}
 
 -- of one command, nothing was done or all
 one_done : (c : Command) (done undone : List Command) → c ∷ [] ≡ done ++ undone → (done ≡ []) ⊎ (done ≡ c ∷ [])
@@ -60,7 +51,7 @@ module _ {S : Type 0} (did : S → List Command → List ℕ → S → Type 0) (
         drained = last.0;
         text = p.text ++ q.text;
         played = last.1;
-        filled = λ e. q.filled (full_as (Err stop) e);
+        filled = λ e. q.filled (ap end_met e);
         all = λ e. cc;
         written = puts_then out mid_out out' (written_by {V = Unit {0}} (Err stop)) p.text q.text p.written (written_as mid_out out' (Err stop) q.text q.written);
       }

@@ -1,27 +1,7 @@
 -- The line of the end, and the whole output where the end says what it is.
-use Rattle.std.proofs.Common.{◌≡◌, ℕ, List, [], ◌∷◌, ◌++◌, refl, ap, ◌∙◌, subst, append-nil, append_assoc, ap₂, Option, Some, None, false}
-use Rattle.std.specs.Prelude.{Result, Ok, Err, IfSome, IfNone, IsSome}
-use Rattle.std.proofs.KnownBytes.{Appends-trans}
-use Rattle.std.specs.Io.KnownBytes.{Appends, Consumes}
-use Rattle.g1_layout.specs.Shape.{Shape}
-use Rattle.g1_core.specs.declared.config.Settings.{Settings}
-use Rattle.g1_core.specs.Table.{opening}
-use Rattle.g1_core.specs.Run.{IsPermitted}
-use Rattle.g1_trace.specs.declared.command.Command.{Command}
-use Rattle.g1_trace.specs.declared.dialect.Dialect.{Dialect}
-use Rattle.g1_trace.specs.declared.fault.TraceFault.{TraceFault}
-use Rattle.g1_trace.specs.Bytes.{AppendsFront}
-use Rattle.g1_trace.specs.Text.{fault_line}
-use Rattle.g1_trace.specs.Trace.{read_trace, before}
-use Rattle.g1_trace.proofs.PutLemmas.{front_then}
-use Rattle.g1_replay.specs.declared.end.End.{End}
-use Rattle.g1_replay.specs.declared.end.End.TheVariants.{Whole, Refused, WriteFailed as EndWriteFailed}
-use Rattle.g1_replay.specs.declared.stop.Stop.{Stop}
-use Rattle.g1_replay.specs.declared.stop.Stop.TheVariants.{Fault, WriteFailed}
-use Rattle.g1_replay.specs.Output.{Tale, Told, IsEndWritten, IsReplayed, ending_line, end_of, IsWholeOutput, IsRefusedOutput}
-use Rattle.g1_replay.specs.Pieces.{entries_of}
-use Rattle.g1_replay.specs.Playing.{Writes, WritesSome}
-use Rattle.g1_replay.specs.Reading.{Reads, IsLeftToRead}
+use Rattle.std.specs.Prelude.{◌≡◌, ◌∷◌, ◌++◌}
+use Rattle.g1_replay.specs.{ℕ, List, [], refl, ap, ◌∙◌, subst, append-nil, append_assoc, ap₂, Option, Some, None, false, Result, Ok, Err, IfSome, IfNone, IsSome, Appends-trans, Appends, Consumes, Shape, Settings, opening, IsPermitted, Command, Dialect, TraceFault, AppendsFront, fault_line, read_trace, before, front_then, End, Whole, Refused, Stop, Fault, WriteFailed, Tale, Told, IsEndWritten, IsReplayed, ending_line, end_of, IsWholeOutput, IsRefusedOutput, entries_of, Writes, WritesSome, Reads, IsLeftToRead}
+use Rattle.g1_replay.specs.declared.end.End.TheVariants.{WriteFailed as EndWriteFailed}
 use Rattle.g1_replay.proofs.ReadingLemmas.{left_none}
 
 nil_front : (f l : List ℕ) → [] ≡ f ++ l → f ≡ []

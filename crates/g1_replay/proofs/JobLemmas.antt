@@ -1,20 +1,7 @@
 -- What the jobs of a crew came to, by their outcomes and by the callers that are left.
-use Rattle.std.proofs.Common.{◌≡◌, ℕ, zero, suc, ◌+◌, ◌<◌, List, [], ◌∷◌, length, map, get_or, refl, sym, subst, ap, ◌∙◌, arith, Option, Some, None}
-use Rattle.std.specs.Prelude.{Result, Ok, Err, count_by, sum_by}
-use Rattle.std.specs.List.{All, AllZip}
-use Rattle.std.proofs.lemmas.List.{get_or-map, length-map}
-use Rattle.std.proofs.lemmas.List.Elements.{length_all_zip}
-use Rattle.std.proofs.lemmas.List.Sums.{sum_by-cons}
-use Rattle.g1_history.specs.declared.refusal.Refusal.{Refusal}
-use Rattle.g1_steps.specs.Ask.{Ask, asks_in, is_store_ask}
-use Rattle.g1_steps.specs.Ran.{Ran}
-use Rattle.g1_steps.specs.declared.crew.desk.Script.{Script}
-use Rattle.g1_steps.specs.declared.crew.desk.Step.{Step}
-use Rattle.g1_steps.specs.declared.crew.job.Job.{Job}
-use Rattle.g1_shared.specs.Counts.{CallerCounts}
-use Rattle.g1_shared.specs.Callers.{CallerState}
+use Rattle.std.specs.Prelude.{◌≡◌, ◌+◌, ◌<◌, ◌∷◌}
+use Rattle.g1_replay.specs.{ℕ, zero, suc, List, [], length, map, get_or, refl, sym, subst, ap, ◌∙◌, arith, Option, Some, None, Result, Ok, Err, count_by, sum_by, All, AllZip, get_or-map, length-map, length_all_zip, sum_by-cons, Refusal, Ask, asks_in, is_store_ask, Ran, Script, Step, Job, CallerCounts, CallerState, IsScriptAt, first_refusal, JobEnd, asked_by, stored_by, HasCome}
 use Rattle.g1_shared.specs.Did.{DeskDid}
-use Rattle.g1_replay.specs.Scripts.{IsScriptAt, first_refusal, JobEnd, asked_by, stored_by, HasCome}
 
 -- calls at a desk of a shared book
 abbrev DidAt : {X : Type 0} → (X → ℕ) → (X → CallerState) → X → List Ask → X → Type 0
@@ -36,8 +23,6 @@ one_stores limit stood script None d e h = absurd h
 all_store : {X : Type 0} (limit : X → ℕ) (stood : X → CallerState) (begun done : List (Job X)) → AllZip (HasRun limit stood) begun done
     → sum_by (λ (c : CallerState). c.counts.stored) (map (λ (j : Job X). stood j.desk) done) ≡ sum_by (λ (c : CallerState). c.counts.stored) (map (λ (j : Job X). stood j.desk) begun) + sum_by stored_by (map end_of done)
 all_store limit stood [] [] h = refl
-all_store limit stood [] (b ∷ done) h = absurd h
-all_store limit stood (a ∷ begun) [] h = absurd h
 all_store {X} limit stood (a ∷ begun) (b ∷ done) h =
     let stored : CallerState → ℕ = λ c. c.counts.stored in
     let stand : Job X → CallerState = λ j. stood j.desk in
@@ -45,6 +30,7 @@ all_store {X} limit stood (a ∷ begun) (b ∷ done) h =
     let same : stored_by (end_of b) ≡ count_by is_store_ask (asked_by a.script b.outcome) = ap (λ s. count_by is_store_ask (asked_by s b.outcome)) h.0.0 in
     let rest : sum_by stored (map stand done) ≡ sum_by stored (map stand begun) + sum_by stored_by (map end_of done) = all_store limit stood begun done h.1 in
     omega (arith, made, same, rest, sum_by-cons stored (stand b) (map stand done), sum_by-cons stored (stand a) (map stand begun), sum_by-cons stored_by (end_of b) (map end_of done))
+all_store limit stood begun done h = absurd h
 
 none_stored : (callers : List CallerState) → ((k : ℕ) (d : CallerState) → k < length callers → (get_or callers k d).counts.stored ≡ 0) → sum_by (λ (c : CallerState). c.counts.stored) callers ≡ 0
 none_stored [] none = refl

@@ -1,30 +1,16 @@
 -- The table that a race of scripts leaves, by what its racers have stored.
-use Rattle.std.proofs.Common.{◌^◌, ◌≡◌, ◌≢◌, ◌⊎◌, ◌<◌, ◌+◌, ◌-◌, ◌≤◌, ℕ, List, length, take, ap, sym, subst, ◌∙◌, refl, arith, Option, Some, None, inl, inr, ⊎_elim, Contains, get_or}
+use Rattle.std.specs.Prelude.{◌^◌, ◌≡◌, ◌≢◌, ◌⊎◌, ◌<◌, ◌+◌, ◌-◌, ◌≤◌}
+use Rattle.g1_replay.specs.{ℕ, List, length, take, ap, sym, subst, ◌∙◌, refl, arith, Option, Some, None, inl, inr, ⊎_elim, Contains, get_or, length-map, slot_count, card_count, Holds, IsCovered, IsRecorded, IsPairOf, View, Begun, StoreHistory, BeganInto, In, histories_of, last_to, Among, AmongStores, IsKnown, IsOver, shape_of, word_of, null_begun, Ended, refs_of, table_of, target_of_word, in_contains, reads_as, read_at, Command, Store, AreLeftBy, StoresInto, last_by, IsTableLeftBy}
 use mathlib.Core.Option.{some}
 use lib.ListN.{get_elem?}
-use Rattle.std.proofs.lemmas.List.{length-map, length-take-le}
+use Rattle.std.proofs.lemmas.List.{length-take-le}
 use Rattle.g1_layout.specs.Shape as layout
-use Rattle.g1_layout.specs.Shape.{slot_count, card_count}
-use Rattle.g1_core.specs.Table.{Holds, IsCovered, IsRecorded}
-use Rattle.g1_core.specs.Adoption.{IsPairOf}
 use Rattle.g1_core.proofs.SetLemmas.{in_pairs}
-use Rattle.g1_race_words.specs.declared.view.View.{View}
-use Rattle.g1_race_words.specs.Begin.{Begun}
-use Rattle.g1_race_words.specs.Rule.{StoreHistory, BeganInto, In, histories_of, last_to}
-use Rattle.g1_race.specs.Race.{Among, AmongStores, IsKnown, IsOver, shape_of, word_of}
-use Rattle.g1_race.specs.Members.{null_begun}
-use Rattle.g1_race.specs.Over.{Ended, refs_of, table_of, target_of_word}
 use Rattle.g1_race_words.proofs.AtBeginning.{at_zeros}
 use Rattle.g1_race.proofs.Draining.{in_shape, known_once, stored_now}
 use Rattle.g1_race.proofs.Ends.{refs_here, target_some}
 use Rattle.g1_race_words.proofs.Crossing.{crosses_reference}
-use Rattle.g1_race_words.proofs.Places.{in_contains, reads_as}
-use Rattle.g1_race_words.proofs.Plain.{read_at}
 use Rattle.g1_race_words.proofs.Reading.{last_in}
-use Rattle.g1_trace.specs.declared.command.Command.{Command}
-use Rattle.g1_trace.specs.declared.command.Command.TheVariants.{Store}
-use Rattle.g1_replay.specs.Race.{AreLeftBy, StoresInto, last_by}
-use Rattle.g1_replay.specs.RaceJobs.{IsTableLeftBy}
 use Rattle.g1_replay.proofs.StoreLemmas.{as_word, in_own, last_own, own}
 
 -- a word that is stored last tells what is

@@ -1,6 +1,5 @@
 pub mod EndLemmas
 pub mod PartLemmas
-pub mod PieceLemmas
 pub mod PlayingLemmas
 pub mod ReadingLemmas
 pub mod ToldLemmas
@@ -18,5 +17,12 @@ pub mod RanRaceLemmas
 pub mod LeftLemmas
 pub mod CoreDrainLemmas
 pub mod RaceLemmas
-pub mod ScriptLemmas
 pub mod JobLemmas
+use AnswerLemmas.*
+use CrewScriptLemmas.*
+use PartLemmas.*
+use PlacedLemmas.*
+use PlayingLemmas.*
+use RaceLemmas.*
+use RanLemmas.*
+use ScriptedLemmas.*

@@ -1,21 +1,13 @@
 -- A line that goes on in the bytes that a reader shows.
-use Rattle.std.proofs.Common.{inl, inr, ◌≡◌, ◌≢◌, ℕ, ◌+◌, ◌-◌, ◌<◌, ◌≤◌, List, [], ◌∷◌, ◌++◌, length, take, get_or, refl, sym, ap, subst, ◌∙◌, arith, append_assoc, append-nil, add-one, length-take-le, length-append, Option, Some, None, zero, suc, true}
-use Rattle.std.specs.Prelude.{Ok, Err}
-use Rattle.std.proofs.KnownBytes.{Consumes-nil, Consumes-trans}
+use Rattle.std.specs.Prelude.{◌≡◌, ◌≢◌, ◌+◌, ◌-◌, ◌<◌, ◌≤◌, ◌∷◌, ◌++◌}
+use Rattle.g1_replay.specs.{inl, inr, ℕ, List, [], length, take, get_or, refl, sym, ap, subst, ◌∙◌, arith, append_assoc, append-nil, add-one, length-take-le, Option, Some, None, zero, suc, true, Ok, Err, Consumes-nil, Consumes-trans, eq-eqb, eqb-true, cases_Bool, cases_lt, cond-true, cond-false, false≢true, YieldsFirst, unwrap_or, Nowhere, NoneBefore, IsFirst, IsFirstByte, is_byte, places, places_from, Consumes, IsPart, Part, More, Nothing, Failed, Fault, EndsAtFeed, GoesIntoLine, HasPart, IsSettled, ReadsByte, ReadsPart, ReadsLine}
+use Rattle.std.proofs.Common.{length-append}
 use Rattle.std.proofs.Math.Seq.{take-suc}
-use Rattle.std.proofs.lemmas.Bool.{eq-eqb, eqb-true, cases_Bool, cases_lt, cond-true, cond-false, false≢true}
-use Rattle.std.specs.Iterator.{YieldsFirst}
-use Rattle.std.specs.Option.{unwrap_or}
-use Rattle.memchr.specs.Find.{Nowhere, NoneBefore, Passes, IsFirst, IsFirstByte, is_byte, places, places_from}
-use Rattle.std.specs.Io.KnownBytes.{Consumes}
+use Rattle.memchr.specs.Find.{Passes}
 use Rattle.g1_trace.specs.declared.fault.TraceFault.TheVariants as fault
-use Rattle.g1_trace.specs.Words.{IsPart}
 use Rattle.g1_trace.proofs.PlainLemmas.{part_joined}
 use Rattle.g1_replay.specs.declared.lines.line.Byte.TheVariants.{Some as OneByte}
-use Rattle.g1_replay.specs.declared.lines.line.Part.{Part}
-use Rattle.g1_replay.specs.declared.lines.line.Part.TheVariants.{Whole, TooLong, More, Nothing, Failed}
-use Rattle.g1_replay.specs.declared.stop.Stop.TheVariants.{Fault}
-use Rattle.g1_replay.specs.Lines.{EndsAtFeed, GoesIntoLine, HasPart, IsSettled, Reads, ReadsPart, ReadsLine}
+use Rattle.g1_replay.specs.declared.lines.line.Part.TheVariants.{Whole, TooLong}
 
 -- one more byte
 part_push : (xs : List ℕ) (b : ℕ) → IsPart xs → b ≢ 10 → IsPart (xs ++ b ∷ [])
@@ -125,43 +117,33 @@ part_read old new Failed n lost room shown begun line p h r e c = absurd p
 behind : (a b c : Option (List ℕ)) (begun line bytes more : List ℕ) → line ≡ begun ++ bytes → Consumes a b begun → Consumes b c (bytes ++ more) → Consumes a c (line ++ more)
 behind a b c begun line bytes more e p q = subst (Consumes a c) (sym (append_assoc begun bytes more) ∙ ap (λ l. l ++ more) (sym e)) (Consumes-trans a b c begun (bytes ++ more) p q)
 
--- the last part of a line
-line_whole : (a b c : Option (List ℕ)) (begun line : List ℕ) → Consumes a b begun → IsPart begun → ReadsPart b c Whole begun line → ReadsLine a c (Ok true) line
-line_whole a b c begun line p part r = (behind a b c begun line r.0 (10 ∷ []) r.1 p r.2, subst IsPart (sym r.1) (part_joined begun r.0 part r.3), r.4)
-
-line_long : (a b c : Option (List ℕ)) (begun line : List ℕ) → Consumes a b begun → IsPart begun → ReadsPart b c TooLong begun line → ReadsLine a c (Err (Fault fault.TooLong)) line
-line_long a b c begun line p part r =
-    (r.1, behind a b c begun line r.0 (r.1 ∷ []) r.2 p r.3, r.4, subst IsPart (sym r.2) (part_joined begun r.0 part r.5), r.6)
-
--- a part, behind which more may come
-line_more : (a b c : Option (List ℕ)) (begun line : List ℕ) → Consumes a b begun → IsPart begun → ReadsPart b c More begun line → Consumes a c line × IsPart line × (length line ≤ 64)
-line_more a b c begun line p part r =
-    (subst (Consumes a c) (sym r.1) (Consumes-trans a b c begun r.0 p r.2), subst IsPart (sym r.1) (part_joined begun r.0 part r.3), r.4)
-
--- no part: the line is as it was
-stays : (a b c : Option (List ℕ)) (begun line : List ℕ) → Consumes a b begun → IsPart begun → line ≡ begun → Consumes b c [] → Consumes a c line × IsPart line
-stays a b c begun line p part e q = (subst (Consumes a c) (append-nil begun ∙ sym e) (Consumes-trans a b c begun [] p q), subst IsPart (sym e) part)
-
 -- the first part of a line, and one behind others
 pub part_first : (a c : Option (List ℕ)) (part : Part) (line : List ℕ) → ReadsPart a c part [] line → HasPart a c part line
 part_first a c part line r = record { before = []; left = a; read = Consumes-nil a; one = tt; last = r }
 
 -- what the last part of a line settles
 pub settled_whole : (a c : Option (List ℕ)) (line : List ℕ) → HasPart a c Whole line → IsSettled a c (Ok (Some true)) line
-settled_whole a c line p = line_whole a p.left c p.before line p.read p.one p.last
+settled_whole a c line p =
+    let r = p.last in
+    (behind a p.left c p.before line r.0 (10 ∷ []) r.1 p.read r.2, subst IsPart (sym r.1) (part_joined p.before r.0 p.one r.3), r.4)
 
 pub settled_long : (a c : Option (List ℕ)) (line : List ℕ) → HasPart a c TooLong line → IsSettled a c (Err (Fault fault.TooLong)) line
-settled_long a c line p = line_long a p.left c p.before line p.read p.one p.last
+settled_long a c line p =
+    let r = p.last in
+    (r.1, behind a p.left c p.before line r.0 (r.1 ∷ []) r.2 p.read r.3, r.4, subst IsPart (sym r.2) (part_joined p.before r.0 p.one r.5), r.6)
 
 pub settled_more : (a c : Option (List ℕ)) (line : List ℕ) → HasPart a c More line → IsSettled a c (Ok None) line
-settled_more a c line p = line_more a p.left c p.before line p.read p.one p.last
+settled_more a c line p =
+    let r = p.last in
+    (subst (Consumes a c) (sym r.1) (Consumes-trans a p.left c p.before r.0 p.read r.2), subst IsPart (sym r.1) (part_joined p.before r.0 p.one r.3), r.4)
 
 -- a line that the reader showed as a whole
 pub line_shown : (old new : Option (List ℕ)) (shown : List ℕ) (n lost : ℕ) → GoesIntoLine shown 64 Whole n lost → n ≤ length shown → Consumes old new (take lost shown) → ReadsLine old new (Ok true) (take n shown)
 line_shown old new shown n lost p within moved = let long = length-take-le n shown within in (subst (Consumes old new) p.2 moved, p.0, omega arith)
 
 pub nothing_shown : (a c : Option (List ℕ)) (line : List ℕ) → HasPart a c Nothing line → Consumes a c line × IsPart line
-nothing_shown a c line p = stays a p.left c p.before line p.read p.one p.last.0 p.last.1
+nothing_shown a c line p =
+    (subst (Consumes a c) (append-nil p.before ∙ sym p.last.0) (Consumes-trans a p.left c p.before [] p.read p.last.1), subst IsPart (sym p.last.0) p.one)
 
-pub byte_more : (a b c : Option (List ℕ)) (line : List ℕ) (byte : ℕ) → Consumes a b line → IsPart line → length line < 64 → byte ≢ 10 → Reads b c (OneByte byte) → IsSettled a c (Ok None) (line ++ byte ∷ [])
+pub byte_more : (a b c : Option (List ℕ)) (line : List ℕ) (byte : ℕ) → Consumes a b line → IsPart line → length line < 64 → byte ≢ 10 → ReadsByte b c (OneByte byte) → IsSettled a c (Ok None) (line ++ byte ∷ [])
 byte_more a b c line byte p one room ne q = (Consumes-trans a b c line (byte ∷ []) p q, part_push line byte one ne, simp length-append (omega arith))

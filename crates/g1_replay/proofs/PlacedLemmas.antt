@@ -1,19 +1,7 @@
 -- Lists whose items fit their places, and lists of members, by kinds.
-use Rattle.std.proofs.Common.{◌≡◌, ℕ, suc, ◌+◌, List, [], ◌∷◌, ◌++◌, length, map, ap, sym, subst, ◌∙◌, refl, arith, append_assoc, All, Option, append-nil}
-use Rattle.std.specs.Prelude.{sum_by}
-use Rattle.std.specs.List.{filter_map}
-use Rattle.std.proofs.lemmas.List.{map-append}
-use Rattle.std.proofs.lemmas.List.Elements.{filter_map-append, All-nil, All-cons, All-head, All-tail}
-use Rattle.std.proofs.lemmas.List.Sums.{sum_by-cons, sum_by_push}
-use Rattle.g1_log.specs.declared.line.Line.{Line}
-use Rattle.g1_log.specs.Ends.{sender_rights, taker_rights, IsSenderOf, IsTakerOf}
+use Rattle.std.specs.Prelude.{◌≡◌, ◌+◌, ◌∷◌, ◌++◌}
+use Rattle.g1_replay.specs.{Some, None, IfSome, cons_option, ℕ, suc, List, [], length, map, ap, sym, subst, ◌∙◌, refl, arith, append_assoc, All, Option, append-nil, sum_by, filter_map, map-append, filter_map-append, All-nil, All-cons, All-head, All-tail, sum_by-cons, sum_by_push, Line, sender_rights, taker_rights, IsSenderOf, IsTakerOf, null_of, race_id, racer_race, racer_start, sweeper_race, sweeper_start, Member, Racing, Sweeping, IsMemberOf, member_rights, AllFrom, racer_in, sender_in, sweeper_in, taker_in}
 use Rattle.g1_race.specs.declared.race.Race.{Race}
-use Rattle.g1_race_words.specs.Rule.{null_of}
-use Rattle.g1_race.specs.Members.{race_id, racer_race, racer_start, sweeper_race, sweeper_start}
-use Rattle.g1_replay.specs.declared.races.desk.Member.{Member}
-use Rattle.g1_replay.specs.declared.races.desk.Member.TheVariants.{Racing, Sweeping}
-use Rattle.g1_replay.specs.Members.{IsMemberOf, member_rights}
-use Rattle.g1_replay.specs.RaceJobs.{AllFrom, racer_in, sender_in, sweeper_in, taker_in}
 
 module _ {A : Type 0} (P : ℕ → A → Type 0) where
   pub all_from_push : (k : ℕ) (xs : List A) (x : A) → AllFrom P k xs → P (k + length xs) x → AllFrom P k (xs ++ x ∷ [])
@@ -52,30 +40,31 @@ pub sorted_all : {D B : Type 0} (member : D → Member) (kind : Member → Optio
 sorted_all member kind old all [] e was = sym (append-nil old) ∙ was
 sorted_all member kind old all (d ∷ ds) e was = absurd (omega (arith, e))
 
--- the kinds of members, sorted: all are of the race, and began with nulls
-pub racers_of : (race : Race) (line : Line) (ms : List Member) → All (IsMemberOf race line) ms → All (λ r. (racer_race r ≡ race_id race) × (racer_start r ≡ null_of race.shape)) (filter_map racer_in ms)
-racers_of race line [] all = All-nil (λ r. (racer_race r ≡ race_id race) × (racer_start r ≡ null_of race.shape))
-racers_of race line (Racing r s ∷ ms) all =
-    let of = All-head (IsMemberOf race line) (Racing r s) ms all in
-    All-cons (λ r. (racer_race r ≡ race_id race) × (racer_start r ≡ null_of race.shape)) r (filter_map racer_in ms) (of.0, of.2) (racers_of race line ms (All-tail (IsMemberOf race line) (Racing r s) ms all))
-racers_of race line (Sweeping w t ∷ ms) all = racers_of race line ms (All-tail (IsMemberOf race line) (Sweeping w t) ms all)
+-- what is chosen from a list whose items give what it is to be
+chosen_before : {B : Type 0} (Q : B → Type 0) (o : Option B) (ys : List B) → IfSome o Q → All Q ys → All Q (cons_option o ys)
+chosen_before Q None ys h all = all
+chosen_before Q (Some y) ys h all = All-cons Q y ys h all
 
-pub sweepers_of : (race : Race) (line : Line) (ms : List Member) → All (IsMemberOf race line) ms → All (λ w. (sweeper_race w ≡ race_id race) × (sweeper_start w ≡ null_of race.shape)) (filter_map sweeper_in ms)
-sweepers_of race line [] all = All-nil (λ w. (sweeper_race w ≡ race_id race) × (sweeper_start w ≡ null_of race.shape))
-sweepers_of race line (Racing r s ∷ ms) all = sweepers_of race line ms (All-tail (IsMemberOf race line) (Racing r s) ms all)
-sweepers_of race line (Sweeping w t ∷ ms) all =
-    let of = All-head (IsMemberOf race line) (Sweeping w t) ms all in
-    All-cons (λ w. (sweeper_race w ≡ race_id race) × (sweeper_start w ≡ null_of race.shape)) w (filter_map sweeper_in ms) (of.0, of.2) (sweepers_of race line ms (All-tail (IsMemberOf race line) (Sweeping w t) ms all))
+pub all_chosen : {A B : Type 0} (P : A → Type 0) (Q : B → Type 0) (f : A → Option B) → ((x : A) → P x → IfSome (f x) Q) → (xs : List A) → All P xs → All Q (filter_map f xs)
+all_chosen P Q f each [] all = All-nil Q
+all_chosen P Q f each (x ∷ xs) all = chosen_before Q (f x) (filter_map f xs) (each x (All-head P x xs all)) (all_chosen P Q f each xs (All-tail P x xs all))
 
-pub senders_of : (race : Race) (line : Line) (ms : List Member) → All (IsMemberOf race line) ms → All (IsSenderOf line) (filter_map sender_in ms)
-senders_of race line [] all = All-nil (IsSenderOf line)
-senders_of race line (Racing r s ∷ ms) all = All-cons (IsSenderOf line) s (filter_map sender_in ms) (All-head (IsMemberOf race line) (Racing r s) ms all).1 (senders_of race line ms (All-tail (IsMemberOf race line) (Racing r s) ms all))
-senders_of race line (Sweeping w t ∷ ms) all = senders_of race line ms (All-tail (IsMemberOf race line) (Sweeping w t) ms all)
+-- what a member is of: the race, which began with nulls, and the line
+pub racer_of : (race : Race) (line : Line) (m : Member) → IsMemberOf race line m → IfSome (racer_in m) (λ r. (racer_race r ≡ race_id race) × (racer_start r ≡ null_of race.shape))
+racer_of race line (Racing r s) of = (of.0, of.2)
+racer_of race line (Sweeping w t) of = tt
 
-pub takers_of : (race : Race) (line : Line) (ms : List Member) → All (IsMemberOf race line) ms → All (IsTakerOf line) (filter_map taker_in ms)
-takers_of race line [] all = All-nil (IsTakerOf line)
-takers_of race line (Racing r s ∷ ms) all = takers_of race line ms (All-tail (IsMemberOf race line) (Racing r s) ms all)
-takers_of race line (Sweeping w t ∷ ms) all = All-cons (IsTakerOf line) t (filter_map taker_in ms) (All-head (IsMemberOf race line) (Sweeping w t) ms all).1 (takers_of race line ms (All-tail (IsMemberOf race line) (Sweeping w t) ms all))
+pub sweeper_of : (race : Race) (line : Line) (m : Member) → IsMemberOf race line m → IfSome (sweeper_in m) (λ w. (sweeper_race w ≡ race_id race) × (sweeper_start w ≡ null_of race.shape))
+sweeper_of race line (Racing r s) of = tt
+sweeper_of race line (Sweeping w t) of = (of.0, of.2)
+
+pub sender_of : (race : Race) (line : Line) (m : Member) → IsMemberOf race line m → IfSome (sender_in m) (IsSenderOf line)
+sender_of race line (Racing r s) of = of.1
+sender_of race line (Sweeping w t) of = tt
+
+pub taker_of : (race : Race) (line : Line) (m : Member) → IsMemberOf race line m → IfSome (taker_in m) (IsTakerOf line)
+taker_of race line (Racing r s) of = tt
+taker_of race line (Sweeping w t) of = of.1
 
 pub sorted_length : (ms : List Member) → length (filter_map racer_in ms) + length (filter_map sweeper_in ms) ≡ length ms
 sorted_length [] = refl

@@ -1,16 +1,6 @@
 -- Lines that were played: one, and one after another.
-use Rattle.std.proofs.Common.{◌≡◌, ℕ, ◌+◌, List, [], ◌∷◌, ◌++◌, refl, sym, ap, subst, ◌∙◌, append_assoc, append-nil, take, drop, length, ◌<◌, ◌≤◌, ◌⊎◌, Option, Some, None, true, arith}
-use Rattle.std.specs.Prelude.{Bool, Result, Ok, Err, IfErr, OnOk}
-use Rattle.std.specs.Io.KnownBytes.{Consumes}
-use Rattle.std.proofs.lemmas.List.{take-take, drop-take, take-append-drop}
-use Rattle.g1_layout.specs.Shape.{Shape}
-use Rattle.g1_trace.specs.declared.command.Command.{Command}
-use Rattle.g1_trace.specs.declared.dialect.Dialect.{Dialect}
-use Rattle.g1_trace.proofs.PutLemmas.{puts_none, puts_then}
-use Rattle.g1_replay.specs.declared.stop.Stop.{Stop}
-use Rattle.g1_replay.specs.declared.stop.Stop.TheVariants.{Fault, NoMemory, BookFull, NoThread, ReadFailed, WriteFailed}
-use Rattle.g1_replay.specs.Playing.{IsUndone, Does, MayStop, Follows, FollowsFront, PlaysFirst, written_by}
-use Rattle.g1_replay.specs.Reading.{IsReadStop, Reads, more_may_come}
+use Rattle.std.specs.Prelude.{◌≡◌, ◌+◌, ◌∷◌, ◌++◌, ◌<◌, ◌≤◌, ◌⊎◌}
+use Rattle.g1_replay.specs.{ℕ, List, [], refl, sym, ap, subst, ◌∙◌, append_assoc, append-nil, take, drop, length, Option, Some, None, true, arith, Bool, Result, Ok, Err, IfErr, OnOk, Consumes, take-take, drop-take, take-append-drop, Shape, Command, Dialect, puts_none, puts_then, Stop, Fault, NoMemory, BookFull, NoThread, ReadFailed, WriteFailed, IsUndone, Does, MayStop, Follows, FollowsFront, PlaysFirst, Writes, written_by, IsReadStop, Reads, more_may_come}
 use Rattle.g1_replay.proofs.ReadingLemmas.{reads_none, reads_then}
 
 -- nothing to be done
@@ -34,6 +24,15 @@ does_none did full s out r none no_book = record {
   filled = λ e. absurd (no_book e);
   written = puts_none out (written_by r);
 }
+
+-- one command that was done, and one that was not
+pub one_done : {S : Type 0} (did : S → List Command → List ℕ → S → Type 0) (full : S → Type 0) (old new : S) (c : Command) (text : List ℕ) (out out' : Option (List ℕ)) (r : Result Bool Stop)
+    → did old (c ∷ []) text new → IsUndone r [] → (r ≡ Err BookFull → ⊥) → Writes out out' r text → Does did full (c ∷ []) old new out out' r
+one_done did full old new c text out out' r made none no_book w = record { done = c ∷ []; undone = []; all = refl; stopped = none; text = text; made = made; filled = λ e. absurd (no_book e); written = w }
+
+pub one_undone : {S : Type 0} (did : S → List Command → List ℕ → S → Type 0) (full : S → Type 0) (old new : S) (c : Command) (out : Option (List ℕ)) (r : Result Bool Stop)
+    → did old [] [] new → IsUndone r (c ∷ []) → (r ≡ Err BookFull → full new) → Does did full (c ∷ []) old new out out r
+one_undone did full old new c out r made undone filled = record { done = []; undone = c ∷ []; all = refl; stopped = undone; text = []; made = made; filled = filled; written = puts_none out (written_by r) }
 
 -- commands, and then more
 does_then : {S : Type 0} (did : S → List Command → List ℕ → S → Type 0) (full : S → Type 0)

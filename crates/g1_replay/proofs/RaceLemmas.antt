@@ -1,26 +1,6 @@
 -- What a race writes, and the whole output where its end says what it is.
-use Rattle.std.proofs.Common.{◌≡◌, ℕ, List, [], ◌++◌, refl, subst, ap, Option, Some, inl, inr}
-use Rattle.std.specs.Prelude.{Result, Ok, Err, IfErr, count_by}
-use Rattle.std.specs.Io.KnownBytes.{Appends}
-use Rattle.g1_layout.specs.Shape.{Shape}
-use Rattle.g1_core.specs.declared.reply.Drained.{Drained}
-use Rattle.g1_core.specs.Machine.{Machine}
-use Rattle.g1_core.specs.Table.{Table}
-use Rattle.g1_race.specs.Over.{Ended, refs_of, table_of}
-use Rattle.g1_trace.specs.declared.command.Command.{Command}
-use Rattle.g1_trace.specs.declared.dialect.Dialect.{Dialect}
-use Rattle.g1_trace.specs.Bytes.{AppendsFront}
-use Rattle.g1_trace.specs.Text.{stores_text}
-use Rattle.g1_trace.proofs.PutLemmas.{front_more, puts_none, puts_then}
-use Rattle.g1_replay.specs.declared.end.End.TheVariants.{Whole}
-use Rattle.g1_replay.specs.declared.stop.Stop.{Stop}
-use Rattle.g1_replay.specs.declared.stop.Stop.TheVariants.{Fault, NoMemory, BookFull, NoThread, WriteFailed}
-use Rattle.g1_replay.specs.CoreDrains.{AreDrains, CoreDrained}
-use Rattle.g1_replay.specs.Drains.{drains, HasDrained}
-use Rattle.g1_replay.specs.Playing.{MayStop, Writes, written_by}
-use Rattle.g1_replay.specs.Race.{HasRaced, IsRaceEnd, IsRaceText, IsWholeRace, RacedTrace, RaceRan, drained_text, is_store_command}
-use Rattle.g1_replay.specs.RaceJobs.{IsTableLeftBy}
-use Rattle.g1_replay.specs.Scripted.{IsRunEnd, IsUnstarted}
+use Rattle.std.specs.Prelude.{◌≡◌, ◌++◌}
+use Rattle.g1_replay.specs.{ℕ, List, [], refl, subst, ap, Option, Some, inl, inr, Result, Ok, Err, IfErr, count_by, Appends, Shape, Drained, Machine, Table, Ended, refs_of, table_of, Command, Dialect, AppendsFront, stores_text, front_more, puts_none, puts_then, Whole, Stop, NoMemory, BookFull, NoThread, WriteFailed, AreDrains, CoreDrained, drains, HasDrained, MayStop, Writes, written_by, HasRaced, IsRaceEnd, IsRaceText, IsWholeRace, RacedTrace, RaceRan, drained_text, is_store_command, IsTableLeftBy, IsRunEnd, IsUnstarted}
 use Rattle.g1_replay.proofs.CoreDrainLemmas.{are_exact, from_itself}
 use Rattle.g1_replay.proofs.EndLemmas.{Says, says_whole, whole_trace}
 use Rattle.g1_replay.proofs.RanLemmas.{drains_alone}
@@ -69,13 +49,9 @@ module _ (e : Ended) (mutators : ℕ) (commands : List Command) (old : Machine) 
   )
 
 pub race_ends : (mutators : ℕ) (l : Shape) (commands : List Command) (r : Result (Unit {0}) Stop) (text : List ℕ) → RaceRan mutators l commands r text → IsRunEnd r
-race_ends mutators l commands r text ran = run_end r ran.0
-  where
-    run_end : (r : Result (Unit {0}) Stop) → IsRaceEnd r → IsRunEnd r
-    run_end (Ok done) h = tt
-    run_end (Err BookFull) h = absurd h
-    run_end (Err (Fault f)) h = h
-    run_end (Err stop) h = h
+race_ends mutators l commands (Ok done) text ran = tt
+race_ends mutators l commands (Err BookFull) text ran = absurd ran.0
+race_ends mutators l commands (Err stop) text ran = ran.0
 
 -- the text of a whole end
 whole_text : (l : Shape) (mutators : ℕ) (commands : List Command) (text : List ℕ) → IsRaceText l mutators commands (Ok tt) text

@@ -1,25 +1,6 @@
 -- What the jobs of a crew come to, by its book.
-use Rattle.std.proofs.Common.{◌≡◌, ◌≤◌, ℕ, List, [], ◌++◌, length, refl, sym, subst, ap, ◌∙◌, append-nil, Option, inl, inr, arith}
-use Rattle.std.specs.Prelude.{Result, Ok, Err, IfErr, count_by}
-use Rattle.g1_layout.specs.Shape.{Shape}
-use Rattle.g1_core.specs.Table.{opening}
-use Rattle.g1_core.specs.declared.entry.Entry.{Entry}
-use Rattle.g1_core.specs.Run.{IsPermitted}
-use Rattle.g1_shared.specs.Counts.{is_store}
-use Rattle.g1_history.specs.History.{History, IsHistory, Terms, layout_in}
-use Rattle.g1_trace.specs.Bytes.{AppendsFront}
-use Rattle.g1_trace.specs.Text.{stores_text}
-use Rattle.g1_trace.proofs.PutLemmas.{front_more, puts_none, puts_then}
-use Rattle.g1_replay.specs.declared.stop.Stop.{Stop}
-use Rattle.g1_replay.specs.declared.stop.Stop.TheVariants.{Fault, NoMemory, BookFull, NoThread, WriteFailed}
-use Rattle.g1_replay.specs.Crew.{CrewRan}
-use Rattle.g1_replay.specs.Drains.{drains, HasDrained}
-use Rattle.g1_replay.specs.Laws.{played_none}
-use Rattle.g1_replay.specs.Output.{StartsNoThread}
-use Rattle.g1_replay.specs.Pieces.{entries_of}
-use Rattle.g1_replay.specs.Playing.{HasPlayed, IsBookFull, MayStop, Writes, written_by}
-use Rattle.g1_replay.specs.Scripted.{IsRunEnd, IsUnstarted}
-use Rattle.std.specs.Io.KnownBytes.{Appends}
+use Rattle.std.specs.Prelude.{◌≡◌, ◌≤◌, ◌++◌}
+use Rattle.g1_replay.specs.{ℕ, List, [], length, refl, sym, subst, ap, ◌∙◌, append-nil, Option, inl, inr, arith, Result, Ok, Err, IfErr, count_by, Shape, opening, Entry, IsPermitted, is_store, History, IsHistory, Terms, layout_in, AppendsFront, stores_text, front_more, puts_none, puts_then, Stop, Fault, NoMemory, BookFull, NoThread, WriteFailed, CrewRan, drains, HasDrained, played_none, StartsNoThread, entries_of, HasPlayed, IsBookFull, MayStop, Writes, written_by, IsRunEnd, IsUnstarted, Appends}
 
 -- a book with drains behind it is a run, and its text counts the stores in front of them
 ran_book : (old new : History) (k : ℕ) (r : Result (Unit {0}) Stop) (text : List ℕ) → HasPlayed old (drains k) text new → IsHistory new → IsRunEnd r → StartsNoThread r → (r ≡ Err BookFull → IsBookFull new) → (r ≡ Ok tt → k ≡ (layout_in old).regions)
@@ -41,15 +22,12 @@ ran_book old new k r text p h ends alone full all =
       said = inr (alone, ap (λ t. stores_text (count_by is_store old.entries) ++ t) p.said);
     }
 
-pub may_end : (stop : Stop) → MayStop stop → IsRunEnd (Err stop)
-may_end NoMemory h = tt
-may_end BookFull h = tt
-may_end WriteFailed h = tt
-may_end stop h = absurd h
-
-ends_by : (r : Result (Unit {0}) Stop) → IfErr r MayStop → IsRunEnd r
-ends_by (Ok done) h = tt
-ends_by (Err stop) h = may_end stop h
+may_end : (r : Result (Unit {0}) Stop) → IfErr r MayStop → IsRunEnd r
+may_end (Ok done) h = tt
+may_end (Err NoMemory) h = tt
+may_end (Err BookFull) h = tt
+may_end (Err WriteFailed) h = tt
+may_end (Err stop) h = absurd h
 
 -- drains start no thread
 pub drains_alone : (r : Result (Unit {0}) Stop) → IfErr r MayStop → StartsNoThread r
@@ -68,51 +46,37 @@ stores_failed h out out' history w =
 pub book_written : (old new : History) (out mid_out out' : Option (List ℕ)) (r : Result (Unit {0}) Stop) → IfErr r MayStop → IsHistory new → Appends out mid_out (stores_text (count_by is_store old.entries))
     → HasDrained HasPlayed IsBookFull (layout_in old).regions old new mid_out out' r → (text : List ℕ) × CrewRan (layout_in old) old.limit r text × Writes out out' r text
 book_written old new out mid_out out' r stops history w d =
-    (stores_text (count_by is_store old.entries) ++ d.text, ran_book old new d.drained r d.text d.played history (ends_by r stops) (drains_alone r stops) d.filled d.all, puts_then out mid_out out' (written_by r) (stores_text (count_by is_store old.entries)) d.text w d.written)
+    (stores_text (count_by is_store old.entries) ++ d.text, ran_book old new d.drained r d.text d.played history (may_end r stops) (drains_alone r stops) d.filled d.all, puts_then out mid_out out' (written_by r) (stores_text (count_by is_store old.entries)) d.text w d.written)
 
--- a job was refused, and nothing was written
-pub job_refused : (h : History) (stop : Stop) (out : Option (List ℕ)) → IsHistory h → MayStop stop → (stop ≡ BookFull → IsBookFull h) → (text : List ℕ) × CrewRan (layout_in h) h.limit (Err stop) text × Writes {V = Unit {0}} out out (Err stop) text
-job_refused h stop out history may full = (
+-- nothing was drained or written
+stopped_with : (l : Shape) (history : ℕ) (entries : List Entry) (stop : Stop) (out : Option (List ℕ)) → IsRunEnd (Err stop) → IsPermitted (opening l) entries → length entries ≤ history → (stop ≡ BookFull → length entries ≡ history)
+    → (text : List ℕ) × CrewRan l history (Err stop) text × Writes {V = Unit {0}} out out (Err stop) text
+stopped_with l history entries stop out ends permitted within full = (
   [],
   record {
-    entries = h.entries;
+    entries = entries;
     drained = 0;
     pieces = [];
-    ends = may_end stop may;
+    ends = ends;
     walked = tt;
-    permitted = subst (λ (xs : List Entry). IsPermitted (opening (layout_in h)) xs) (sym (append-nil h.entries)) history.run;
-    within = subst (λ (xs : List Entry). length xs ≤ h.limit) (sym (append-nil h.entries)) history.within;
-    full = λ e. ap (λ (xs : List Entry). length xs) (append-nil h.entries) ∙ full cc;
+    permitted = subst (λ (xs : List Entry). IsPermitted (opening l) xs) (sym (append-nil entries)) permitted;
+    within = subst (λ (xs : List Entry). length xs ≤ history) (sym (append-nil entries)) within;
+    full = λ e. ap (λ (xs : List Entry). length xs) (append-nil entries) ∙ full cc;
     all = λ e. cc;
     said = inl (stop, refl, refl, refl);
   },
   puts_none out (written_by {V = Unit {0}} (Err stop)),
 )
+
+-- a job was refused
+pub job_refused : (h : History) (stop : Stop) (out : Option (List ℕ)) → IsHistory h → MayStop stop → (stop ≡ BookFull → IsBookFull h) → (text : List ℕ) × CrewRan (layout_in h) h.limit (Err stop) text × Writes {V = Unit {0}} out out (Err stop) text
+job_refused h stop out history may full = stopped_with (layout_in h) h.limit h.entries stop out (may_end (Err stop) may) history.run history.within full
 
 unstarted_end : (stop : Stop) → IsUnstarted stop → IsRunEnd (Err stop)
 unstarted_end NoMemory h = tt
 unstarted_end NoThread h = tt
 unstarted_end stop h = absurd h
 
-unstarted_room : (stop : Stop) → IsUnstarted stop → stop ≡ BookFull → ⊥
-unstarted_room BookFull h e = h
-unstarted_room stop h e = cc
-
 -- no job was run
 pub not_started : (l : Shape) (history : ℕ) (stop : Stop) (out : Option (List ℕ)) → IsUnstarted stop → (text : List ℕ) × CrewRan l history (Err stop) text × Writes {V = Unit {0}} out out (Err stop) text
-not_started l history stop out h = (
-  [],
-  record {
-    entries = [];
-    drained = 0;
-    pieces = [];
-    ends = unstarted_end stop h;
-    walked = tt;
-    permitted = tt;
-    within = omega arith;
-    full = λ e. absurd (unstarted_room stop h cc);
-    all = λ e. cc;
-    said = inl (stop, refl, refl, refl);
-  },
-  puts_none out (written_by {V = Unit {0}} (Err stop)),
-)
+not_started l history stop out h = stopped_with l history [] stop out (unstarted_end stop h) tt (omega arith) (λ e. absurd (subst IsUnstarted e h))

@@ -1,35 +1,10 @@
 -- What the members of a race have stored once its jobs were run.
-use Rattle.std.proofs.Common.{◌≡◌, ◌<◌, ◌≤◌, ◌+◌, ℕ, suc, List, [], ◌∷◌, length, map, ap, sym, subst, ◌∙◌, refl, arith, nat_lt, true, false, append-nil, Option, Some, None, inl, inr}
-use Rattle.std.specs.Prelude.{Bool, Result, Ok, Err, All, sum_by}
-use Rattle.std.specs.List.{filter_map, AllZip}
-use Rattle.std.specs.Option.{option_or}
+use Rattle.std.specs.Prelude.{◌≡◌, ◌<◌, ◌≤◌, ◌+◌, ◌∷◌}
+use Rattle.g1_replay.specs.{ℕ, suc, List, [], length, map, ap, sym, subst, ◌∙◌, refl, arith, nat_lt, true, false, append-nil, Option, Some, None, inl, inr, Bool, Result, Ok, Err, All, sum_by, filter_map, AllZip, option_or, true≢false, false≢true, le-ltb, lt-ltb, All-nil, All-cons, All-push, sum_by-cons, Shape, slot_count, Line, View, StoreHistory, In, histories_of, Among, racer_view, Job, Script, Mutate, Refine, Refusal, Step, Ask, ScriptFits, StepFits, asks_in, asks_of, Ran, Command, IsCommandOf, Member, Racing, Sweeping, IsMemberOf, MemberDid, histories_after, is_racer, member_rights, AllFrom, IsRaceJob, IsRaceScript, racer_in, first_refusal, refusal_in}
 use native.Mathlib.Decide.{ℕ_discrete}
-use Rattle.std.proofs.lemmas.Bool.{le-ltb, lt-ltb}
-use Rattle.std.proofs.lemmas.List.Elements.{All-nil, All-cons, All-push}
-use Rattle.std.proofs.lemmas.List.Sums.{sum_by-cons}
-use Rattle.g1_layout.specs.Shape.{Shape, slot_count}
-use Rattle.g1_log.specs.declared.line.Line.{Line}
 use Rattle.g1_race.specs.declared.race.Race.{Race}
-use Rattle.g1_race_words.specs.declared.view.View.{View}
-use Rattle.g1_race_words.specs.Rule.{StoreHistory, In, histories_of}
-use Rattle.g1_race.specs.Race.{Among}
-use Rattle.g1_race.specs.Members.{racer_view}
-use Rattle.g1_steps.specs.declared.crew.job.Job.{Job}
-use Rattle.g1_steps.specs.declared.crew.desk.Script.{Script}
-use Rattle.g1_steps.specs.declared.crew.desk.Script.TheVariants.{Mutate, Refine}
-use Rattle.g1_history.specs.declared.refusal.Refusal.{Refusal}
-use Rattle.g1_steps.specs.declared.crew.desk.Step.{Step}
 use Rattle.g1_steps.specs.declared.crew.desk.Step.TheVariants as step
-use Rattle.g1_steps.specs.Ask.{Ask, ScriptFits, StepFits, asks_in, asks_of}
-use Rattle.g1_steps.specs.Ran.{Ran}
-use Rattle.g1_trace.specs.declared.command.Command.{Command}
-use Rattle.g1_trace.specs.Grammar.{IsCommandOf}
-use Rattle.g1_replay.specs.declared.races.desk.Member.{Member}
-use Rattle.g1_replay.specs.declared.races.desk.Member.TheVariants.{Racing, Sweeping}
-use Rattle.g1_replay.specs.Members.{IsMemberOf, MemberDid, histories_after, is_racer, member_rights}
-use Rattle.g1_replay.specs.RaceJobs.{AllFrom, IsRaceJob, IsRaceScript, racer_in}
-use Rattle.g1_replay.specs.Scripts.{first_refusal, refusal_in}
-use Rattle.g1_replay.proofs.ScriptLemmas.{steps_fit}
+use Rattle.g1_replay.proofs.CrewScriptLemmas.{steps_fit}
 use Rattle.g1_replay.proofs.StoreLemmas.{asks_own, one_history, own, script_asks, stored_by}
 
 -- what member k has stored once its script was run
@@ -47,12 +22,6 @@ race_script_fits l mutators rounds k commands m (Mutate steps) all kind h =
     subst P (sym (kind ∙ yes)) fits
 race_script_fits l mutators rounds k commands m (Refine made) all kind h = tt
 
-no_mutator : (k mutators : ℕ) → mutators ≤ k → true ≡ nat_lt k mutators → ⊥
-no_mutator k mutators le e = let f : nat_lt k mutators ≡ false = le-ltb k mutators le in let g : true ≡ false = e ∙ f in cc
-
-a_mutator : (k mutators : ℕ) → k < mutators → false ≡ nat_lt k mutators → ⊥
-a_mutator k mutators lt e = let f : nat_lt k mutators ≡ true = lt-ltb k mutators lt in let g : false ≡ true = e ∙ f in cc
-
 run_of : (race : Race) (line : Line) (mutators rounds : ℕ) (commands : List Command) (k : ℕ) (m n : Member) (script : Script) → IsRaceJob race line mutators rounds commands k m script → MemberDid m (asks_in script) n → HasRun mutators commands k n
 run_of race line mutators rounds commands k (Racing r s) (Racing r' s') (Mutate steps) j d =
     let number = j.new.fresh.0 in
@@ -65,17 +34,14 @@ run_of race line mutators rounds commands k (Racing r s) (Racing r' s') (Mutate 
       ),
     )
 run_of race line mutators rounds commands k (Sweeping w t) (Sweeping w' t') (Refine made) j d = j.script.0
-run_of race line mutators rounds commands k (Racing r s) (Racing r' s') (Refine made) j d = absurd (no_mutator k mutators j.script.0 j.new.kind)
-run_of race line mutators rounds commands k (Sweeping w t) (Sweeping w' t') (Mutate steps) j d = absurd (a_mutator k mutators j.script.0 j.new.kind)
+run_of race line mutators rounds commands k (Racing r s) (Racing r' s') (Refine made) j d = absurd (true≢false (j.new.kind ∙ le-ltb k mutators j.script.0))
+run_of race line mutators rounds commands k (Sweeping w t) (Sweeping w' t') (Mutate steps) j d = absurd (false≢true (j.new.kind ∙ lt-ltb k mutators j.script.0))
 run_of race line mutators rounds commands k (Racing r s) (Sweeping w' t') script j d = let bad : false ≡ true = d.kind in cc
 run_of race line mutators rounds commands k (Sweeping w t) (Racing r' s') script j d = let bad : true ≡ false = d.kind in cc
 
-none_first : (o : Option (Result ℕ (ℕ × Refusal))) (os : List (Option (Result ℕ (ℕ × Refusal)))) → first_refusal (o ∷ os) ≡ None → (refusal_in o ≡ None) × (first_refusal os ≡ None)
-none_first o os e = split (refusal_in o) (first_refusal os) e
-  where
-    split : (a b : Option Refusal) → option_or a b ≡ None → (a ≡ None) × (b ≡ None)
-    split None b f = (refl, f)
-    split (Some x) b f = cc
+none_first : (a b : Option Refusal) → option_or a b ≡ None → (a ≡ None) × (b ≡ None)
+none_first None b e = (refl, e)
+none_first (Some x) b e = cc
 
 -- a job that was not refused, and those behind it
 pub first_left : {D : Type 0} (outcome : D → Option (Result ℕ (ℕ × Refusal))) (ds rest : List D) (d : D) (total : Option Refusal) → ds ≡ d ∷ rest → None ≡ refusal_in (outcome d) → first_refusal (map outcome ds) ≡ total → first_refusal (map outcome rest) ≡ total
@@ -109,10 +75,8 @@ module _ {D : Type 0} (member : D → Member) where
   module _ (race : Race) (line : Line) (mutators rounds : ℕ) (commands : List Command) where
     pub are_run : (k : ℕ) (js ds : List (Job D)) → AllFrom (λ i job. IsRaceJob race line mutators rounds commands i (member job.desk) job.script) k js → AllZip RanJob js ds → first_refusal (map (λ job. job.outcome) ds) ≡ None → AreRun race line mutators commands k js ds
     are_run k [] [] all r none = record { run = tt; of = All-nil (IsMemberOf race line); rights = refl; len = refl }
-    are_run k [] (y ∷ ys) all r none = absurd r
-    are_run k (x ∷ xs) [] all r none = absurd r
     are_run k (x ∷ xs) (y ∷ ys) all r none =
-        let first = none_first y.outcome (map (λ job. job.outcome) ys) none in
+        let first = none_first (refusal_in y.outcome) (first_refusal (map (λ job. job.outcome) ys)) none in
         let did = did_all (asks_in x.script) x.desk y.desk y.outcome first.0 r.0.1 in
         let rest = are_run (suc k) xs ys all.1 r.1 first.1 in
         let ms = map (λ (job : Job D). member job.desk) xs in
@@ -123,6 +87,7 @@ module _ {D : Type 0} (member : D → Member) where
           rights = omega (arith, did.rights, rest.rights, sum_by-cons member_rights (member x.desk) ms, sum_by-cons member_rights (member y.desk) ns);
           len = ap suc rest.len;
         }
+    are_run k js ds all r none = absurd r
 
 -- what the racers know
 abbrev pub views_of : List Member → List View

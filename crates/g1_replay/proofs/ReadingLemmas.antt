@@ -1,23 +1,7 @@
 -- Lines that were read: one, and one after another.
-use Rattle.std.proofs.Common.{◌≡◌, ◌≢◌, ℕ, ◌+◌, ◌<◌, ◌≤◌, List, [], ◌∷◌, ◌++◌, refl, length, take, sym, ap, ◌∙◌, subst, arith, append_assoc, append-nil, Option, Some, None, true, false, rules}
-use Rattle.std.specs.Prelude.{Bool, Result, Ok, Err, nat_lt, option_to_list, zero, suc}
-use Rattle.std.proofs.KnownBytes.{Consumes-nil, Consumes-trans}
-use Rattle.std.proofs.lemmas.Bool.{ne_eqb}
-use Rattle.std.proofs.lemmas.List.{length-append}
-use Rattle.std.specs.Io.KnownBytes.{Consumes, IsAtEnd}
-use Rattle.g1_layout.specs.Shape.{Shape}
-use Rattle.g1_trace.specs.declared.command.Command.{Command}
-use Rattle.g1_trace.specs.declared.dialect.Dialect.{Dialect}
-use Rattle.g1_trace.specs.declared.fault.TraceFault.{TraceFault}
-use Rattle.g1_trace.specs.declared.fault.TraceFault.TheVariants.{TooLong, Cut, NoHeader}
-use Rattle.g1_trace.specs.Grammar.{read_command, read_header}
-use Rattle.g1_trace.specs.Trace.{read_on, read_line, after_line, at_end, before, faulty}
-use Rattle.g1_trace.specs.Words.{IsPart}
+use Rattle.std.specs.Prelude.{◌≡◌, ◌≢◌, ◌+◌, ◌<◌, ◌≤◌, ◌∷◌, ◌++◌}
+use Rattle.g1_replay.specs.{ℕ, List, [], refl, length, take, sym, ap, ◌∙◌, subst, arith, append_assoc, append-nil, Option, Some, None, true, false, rules, Bool, Result, Ok, Err, nat_lt, option_to_list, zero, suc, Consumes-nil, Consumes-trans, ne_eqb, length-append, Consumes, IsAtEnd, Shape, Command, Dialect, TraceFault, TooLong, Cut, NoHeader, read_command, read_header, read_on, read_line, after_line, at_end, before, faulty, IsPart, Stop, Fault, ReadFailed, ReadsLine, IsLeftToRead, Reads}
 use Rattle.g1_trace.specs.Plain.{IsLineBefore}
-use Rattle.g1_replay.specs.declared.stop.Stop.{Stop}
-use Rattle.g1_replay.specs.declared.stop.Stop.TheVariants.{Fault, ReadFailed}
-use Rattle.g1_replay.specs.Lines.{ReadsLine}
-use Rattle.g1_replay.specs.Reading.{IsLeftToRead, Reads}
 
 -- bytes of one line
 scan : (line : List ℕ) (d : Dialect) (heap : Option Shape) (n : ℕ) (begun x : List ℕ) → IsPart line → length begun + length line ≤ 64

@@ -1,22 +1,7 @@
 -- A trace that is read to its end before its scripts are run: how it is read, what that comes to, and the whole output where it has a fault.
-use Rattle.std.proofs.Common.{◌≡◌, ℕ, List, [], ◌∷◌, ◌++◌, refl, sym, subst, ap, ◌∙◌, Option, Some, None, inl, inr, ⊎_elim, ◌⊎◌, true, false, arith}
-use Rattle.std.specs.Prelude.{Bool, Result, Ok, Err}
-use Rattle.std.specs.Io.KnownBytes.{Appends}
-use Rattle.std.proofs.KnownBytes.{Appends-nil, Consumes-nil}
-use Rattle.g1_layout.specs.Shape.{Shape}
-use Rattle.g1_trace.specs.declared.command.Command.{Command}
-use Rattle.g1_trace.specs.declared.dialect.Dialect.{Dialect}
-use Rattle.g1_trace.specs.declared.fault.TraceFault.{TraceFault}
-use Rattle.g1_trace.specs.Bytes.{Puts}
-use Rattle.g1_trace.specs.Text.{fault_line}
-use Rattle.g1_trace.proofs.PutLemmas.{puts_then}
-use Rattle.g1_replay.specs.declared.end.End.TheVariants.{Refused}
-use Rattle.g1_replay.specs.declared.races.listing.Listing.{Listing}
-use Rattle.g1_replay.specs.declared.stop.Stop.{Stop}
-use Rattle.g1_replay.specs.declared.stop.Stop.TheVariants.{Fault, NoMemory, ReadFailed}
-use Rattle.g1_replay.specs.Playing.{Does, Follows, Writes, written_by}
-use Rattle.g1_replay.specs.Reading.{IsReadStop, Reads}
-use Rattle.g1_replay.specs.Scripted.{IsUnread, IsRunEnd, IsRefusedTrace, Outcome, Scripted, WasUnread}
+use Rattle.std.specs.Prelude.{◌≡◌, ◌++◌, ◌⊎◌}
+use Rattle.g1_replay.specs.{ℕ, List, [], refl, sym, subst, ap, ◌∙◌, Option, Some, None, inl, inr, ⊎_elim, true, false, Bool, Result, Ok, Err, Appends, Consumes-nil, Shape, Command, Dialect, TraceFault, Puts, fault_line, puts_then, Refused, Listing, Stop, Fault, NoMemory, ReadFailed, Follows, Writes, written_by, IsReadStop, Reads, IsUnread, IsRunEnd, IsRefusedTrace, Outcome, WasUnread}
+use Rattle.g1_replay.specs.Scripted.{Scripted}
 use Rattle.g1_replay.proofs.EndLemmas.{Says, all_done, faulty_trace, says_refused}
 use Rattle.g1_replay.proofs.ReadingLemmas.{reads_then}
 
@@ -41,14 +26,11 @@ list_end stop (inr e) = subst (λ s. IsUnread (Err s)) (sym e) tt
 abbrev WrittenAt : Option (List ℕ) → Option (List ℕ) → Stop → Type 0
 WrittenAt out out' stop = Puts out out' (written_by {V = Bool} (Err stop)) []
 
-read_silent : (stop : Stop) (out out' : Option (List ℕ)) → IsReadStop stop → WrittenAt out out' stop → Appends out out' []
-read_silent (Fault f) out out' h w = w
-read_silent ReadFailed out out' h w = w
-read_silent stop out out' h w = absurd h
-
-list_silent : (stop : Stop) (out out' : Option (List ℕ)) → IsReadStop stop ⊎ (stop ≡ NoMemory) → WrittenAt out out' stop → Appends out out' []
-list_silent stop out out' (inl h) w = read_silent stop out out' h w
-list_silent stop out out' (inr e) w = let at : WrittenAt out out' NoMemory = subst (λ s. WrittenAt out out' s) e w in at
+stop_silent : (stop : Stop) (out out' : Option (List ℕ)) → IsUnread (Err stop) → WrittenAt out out' stop → Appends out out' []
+stop_silent (Fault f) out out' h w = w
+stop_silent NoMemory out out' h w = w
+stop_silent ReadFailed out out' h w = w
+stop_silent stop out out' h w = absurd h
 
 -- memory was refused before anything was read
 pub stops_unread : (d : Dialect) (n : ℕ) (rd : Option (List ℕ)) → WasUnread d n n rd rd (Err NoMemory) []
@@ -72,7 +54,7 @@ module _ {S : Type 0} (Did : S → List Command → List ℕ → S → Type 0) (
           read = reads_then d None (Some l) (Some l) n n1 n' rd rd1 rd' [] f.commands (Err stop) head f.read;
           silent = refl;
         },
-        list_silent stop out out' h (subst (λ (x : List ℕ). Puts out out' (written_by {V = Bool} (Err stop)) x) (silent old new f.done.done f.done.text f.done.made) f.done.written),
+        stop_silent stop out out' (list_end stop h) (subst (λ (x : List ℕ). Puts out out' (written_by {V = Bool} (Err stop)) x) (silent old new f.done.done f.done.text f.done.made) f.done.written),
       )
 
   -- a header, and then lines that were
@@ -88,32 +70,6 @@ module _ {S : Type 0} (Did : S → List Command → List ℕ → S → Type 0) (
         ),
         subst (λ (x : List ℕ). Appends out out' x) none f.done.written,
       )
-
-  -- a command that was not kept
-  pub not_kept : (s t : S) (c : Command) (out : Option (List ℕ)) → Did s [] [] t → Does Did Full (c ∷ []) s t out out (Err NoMemory)
-  not_kept s t c out made = record {
-    done = [];
-    undone = c ∷ [];
-    all = refl;
-    stopped = omega arith;
-    text = [];
-    made = made;
-    filled = λ e. cc;
-    written = Appends-nil out;
-  }
-
-  -- a command that was
-  pub is_kept : (s t : S) (c : Command) (out : Option (List ℕ)) → Did s (c ∷ []) [] t → Does Did Full (c ∷ []) s t out out (Ok true)
-  is_kept s t c out made = record {
-    done = c ∷ [];
-    undone = [];
-    all = refl;
-    stopped = refl;
-    text = [];
-    made = made;
-    filled = λ e. cc;
-    written = Appends-nil out;
-  }
 
 -- a listing of nothing has what was read
 pub listed : (d : Dialect) (n n' : ℕ) (l : Shape) (old new : Listing) (rd rd' : Option (List ℕ)) → old.commands.items ≡ []

@@ -1,18 +1,8 @@
 -- What a script's stores come to: a racer's history, and its stores as the commands of the trace.
-use Rattle.std.proofs.Common.{◌≡◌, ℕ, List, [], ◌∷◌, ◌++◌, Bool, true, false, cond, eqb, ap, sym, ◌∙◌, refl, inl, inr, append_assoc, append-nil, Option, Some, None, ⊎_elim}
-use Rattle.std.specs.Prelude.{◌==◌, ◌&&◌, if◌then◌else◌}
-use Rattle.std.specs.Option.{option_or}
-use Rattle.std.specs.List.{cons_option, filter_map}
-use Rattle.g1_race_words.specs.Rule.{In, last_to}
-use Rattle.g1_race.specs.Race.{word_of}
-use Rattle.g1_race_words.proofs.Plain.{in_either}
-use Rattle.g1_steps.specs.Ask.{Ask, AskStore, AskFlush, AskWork, asks_of}
+use Rattle.std.specs.Prelude.{◌≡◌, ◌∷◌, ◌++◌, ◌==◌, ◌&&◌, if◌then◌else◌}
+use Rattle.g1_replay.specs.{ℕ, List, [], Bool, true, false, cond, eqb, ap, sym, ◌∙◌, refl, inl, inr, append_assoc, append-nil, Option, Some, None, ⊎_elim, option_or, cons_option, filter_map, In, last_to, word_of, in_either, Ask, AskStore, AskFlush, AskWork, asks_of, Command, Store, histories_after, last_by, step_for}
 use Rattle.g1_steps.specs.declared.crew.desk.Step.TheVariants as step
-use Rattle.g1_trace.specs.declared.command.Command.{Command}
-use Rattle.g1_trace.specs.declared.command.Command.TheVariants.{Store, Flush}
-use Rattle.g1_replay.specs.Members.{histories_after}
-use Rattle.g1_replay.specs.Race.{last_by}
-use Rattle.g1_replay.specs.Scripts.{step_for}
+use Rattle.g1_trace.specs.declared.command.Command.TheVariants.{Flush}
 
 -- the stores among the calls, as slots and words, the newest first
 abbrev pub stored_by : List Ask → List (ℕ × ℕ)

@@ -1,25 +1,15 @@
 -- Cards that were swept, one after another.
-use Rattle.std.proofs.Common.{◌≡◌, ◌<◌, ◌+◌, ℕ, List, ◌∷◌, length, take, get_or, sym, subst, refl, All, Contains, inl, inr}
-use Rattle.std.specs.Prelude.{Result, Ok, Err, OnOk}
-use Rattle.std.proofs.lemmas.List.{take_more}
-use Rattle.std.proofs.lemmas.List.Elements.{All-push}
-use Rattle.g1_race_words.proofs.Places.{contains_in, in_contains}
-
--- a card that was swept stands among the cards that were, and the others still do
-pub swept_here : (old new : List ℕ) (card : ℕ) → new ≡ card ∷ old → Contains new card
-swept_here old new card e = subst (λ (l : List ℕ). Contains l card) (sym e) (in_contains (card ∷ old) card (inl refl))
-
-swept_before : (old new : List ℕ) (card other : ℕ) → new ≡ card ∷ old → Contains old other → Contains new other
-swept_before old new card other e h = subst (λ (l : List ℕ). Contains l other) (sym e) (in_contains (card ∷ old) other (inr (contains_in old other h)))
+use Rattle.std.specs.Prelude.{◌≡◌, ◌<◌, ◌+◌, ◌∷◌}
+use Rattle.g1_replay.specs.{ℕ, List, length, take, get_or, sym, subst, refl, All, Contains, inl, inr, Result, Ok, Err, OnOk, take_more, All-push, contains_in, in_contains}
 
 -- where a card was refined, the others still do
 pub kept_ok : {V E : Type 0} (r : Result V E) (old new : List ℕ) (card : ℕ) → OnOk r (new ≡ card ∷ old) → OnOk r ((other : ℕ) → Contains old other → Contains new other)
-kept_ok (Ok v) old new card h = λ other c. swept_before old new card other h c
+kept_ok (Ok v) old new card h = λ other c. subst (λ (l : List ℕ). Contains l other) (sym h) (in_contains (card ∷ old) other (inr (contains_in old other c)))
 kept_ok (Err e) old new card h = tt
 
 -- and the card itself does, by each of its names
 pub swept_ok : {V E : Type 0} (r : Result V E) (old new : List ℕ) (card asked count : ℕ) → card ≡ asked → OnOk r (new ≡ card ∷ old) → OnOk r (asked < count → Contains new asked)
-swept_ok (Ok v) old new card asked count e h = λ lt. subst (λ (k : ℕ). Contains new k) e (swept_here old new card h)
+swept_ok (Ok v) old new card asked count e h = λ lt. subst (λ (k : ℕ). Contains new k) e (subst (λ (l : List ℕ). Contains l card) (sym h) (in_contains (card ∷ old) card (inl refl)))
 swept_ok (Err x) old new card asked count e h = tt
 
 -- one card more

@@ -1,12 +1,7 @@
 -- What a machinery takes after a command.
-use Rattle.std.proofs.Common.{ℕ, List}
-use Rattle.std.specs.List.{All}
-use Rattle.g1_log.specs.declared.line.Line.{Line}
-use Rattle.g1_log.specs.Ends.{IsSenderOf}
+use Rattle.g1_replay.specs.{ℕ, List, All, Line, IsSenderOf, Mutator, IsNewLog}
 use Rattle.g1_steps.specs.Opening.{AreNewMutators}
-use Rattle.g1_steps.specs.declared.steps.mutator.Mutator.{Mutator}
 use Rattle.g1_steps.proofs.OpeningLemmas.{mutators_each}
-use Rattle.g1_replay.specs.Still.{IsNewLog}
 
 -- new mutators have senders of their line, and new logs
 pub are_senders : (line : Line) (size k : ℕ) (ms : List Mutator) → AreNewMutators line size k ms → All (λ m. IsSenderOf line m.sender) ms

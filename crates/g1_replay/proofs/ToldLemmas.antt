@@ -1,23 +1,6 @@
 -- From what was read and played to the text of a permitted run.
-use Rattle.std.proofs.Common.{◌≡◌, ◌≤◌, ℕ, List, [], ◌++◌, refl, length, sym, ap, ◌∙◌, subst, arith, Option, Some, None, true, inl, inr, ◌⊎◌}
-use Rattle.std.specs.Prelude.{Result, Ok, Err, IfErr, IfSome, IfNone}
-use Rattle.std.proofs.KnownBytes.{Appends-nil}
-use Rattle.g1_layout.specs.Shape.{Shape}
-use Rattle.g1_core.specs.declared.config.Settings.{Settings}
-use Rattle.g1_core.specs.Table.{opening}
-use Rattle.g1_core.specs.declared.entry.Entry.{Entry}
-use Rattle.g1_core.specs.Run.{IsPermitted}
-use Rattle.g1_history.specs.History.{History, IsHistory, Terms, layout_in}
-use Rattle.g1_steps.specs.Lent.{Grows}
-use Rattle.g1_trace.specs.declared.command.Command.{Command}
-use Rattle.g1_trace.specs.declared.dialect.Dialect.{Dialect}
-use Rattle.g1_options.specs.declared.options.Options.{Options}
-use Rattle.g1_replay.specs.declared.stop.Stop.{Stop}
-use Rattle.g1_replay.specs.declared.stop.Stop.TheVariants.{Fault, NoMemory, BookFull, NoThread, ReadFailed}
-use Rattle.g1_replay.specs.Output.{StartsNoThread, Told, end_met}
-use Rattle.g1_replay.specs.Pieces.{AreSetBy, entries_of}
-use Rattle.g1_replay.specs.Playing.{IsOpened, IsBookFull, IsUndone, HasPlayed, Follows, MayStop, Writes}
-use Rattle.g1_replay.specs.Reading.{IsReadStop, Reads}
+use Rattle.std.specs.Prelude.{◌≡◌, ◌≤◌, ◌++◌, ◌⊎◌}
+use Rattle.g1_replay.specs.{ℕ, List, [], refl, length, sym, ap, ◌∙◌, subst, arith, Option, Some, None, true, inl, inr, Result, Ok, Err, IfErr, IfSome, IfNone, Appends-nil, Shape, Settings, opening, Entry, IsPermitted, History, IsHistory, Terms, layout_in, Command, Dialect, Options, Stop, Fault, NoMemory, BookFull, NoThread, ReadFailed, StartsNoThread, Told, end_met, AreSetBy, entries_of, IsOpened, IsBookFull, IsUndone, HasPlayed, Follows, MayStop, Writes, IsReadStop, Reads}
 use Rattle.g1_replay.proofs.ReadingLemmas.{reads_then}
 
 abbrev no_command : List Command
@@ -71,22 +54,10 @@ unopened_told d s history n n' l rd rd' out read =
     let table_at : Reads d None n n' rd rd' (Some l) [] (Err NoMemory) = record { lines = read.lines; rest = read.rest; consumed = read.consumed; passed = read.passed; met = read.met } in
     ([], told_nothing d s history n n' rd rd' (Some l) NoMemory tt (omega arith) table_at, Appends-nil out)
 
-entries_grown : (l : Shape) (o : Options) (book new : History) (es : List Entry) → IsOpened l o book → Grows book es new → new.entries ≡ es
-entries_grown l o book new es is g = g.entries ∙ ap (λ (h : History). h.entries ++ es) is
-
-limit_kept : (l : Shape) (o : Options) (book new : History) (es : List Entry) → IsOpened l o book → Grows book es new → new.limit ≡ o.history
-limit_kept l o book new es is g = ap (λ (t : Terms). t.limit) g.terms ∙ ap (λ (h : History). h.limit) is
-
-shape_kept : (l : Shape) (o : Options) (book new : History) (es : List Entry) → IsOpened l o book → Grows book es new → layout_in new ≡ l
-shape_kept l o book new es is g = ap (λ (t : Terms). t.layout) g.terms ∙ ap layout_in is
-
 undone_as : (r : Result (Unit {0}) Stop) (undone : List Command) → IsUndone (end_met r) undone → IsUndone r undone
 undone_as (Ok done) undone h = h
 undone_as (Err (Fault f)) undone h = h
 undone_as (Err stop) undone h = h
-
-pub full_as : (r : Result (Unit {0}) Stop) → r ≡ Err BookFull → end_met r ≡ Err BookFull
-full_as r e = ap end_met e
 
 pub written_as : (out out' : Option (List ℕ)) (r : Result (Unit {0}) Stop) (text : List ℕ) → Writes out out' (end_met r) text → Writes out out' r text
 written_as out out' (Ok done) text w = w
@@ -108,9 +79,9 @@ pub played_told : {S : Type 0} (book_of : S → History) (d : Dialect) (o : Opti
     → (text : List ℕ) × Told d o.config o.history n n' rd rd' r text × Writes out out' r text
 played_told book_of d o n n1 n' l old new rd rd1 rd' out out' r is head f stops h =
     let p = f.done.made in
-    let es : (book_of new).entries ≡ entries_of p.pieces = entries_grown l o (book_of old) (book_of new) (entries_of p.pieces) is p.grows in
-    let most : (book_of new).limit ≡ o.history = limit_kept l o (book_of old) (book_of new) (entries_of p.pieces) is p.grows in
-    let shape : layout_in (book_of new) ≡ l = shape_kept l o (book_of old) (book_of new) (entries_of p.pieces) is p.grows in (
+    let es : (book_of new).entries ≡ entries_of p.pieces = p.grows.entries ∙ ap (λ (h : History). h.entries ++ entries_of p.pieces) is in
+    let most : (book_of new).limit ≡ o.history = ap (λ (t : Terms). t.limit) p.grows.terms ∙ ap (λ (h : History). h.limit) is in
+    let shape : layout_in (book_of new) ≡ l = ap (λ (t : Terms). t.layout) p.grows.terms ∙ ap layout_in is in (
       f.done.text,
       record {
         heap = Some l;
@@ -127,7 +98,7 @@ played_told book_of d o n n1 n' l old new rd rd1 rd' out out' r is head f stops 
         unopened = tt;
         permitted = subst (λ (xs : List Entry). IsPermitted (opening l) xs) es (subst (λ (s : Shape). IsPermitted (opening s) (book_of new).entries) shape h.run);
         within = subst (λ (xs : List Entry). length xs ≤ o.history) es (subst (λ (k : ℕ). length (book_of new).entries ≤ k) most h.within);
-        full = λ e. ap (λ (xs : List Entry). length xs) (sym es) ∙ f.done.filled (full_as r e) ∙ most;
+        full = λ e. ap (λ (xs : List Entry). length xs) (sym es) ∙ f.done.filled (ap end_met e) ∙ most;
         said = p.said;
       },
       written_as out out' r f.done.text f.done.written,

@@ -1,15 +1,7 @@
 -- Drains of a core, one after another.
-use Rattle.std.specs.Prelude.{◌≡◌, ℕ, List, [], ◌∷◌, ◌++◌}
-use Rattle.std.proofs.Common.{refl, sym, ap, ◌∙◌, subst, append_assoc}
-use Rattle.g1_core.specs.declared.reply.Drained.{Drained}
-use Rattle.g1_core.specs.declared.reply.Drained.TheVariants.{Cards, Short}
-use Rattle.g1_core.specs.Calls.{drain_entry}
-use Rattle.g1_core.specs.Machine.{Machine}
-use Rattle.g1_core.specs.Run.{IsStep}
-use Rattle.g1_core.specs.Table.{Table}
-use Rattle.g1_trace.specs.declared.command.Command.{Command}
-use Rattle.g1_core.specs.declared.entry.Call.TheVariants.{Drain}
-use Rattle.g1_trace.specs.declared.command.Command.TheVariants.{Call}
+use Rattle.std.specs.Prelude.{◌≡◌, ◌∷◌, ◌++◌}
+use Rattle.g1_replay.specs.Prelude.{ℕ, List, [], refl, sym, ap, ◌∙◌, subst, append_assoc, Drained}
+use Rattle.g1_replay.specs.Prelude.{drain_entry, Machine, IsStep, Table, Command, Drain, Call}
 use Rattle.g1_replay.specs.Race.{drain_text, drained_text}
 
 -- from one table to another just these drains were made, and they answered so
@@ -26,15 +18,14 @@ pub record CoreDrained (old : Machine) (drains : List Command) (text : List ℕ)
   pub answers : List Drained
   pub made : AreDrains old.state.table drains answers new.state.table
   pub said : text ≡ drained_text answers
+  pub heap : new.state.table.layout ≡ old.state.table.layout
 
 drains_then : (a b c : Table) (cs ds : List Command) (xs ys : List Drained) → AreDrains a cs xs b
     → AreDrains b ds ys c → AreDrains a (cs ++ ds) (xs ++ ys) c
 drains_then a b c [] ds [] ys p q = subst (λ (t : Table). AreDrains t ds ys c) p q
-drains_then a b c [] ds (x ∷ xs) ys p q = absurd p
-drains_then a b c (Call (Drain region) ∷ cs) ds [] ys p q = absurd p
 drains_then a b c (Call (Drain region) ∷ cs) ds (x ∷ xs) ys p q =
     (p.0, p.1, drains_then p.0 b c cs ds xs ys p.2 q)
-drains_then a b c (d ∷ cs) ds xs ys p q = absurd p
+drains_then a b c cs ds xs ys p q = absurd p
 
 text_then : (xs ys : List Drained) → drained_text (xs ++ ys) ≡ drained_text xs ++ drained_text ys
 text_then [] ys = refl
@@ -42,22 +33,8 @@ text_then (x ∷ xs) ys =
     ap (λ l. drain_text x ++ l) (text_then xs ys)
     ∙ sym (append_assoc (drain_text x) (drained_text xs) (drained_text ys))
 
-step_layout : (old new : Table) (region : ℕ) (answer : Drained)
-    → IsStep old (drain_entry 0 region answer) new → new.layout ≡ old.layout
-step_layout old new region (Cards cards refined) s = ap (λ (t : Table). t.layout) s.after
-step_layout old new region (Short refined) s = ap (λ (t : Table). t.layout) s.after
-
-drains_in : (a b : Table) (cs : List Command) (xs : List Drained) → AreDrains a cs xs b
-    → b.layout ≡ a.layout
-drains_in a b [] [] p = ap (λ (t : Table). t.layout) p
-drains_in a b [] (x ∷ xs) p = absurd p
-drains_in a b (Call (Drain region) ∷ cs) [] p = absurd p
-drains_in a b (Call (Drain region) ∷ cs) (x ∷ xs) p =
-    drains_in p.0 b cs xs p.2 ∙ step_layout a p.0 region x p.1
-drains_in a b (d ∷ cs) xs p = absurd p
-
 pub core_drained_none : (m : Machine) → CoreDrained m [] [] m
-core_drained_none m = record { answers = []; made = refl; said = refl }
+core_drained_none m = record { answers = []; made = refl; said = refl; heap = refl }
 
 pub core_drained_then : (a b c : Machine) (cs ds : List Command) (xs ys : List ℕ)
     → CoreDrained a cs xs b → CoreDrained b ds ys c → CoreDrained a (cs ++ ds) (xs ++ ys) c
@@ -67,9 +44,10 @@ core_drained_then a b c cs ds xs ys p q = record {
       q.made;
   said = ap (λ l. l ++ ys) p.said ∙ ap (λ l. drained_text p.answers ++ l) q.said
       ∙ sym (text_then p.answers q.answers);
+  heap = q.heap ∙ p.heap;
 }
 
 -- the heap stays
 pub core_drained_in : (a b : Machine) (cs : List Command) (xs : List ℕ) → CoreDrained a cs xs b
     → b.state.table.layout ≡ a.state.table.layout
-core_drained_in a b cs xs p = drains_in a.state.table b.state.table cs p.answers p.made
+core_drained_in a b cs xs p = p.heap

@@ -1,16 +1,8 @@
 -- What a crew writes: how many stores its run has, and the drains that end it.
-use Rattle.std.specs.Prelude.{◌≡◌, ◌≤◌, ◌⊎◌, ℕ, List, [], ◌++◌, Result, Ok, Err, Option, Some, None}
-use Rattle.std.specs.Prelude.{count_by, length}
-use Rattle.std.specs.Io.KnownBytes.{Appends}
-use Rattle.g1_layout.specs.Shape.{Shape}
-use Rattle.g1_core.specs.Table.{opening}
-use Rattle.g1_core.specs.declared.entry.Entry.{Entry}
-use Rattle.g1_core.specs.Run.{IsPermitted}
-use Rattle.g1_shared.specs.Counts.{is_store}
-use Rattle.g1_trace.specs.declared.command.Command.{Command}
-use Rattle.g1_trace.specs.declared.dialect.Dialect.{Dialect}
-use Rattle.g1_trace.specs.Text.{stores_text}
-use Rattle.g1_trace.specs.Trace.{read_trace}
+use Rattle.std.specs.Prelude.{◌≡◌, ◌≤◌, ◌⊎◌, ◌++◌}
+use Rattle.g1_replay.specs.Prelude.{ℕ, List, [], Result, Ok, Err, Option, Some, None, count_by}
+use Rattle.g1_replay.specs.Prelude.{length, Appends, Shape, opening, Entry, IsPermitted, is_store}
+use Rattle.g1_replay.specs.Prelude.{Command, Dialect, stores_text, read_trace}
 use Rattle.g1_replay.specs.declared.stop.Stop.{Stop}
 use Rattle.g1_replay.specs.declared.stop.Stop.TheVariants.{BookFull}
 use Rattle.g1_replay.specs.Drains.{drains}

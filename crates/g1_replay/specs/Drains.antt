@@ -1,8 +1,7 @@
 -- The drains that end a crew or a race.
-use Rattle.std.specs.Prelude.{◌≡◌, ℕ, zero, suc, List, [], ◌∷◌, ◌++◌, Result, Ok, Err, Option}
-use Rattle.g1_trace.specs.declared.command.Command.{Command}
-use Rattle.g1_core.specs.declared.entry.Call.TheVariants.{Drain}
-use Rattle.g1_trace.specs.declared.command.Command.TheVariants.{Call}
+use Rattle.std.specs.Prelude.{◌≡◌, ◌∷◌, ◌++◌}
+use Rattle.g1_replay.specs.Prelude.{ℕ, zero, suc, List, [], Result, Ok, Err, Option, Command, Drain}
+use Rattle.g1_replay.specs.Prelude.{Call}
 use Rattle.g1_replay.specs.declared.stop.Stop.{Stop}
 use Rattle.g1_replay.specs.declared.stop.Stop.TheVariants.{BookFull}
 use Rattle.g1_replay.specs.Playing.{Writes}

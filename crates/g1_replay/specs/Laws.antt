@@ -1,11 +1,8 @@
 -- Pieces behind pieces, and plays that follow each other.
-use Rattle.std.proofs.Common.{◌≡◌, ℕ, List, [], ◌∷◌, ◌++◌, refl, sym, ◌∙◌, ap, subst, append_assoc}
-use Rattle.std.proofs.Common.{append-nil}
-use Rattle.g1_core.specs.declared.config.Settings.{Settings}
-use Rattle.g1_core.specs.declared.entry.Entry.{Entry}
-use Rattle.g1_history.specs.History.{History, Terms, layout_in}
-use Rattle.g1_steps.specs.Lent.{Grows}
-use Rattle.g1_trace.specs.declared.command.Command.{Command}
+use Rattle.std.specs.Prelude.{◌≡◌, ◌∷◌, ◌++◌}
+use Rattle.g1_replay.specs.Prelude.{ℕ, List, [], refl, sym, ◌∙◌, ap, subst, append_assoc}
+use Rattle.g1_replay.specs.Prelude.{append-nil, Settings, Entry, History, Terms, layout_in, Grows}
+use Rattle.g1_replay.specs.Prelude.{Command}
 use Rattle.g1_replay.specs.Playing.{HasPlayed}
 use Rattle.g1_replay.specs.Pieces.{Piece, IsPieceOf, IsSetBy, AreSetBy, Walks, line_of, lines_of}
 use Rattle.g1_replay.specs.Pieces.{entries_of}
@@ -13,16 +10,14 @@ use Rattle.g1_replay.specs.Pieces.{entries_of}
 walks_then : (cs ds : List Command) (ps qs : List Piece) → Walks cs ps → Walks ds qs
     → Walks (cs ++ ds) (ps ++ qs)
 walks_then [] ds [] qs w v = v
-walks_then [] ds (p ∷ ps) qs w v = absurd w
-walks_then (c ∷ cs) ds [] qs w v = absurd w
 walks_then (c ∷ cs) ds (p ∷ ps) qs w v = (w.0, walks_then cs ds ps qs w.1 v)
+walks_then cs ds ps qs w v = absurd w
 
 set_then : (s : Settings) (cs ds : List Command) (ps qs : List Piece) → Walks cs ps
     → AreSetBy s cs ps → AreSetBy s ds qs → AreSetBy s (cs ++ ds) (ps ++ qs)
 set_then s [] ds [] qs w a b = b
-set_then s [] ds (p ∷ ps) qs w a b = absurd w
-set_then s (c ∷ cs) ds [] qs w a b = absurd w
 set_then s (c ∷ cs) ds (p ∷ ps) qs w a b = (a.0, set_then s cs ds ps qs w.1 a.1 b)
+set_then s cs ds ps qs w a b = absurd w
 
 pub entries_then : (ps qs : List Piece) → entries_of (ps ++ qs) ≡ entries_of ps ++ entries_of qs
 entries_then [] qs = refl
@@ -33,11 +28,10 @@ entries_then (p ∷ ps) qs =
 lines_then : (cs ds : List Command) (ps qs : List Piece) → Walks cs ps
     → lines_of (cs ++ ds) (ps ++ qs) ≡ lines_of cs ps ++ lines_of ds qs
 lines_then [] ds [] qs w = refl
-lines_then [] ds (p ∷ ps) qs w = absurd w
-lines_then (c ∷ cs) ds [] qs w = absurd w
 lines_then (c ∷ cs) ds (p ∷ ps) qs w =
     ap (λ l. line_of c p ++ l) (lines_then cs ds ps qs w.1)
     ∙ sym (append_assoc (line_of c p) (lines_of cs ps) (lines_of ds qs))
+lines_then cs ds ps qs w = absurd w
 
 grows_nil : (h : History) → Grows h [] h
 grows_nil h = record { entries = sym (append-nil h.entries); terms = refl }

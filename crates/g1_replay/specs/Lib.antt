@@ -1,6 +1,7 @@
+-- The root passes on what its modules have and what stands in Prelude.
+pub mod Prelude
 pub mod Lines
 pub mod Reading
-pub mod Flush
 pub mod Pieces
 pub mod Output
 pub mod Playing
@@ -16,4 +17,32 @@ pub mod Scripts
 pub mod Status
 pub mod Still
 pub mod Members
-pub mod MembersDid
+unfoldable pub use Prelude.*
+pub use Lines.*
+pub use Reading.*
+pub use Pieces.*
+pub use Output.*
+pub use Playing.*
+pub use Stops.*
+pub use Laws.*
+pub use Scripted.*
+pub use Drains.*
+pub use Crew.*
+pub use Race.*
+pub use CoreDrains.*
+pub use RaceJobs.*
+pub use Scripts.*
+pub use Status.*
+pub use Still.*
+pub use Members.*
+pub use declared.end.End.{End}
+pub use declared.end.End.TheVariants.{Refused, Whole}
+pub use declared.lines.line.Byte.{Byte}
+pub use declared.lines.line.Part.{Part}
+pub use declared.lines.line.Part.TheVariants.{Failed, More, Nothing}
+pub use declared.races.desk.Member.{Member}
+pub use declared.races.desk.Member.TheVariants.{Racing, Sweeping}
+pub use declared.races.listing.Listing.{Listing}
+pub use declared.stop.Stop.{Stop}
+pub use declared.stop.Stop.TheVariants.{BookFull, Fault, NoMemory, NoThread, ReadFailed}
+pub use declared.stop.Stop.TheVariants.{WriteFailed}

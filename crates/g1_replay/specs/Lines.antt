@@ -1,9 +1,8 @@
 -- What a read of one line takes from the bytes that a reader has left.
-use Rattle.std.specs.Prelude.{◌≡◌, ◌≢◌, ℕ, List, [], ◌∷◌, ◌++◌, ◌≤◌, ◌<◌, length, take, slice_index}
-use Rattle.std.specs.Prelude.{Bool, true, false, Result, Ok, Err, Option, Some, None}
-use Rattle.std.specs.Io.KnownBytes.{Consumes, IsAtEnd}
-use Rattle.g1_trace.specs.Words.{IsPart}
-use Rattle.g1_trace.specs.declared.fault.TraceFault.TheVariants.{TooLong, Cut}
+use Rattle.std.specs.Prelude.{◌≡◌, ◌≢◌, ◌∷◌, ◌++◌, ◌≤◌, ◌<◌}
+use Rattle.g1_replay.specs.Prelude.{ℕ, List, [], length, take, slice_index, Bool, true, false}
+use Rattle.g1_replay.specs.Prelude.{Result, Ok, Err, Option, Some, None, Consumes, IsAtEnd, IsPart}
+use Rattle.g1_replay.specs.Prelude.{TooLong, Cut}
 use Rattle.g1_replay.specs.declared.lines.line.Byte.{Byte}
 use Rattle.g1_replay.specs.declared.lines.line.Byte.TheVariants.{Some as OneByte, End as NoByte}
 use Rattle.g1_replay.specs.declared.lines.line.Byte.TheVariants.{Failed as FailedByte}
@@ -14,10 +13,10 @@ use Rattle.g1_replay.specs.declared.stop.Stop.{Stop}
 use Rattle.g1_replay.specs.declared.stop.Stop.TheVariants.{Fault, ReadFailed}
 
 -- one read of one byte
-abbrev pub Reads : Option (List ℕ) → Option (List ℕ) → Byte → Type 0
-Reads old new (OneByte b) = Consumes old new (b ∷ [])
-Reads old new NoByte = Consumes old new [] × IsAtEnd new
-Reads old new FailedByte = Consumes old new []
+abbrev pub ReadsByte : Option (List ℕ) → Option (List ℕ) → Byte → Type 0
+ReadsByte old new (OneByte b) = Consumes old new (b ∷ [])
+ReadsByte old new NoByte = Consumes old new [] × IsAtEnd new
+ReadsByte old new FailedByte = Consumes old new []
 
 -- the first n bytes, with no line feed, and then the end or a line feed
 abbrev pub EndsAtFeed : List ℕ → ℕ → Type 0

@@ -1,18 +1,13 @@
 -- Racers and sweepers at desks, each with its end of a line of completed buffers.
-use Rattle.std.specs.Prelude.{◌≡◌, ℕ, List, [], ◌∷◌, Bool, true, false}
-use Rattle.arrayvec.specs.ArrayVec.{array_vec_len}
+use Rattle.std.specs.Prelude.{◌≡◌, ◌∷◌, ◌++◌}
+use Rattle.g1_replay.specs.Prelude.{ℕ, List, [], Bool, true, false, refl, ap, sym, ◌∙◌}
+use Rattle.g1_replay.specs.Prelude.{array_vec_len, Line, line_home, sender_home, taker_home}
+use Rattle.g1_replay.specs.Prelude.{sender_rights, taker_rights, Race, Start, StoreHistory, null_of}
+use Rattle.g1_replay.specs.Prelude.{gains_store, word_of, race_id, race_shape, racer_race}
+use Rattle.g1_replay.specs.Prelude.{racer_start, racer_view, sweeper_race, sweeper_start, Ask}
+use Rattle.g1_replay.specs.Prelude.{AskStore, AskFlush, AskWork}
 use Rattle.atomic_table.specs.Seated.{TableId}
-use Rattle.g1_log.specs.declared.line.Line.{Line}
-use Rattle.g1_log.specs.Ends.{line_home, sender_home, taker_home, sender_rights, taker_rights}
-use Rattle.g1_race.specs.declared.race.Race.{Race}
 use Rattle.g1_race_words.specs.declared.view.Shape.{Shape}
-use Rattle.g1_race_words.specs.Begin.{Start}
-use Rattle.g1_race_words.specs.Rule.{StoreHistory, null_of}
-use Rattle.g1_race_words.specs.Steps.{gains_store}
-use Rattle.g1_race.specs.Race.{word_of}
-use Rattle.g1_race.specs.Members.{race_id, race_shape, racer_race, racer_start, racer_view}
-use Rattle.g1_race.specs.Members.{sweeper_race, sweeper_start}
-use Rattle.g1_steps.specs.Ask.{Ask, AskStore, AskFlush, AskWork}
 use Rattle.g1_replay.specs.declared.races.desk.Member.{Member}
 use Rattle.g1_replay.specs.declared.races.desk.Member.TheVariants.{Racing, Sweeping}
 
@@ -71,3 +66,27 @@ pub record MemberDid (m : Member) (asks : List Ask) (n : Member) : Type 0 where
   pub rights : member_rights n ≡ member_rights m
   pub kind : is_racer n ≡ is_racer m
   pub stored : member_histories n ≡ histories_after asks (member_histories m)
+
+after_both : (xs ys : List Ask) (hs : List StoreHistory)
+    → histories_after (xs ++ ys) hs ≡ histories_after ys (histories_after xs hs)
+after_both [] ys hs = refl
+after_both (AskStore slot target ∷ xs) ys hs =
+    after_both xs ys (gains_store slot (word_of target) hs)
+after_both (AskFlush ∷ xs) ys hs = after_both xs ys hs
+after_both (AskWork ∷ xs) ys hs = after_both xs ys hs
+
+pub member_did_none : (m : Member) → MemberDid m [] m
+member_did_none m =
+    record { race = refl; start = refl; home = refl; rights = refl; kind = refl; stored = refl }
+
+pub member_did_then : (m n o : Member) (xs ys : List Ask) → MemberDid m xs n → MemberDid n ys o
+    → MemberDid m (xs ++ ys) o
+member_did_then m n o xs ys p q = record {
+  race = q.race ∙ p.race;
+  start = q.start ∙ p.start;
+  home = q.home ∙ p.home;
+  rights = q.rights ∙ p.rights;
+  kind = q.kind ∙ p.kind;
+  stored = q.stored ∙ ap (λ (hs : List StoreHistory). histories_after ys hs) p.stored
+      ∙ sym (after_both xs ys (member_histories m));
+}

@@ -1,20 +1,11 @@
 -- What a replay writes: the text of a permitted run of the commands that were read.
-use Rattle.std.specs.Prelude.{◌≡◌, ◌≤◌, ℕ, List, [], ◌++◌, Bool, false, Result, Ok, Err, Option}
-use Rattle.std.specs.Prelude.{Some, None, IfSome, IfNone, length}
-use Rattle.std.specs.Io.KnownBytes.{Appends}
-use Rattle.g1_layout.specs.Shape.{Shape}
-use Rattle.g1_core.specs.declared.config.Settings.{Settings}
-use Rattle.g1_core.specs.Table.{opening}
-use Rattle.g1_core.specs.Run.{IsPermitted}
-use Rattle.g1_trace.specs.declared.command.Command.{Command}
-use Rattle.g1_trace.specs.declared.dialect.Dialect.{Dialect}
-use Rattle.g1_trace.specs.declared.fault.TraceFault.{TraceFault}
+use Rattle.std.specs.Prelude.{◌≡◌, ◌≤◌, ◌++◌}
+use Rattle.g1_replay.specs.Prelude.{ℕ, List, [], Bool, false, Result, Ok, Err, Option, Some, None}
+use Rattle.g1_replay.specs.Prelude.{IfSome, IfNone, length, Appends, Shape, Settings, opening}
+use Rattle.g1_replay.specs.Prelude.{IsPermitted, Command, Dialect, TraceFault, Options}
+use Rattle.g1_replay.specs.Prelude.{AppendsFront, fault_line, no_memory_line, book_full_line}
+use Rattle.g1_replay.specs.Prelude.{no_thread_line, read_failed_line, read_trace}
 use Rattle.g1_trace.specs.declared.mode.Mode.{Mode}
-use Rattle.g1_options.specs.declared.options.Options.{Options}
-use Rattle.g1_trace.specs.Bytes.{AppendsFront}
-use Rattle.g1_trace.specs.Text.{fault_line, no_memory_line, book_full_line, no_thread_line}
-use Rattle.g1_trace.specs.Text.{read_failed_line}
-use Rattle.g1_trace.specs.Trace.{read_trace}
 use Rattle.g1_replay.specs.declared.end.End.{End}
 use Rattle.g1_replay.specs.declared.end.End.TheVariants.{Whole, Refused, Stopped}
 use Rattle.g1_replay.specs.declared.end.End.TheVariants.{ReadFailed as EndReadFailed}

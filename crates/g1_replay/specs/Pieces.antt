@@ -1,20 +1,13 @@
 -- The calls that each command of a trace makes, and the line that is printed of them.
-use Rattle.std.specs.Prelude.{◌≡◌, ◌≤◌, ◌⊎◌, ℕ, ◌||◌, Bool, true, false, List, [], ◌∷◌, ◌++◌, All}
-use Rattle.std.specs.Prelude.{sum_by, length, if◌then◌else◌}
-use Rattle.g1_layout.specs.declared.kind.Kind.{Kind}
-use Rattle.g1_layout.specs.declared.kind.Kind.TheVariants.{Logged}
-use Rattle.g1_core.specs.declared.reply.Fill.{Fill}
-use Rattle.g1_core.specs.declared.reply.Fill.TheVariants.{No, Full, Helped}
-use Rattle.g1_core.specs.declared.entry.Entry.{Entry}
+use Rattle.std.specs.Prelude.{◌≡◌, ◌≤◌, ◌⊎◌, ◌||◌, ◌∷◌, ◌++◌, if◌then◌else◌}
+use Rattle.g1_replay.specs.Prelude.{ℕ, Bool, true, false, List, [], All, sum_by, length, Kind}
+use Rattle.g1_replay.specs.Prelude.{Logged, Fill, No, Full, Helped, Entry, Reply, Settings}
+use Rattle.g1_replay.specs.Prelude.{round_size, Command, stored_line, flushed_line, refined_line}
+use Rattle.g1_replay.specs.Prelude.{worked_line, call_line, FlushReply}
 use Rattle.g1_core.specs.declared.entry.Call.{Call}
-use Rattle.g1_core.specs.declared.entry.Reply.{Reply}
 use Rattle.g1_core.specs.declared.entry.Call.TheVariants.{Store, Refine}
 use Rattle.g1_core.specs.declared.entry.Reply.TheVariants as reply
-use Rattle.g1_core.specs.declared.config.Settings.{Settings}
-use Rattle.g1_steps.specs.Rounds.{round_size}
-use Rattle.g1_trace.specs.declared.command.Command.{Command}
 use Rattle.g1_trace.specs.declared.command.Command.TheVariants as command
-use Rattle.g1_trace.specs.Text.{stored_line, flushed_line, refined_line, worked_line, call_line}
 
 -- What is printed of a command and stands in none of its calls: how many cards a flush moved, the
 -- length of the line that a round saw last, and whether a help, a later call of a round or its
@@ -199,3 +192,7 @@ abbrev pub lines_of : List Command → List Piece → List ℕ
 lines_of [] pieces = []
 lines_of (c ∷ commands) [] = []
 lines_of (c ∷ commands) (p ∷ pieces) = line_of c p ++ lines_of commands pieces
+
+-- the line of a flush, by what its step answers
+abbrev pub flush_text : FlushReply → List ℕ
+flush_text r = flushed_line r.cards r.fill (length r.refined) r.short

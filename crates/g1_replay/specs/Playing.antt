@@ -1,19 +1,11 @@
 -- What is done with the commands of a trace, between two states of the reader, the writer and the
 -- one that plays.
-use Rattle.std.specs.Prelude.{◌≡◌, ◌≤◌, ℕ, List, [], ◌∷◌, ◌++◌, Bool, Result, Ok, Err, Option, Some}
-use Rattle.std.specs.Prelude.{◌⊎◌, ◌<◌, ◌+◌, length, take, IfErr, IfSome, IsNone, OnOk}
-use Rattle.std.specs.Io.KnownBytes.{Consumes}
-use Rattle.g1_layout.specs.Shape.{Shape}
-use Rattle.g1_log.specs.declared.line.Line.{Line}
-use Rattle.g1_log.specs.Ends.{capacity_of}
-use Rattle.g1_history.specs.History.{History, opened, layout_in}
-use Rattle.g1_steps.specs.Lent.{Grows}
-use Rattle.g1_history.specs.declared.refusal.Refusal.{Refusal}
+use Rattle.std.specs.Prelude.{◌≡◌, ◌≤◌, ◌∷◌, ◌++◌, ◌⊎◌, ◌<◌, ◌+◌}
+use Rattle.g1_replay.specs.Prelude.{ℕ, List, [], Bool, Result, Ok, Err, Option, Some, length, take}
+use Rattle.g1_replay.specs.Prelude.{IfErr, IfSome, IsNone, OnOk, Consumes, Shape, Line, capacity_of}
+use Rattle.g1_replay.specs.Prelude.{History, opened, layout_in, Grows, Refusal, Command, Dialect}
+use Rattle.g1_replay.specs.Prelude.{Options, Puts}
 use Rattle.g1_history.specs.declared.refusal.Refusal.TheVariants as refusal
-use Rattle.g1_trace.specs.declared.command.Command.{Command}
-use Rattle.g1_trace.specs.declared.dialect.Dialect.{Dialect}
-use Rattle.g1_options.specs.declared.options.Options.{Options}
-use Rattle.g1_trace.specs.Bytes.{Puts}
 use Rattle.g1_replay.specs.declared.stop.Stop.{Stop}
 use Rattle.g1_replay.specs.declared.stop.Stop.TheVariants.{NoMemory, BookFull, WriteFailed}
 use Rattle.g1_replay.specs.Pieces.{Piece, IsLineOf, IsSetBy, AreSetBy, Walks, lines_of, entries_of}

@@ -1,21 +1,13 @@
 -- What a race writes: how many stores were made, and what the drains that follow answer.
-use Rattle.std.specs.Prelude.{◌≡◌, ◌≢◌, ◌⊎◌, ◌<◌, ◌==◌, ◌&&◌, if◌then◌else◌, ℕ, List, [], ◌∷◌, ◌++◌}
-use Rattle.std.specs.Prelude.{Bool, true, false, Result, Ok, Err, Option, Some, None, Contains}
-use Rattle.std.specs.Prelude.{codes, count_by, length, slice_index_or}
-use Rattle.std.specs.Io.KnownBytes.{Appends}
+use Rattle.std.specs.Prelude.{◌≡◌, ◌≢◌, ◌⊎◌, ◌<◌, ◌==◌, ◌&&◌, if◌then◌else◌, ◌∷◌, ◌++◌}
+use Rattle.g1_replay.specs.Prelude.{ℕ, List, [], Bool, true, false, Result, Ok, Err, Option, Some}
+use Rattle.g1_replay.specs.Prelude.{None, Contains, codes, count_by, length, slice_index_or}
+use Rattle.g1_replay.specs.Prelude.{Appends, option_or, Shape, slot_count, card_of, region_of}
+use Rattle.g1_replay.specs.Prelude.{region_of_card, Table, Holds, Drained, Cards, Short, Command}
+use Rattle.g1_replay.specs.Prelude.{Drain, Store, Call, Dialect, drained_line, stores_text}
+use Rattle.g1_replay.specs.Prelude.{read_trace}
 use Rattle.std.specs.List.Sorted.{IsStrictlyIncreasing}
-use Rattle.std.specs.Option.{option_or}
-use Rattle.g1_layout.specs.Shape.{Shape, slot_count, card_of, region_of, region_of_card}
 use Rattle.std.specs.FinSet as set
-use Rattle.g1_core.specs.Table.{Table, Holds}
-use Rattle.g1_core.specs.declared.reply.Drained.{Drained}
-use Rattle.g1_core.specs.declared.reply.Drained.TheVariants.{Cards, Short}
-use Rattle.g1_trace.specs.declared.command.Command.{Command}
-use Rattle.g1_core.specs.declared.entry.Call.TheVariants.{Drain}
-use Rattle.g1_trace.specs.declared.command.Command.TheVariants.{Store, Call}
-use Rattle.g1_trace.specs.declared.dialect.Dialect.{Dialect}
-use Rattle.g1_trace.specs.Text.{drained_line, stores_text}
-use Rattle.g1_trace.specs.Trace.{read_trace}
 use Rattle.g1_replay.specs.declared.stop.Stop.{Stop}
 use Rattle.g1_replay.specs.declared.stop.Stop.TheVariants.{BookFull}
 use Rattle.g1_replay.specs.Drains.{drains}

@@ -1,21 +1,10 @@
 -- The jobs of a race, and the table that they leave.
-use Rattle.std.specs.Prelude.{◌≡◌, ◌⊎◌, ℕ, suc, ◌<◌, ◌≤◌, nat_lt, List, [], ◌∷◌, ◌++◌, Option, Some}
-use Rattle.std.specs.Prelude.{None}
-use Rattle.std.specs.List.{filter_map}
-use Rattle.g1_log.specs.declared.ends.Sender.{Sender}
-use Rattle.g1_log.specs.declared.ends.Taker.{Taker}
-use Rattle.g1_log.specs.declared.line.Line.{Line}
-use Rattle.g1_race.specs.declared.race.Race.{Race}
-use Rattle.g1_race.specs.declared.race.Racer.{Racer}
-use Rattle.g1_race.specs.declared.race.Sweeper.{Sweeper}
-use Rattle.g1_race.specs.Members.{racer_view}
-use Rattle.g1_race.specs.Over.{Ended, refs_of, table_of}
-use Rattle.g1_core.specs.Table.{Holds, IsCovered, IsRecorded}
-use Rattle.g1_core.specs.Adoption.{IsPairOf}
-use Rattle.g1_steps.specs.declared.crew.desk.Script.{Script}
-use Rattle.g1_steps.specs.declared.crew.desk.Script.TheVariants.{Mutate, Refine}
+use Rattle.std.specs.Prelude.{◌≡◌, ◌⊎◌, ◌<◌, ◌≤◌, ◌∷◌, ◌++◌}
+use Rattle.g1_replay.specs.Prelude.{ℕ, suc, nat_lt, List, [], Option, Some, None, filter_map}
+use Rattle.g1_replay.specs.Prelude.{Sender, Taker, Line, Race, Racer, Sweeper, racer_view, Ended}
+use Rattle.g1_replay.specs.Prelude.{refs_of, table_of, Holds, IsCovered, IsRecorded, IsPairOf}
+use Rattle.g1_replay.specs.Prelude.{Script, Mutate, Refine, Command}
 use Rattle.g1_steps.specs.declared.crew.desk.Step.TheVariants as step
-use Rattle.g1_trace.specs.declared.command.Command.{Command}
 use Rattle.g1_replay.specs.declared.races.desk.Member.{Member}
 use Rattle.g1_replay.specs.declared.races.desk.Member.TheVariants.{Racing, Sweeping}
 use Rattle.g1_replay.specs.Members.{IsMemberOf, is_racer, member_logged}

@@ -1,13 +1,8 @@
 -- What the calls that read lines take from the reader, and which part of the trace that is.
-use Rattle.std.specs.Prelude.{◌≡◌, ℕ, ◌≤◌, List, [], ◌∷◌, ◌++◌, length, Bool, true, false, Result}
-use Rattle.std.specs.Prelude.{Ok, Err, Option, Some, None, IsSome}
-use Rattle.std.specs.Io.KnownBytes.{Consumes, IsAtEnd}
-use Rattle.g1_layout.specs.Shape.{Shape}
-use Rattle.g1_trace.specs.declared.command.Command.{Command}
-use Rattle.g1_trace.specs.declared.dialect.Dialect.{Dialect}
-use Rattle.g1_trace.specs.Grammar.{IsCommandOf}
-use Rattle.g1_trace.specs.Trace.{read_on, before, faulty}
-use Rattle.g1_trace.specs.Words.{IsPart}
+use Rattle.std.specs.Prelude.{◌≡◌, ◌≤◌, ◌∷◌, ◌++◌}
+use Rattle.g1_replay.specs.Prelude.{ℕ, List, [], length, Bool, true, false, Result, Ok, Err, Option}
+use Rattle.g1_replay.specs.Prelude.{Some, None, IsSome, Consumes, IsAtEnd, Shape, Command, Dialect}
+use Rattle.g1_replay.specs.Prelude.{IsCommandOf, read_on, before, faulty, IsPart}
 use Rattle.g1_replay.specs.declared.lines.next.Next.{Next}
 use Rattle.g1_replay.specs.declared.lines.next.Next.TheVariants.{End, Blank, Do}
 use Rattle.g1_replay.specs.declared.stop.Stop.{Stop}

@@ -1,14 +1,8 @@
 -- What comes of a trace that is read to its end before its scripts are run.
-use Rattle.std.specs.Prelude.{◌≡◌, ◌⊎◌, ℕ, List, [], ◌++◌, false, Result, Ok, Err, Option, Some}
-use Rattle.std.specs.Prelude.{None}
-use Rattle.std.specs.Io.KnownBytes.{Appends}
-use Rattle.std.proofs.Common.{refl, sym, ap, ◌∙◌, subst, append-nil, append_assoc}
-use Rattle.g1_layout.specs.Shape.{Shape}
-use Rattle.g1_trace.specs.declared.command.Command.{Command}
-use Rattle.g1_trace.specs.declared.dialect.Dialect.{Dialect}
-use Rattle.g1_trace.specs.declared.fault.TraceFault.{TraceFault}
-use Rattle.g1_trace.specs.Text.{fault_line}
-use Rattle.g1_trace.specs.Trace.{read_trace}
+use Rattle.std.specs.Prelude.{◌≡◌, ◌⊎◌, ◌++◌}
+use Rattle.g1_replay.specs.Prelude.{ℕ, List, [], false, Result, Ok, Err, Option, Some, None}
+use Rattle.g1_replay.specs.Prelude.{Appends, refl, sym, ap, ◌∙◌, subst, append-nil, append_assoc}
+use Rattle.g1_replay.specs.Prelude.{Shape, Command, Dialect, TraceFault, fault_line, read_trace}
 use Rattle.g1_replay.specs.declared.stop.Stop.{Stop}
 use Rattle.g1_replay.specs.declared.stop.Stop.TheVariants.{Fault, NoMemory, NoThread, ReadFailed}
 use Rattle.g1_replay.specs.Output.{end_met}

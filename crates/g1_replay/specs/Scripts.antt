@@ -1,19 +1,11 @@
 -- The scripts of a crew: what each caller is to do.
-use Rattle.std.specs.Prelude.{◌≡◌, ℕ, ◌<◌, ◌≤◌, ◌==◌, List, [], ◌∷◌, ◌++◌, length, take, map}
-use Rattle.std.specs.Prelude.{count_by, sum_by, slice_index_or}
-use Rattle.std.specs.Prelude.{Option, Some, None, Result, Err, if◌then◌else◌}
-use Rattle.std.proofs.Common.{refl, sym, subst, ap, ◌∙◌, append-nil, append_assoc}
-use Rattle.std.proofs.lemmas.List.Elements.{filter_map-append}
-use Rattle.std.specs.List.{filter_map}
-use Rattle.std.specs.Option.{option_or}
-use Rattle.g1_steps.specs.Ask.{Ask, asks_in, is_store_ask}
-use Rattle.g1_steps.specs.declared.crew.desk.Step.{Step}
+use Rattle.std.specs.Prelude.{◌≡◌, ◌<◌, ◌≤◌, ◌==◌, ◌∷◌, ◌++◌, if◌then◌else◌}
+use Rattle.g1_replay.specs.Prelude.{ℕ, List, [], length, take, map, count_by, sum_by}
+use Rattle.g1_replay.specs.Prelude.{slice_index_or, Option, Some, None, Result, Err, refl, sym}
+use Rattle.g1_replay.specs.Prelude.{subst, ap, ◌∙◌, append-nil, append_assoc, filter_map-append}
+use Rattle.g1_replay.specs.Prelude.{filter_map, option_or, Ask, asks_in, is_store_ask, Step, Script}
+use Rattle.g1_replay.specs.Prelude.{Mutate, Refine, Refusal, Command, Store, Flush}
 use Rattle.g1_steps.specs.declared.crew.desk.Step.TheVariants as step
-use Rattle.g1_steps.specs.declared.crew.desk.Script.{Script}
-use Rattle.g1_steps.specs.declared.crew.desk.Script.TheVariants.{Mutate, Refine}
-use Rattle.g1_history.specs.declared.refusal.Refusal.{Refusal}
-use Rattle.g1_trace.specs.declared.command.Command.{Command}
-use Rattle.g1_trace.specs.declared.command.Command.TheVariants.{Store, Flush}
 
 -- the call that a command asks of a mutator, and of which
 abbrev pub asked_in : Command → Option (ℕ × Step)

@@ -1,5 +1,5 @@
 -- Exit statuses.
-use Rattle.std.specs.Prelude.{ℕ}
+use Rattle.g1_replay.specs.Prelude.{ℕ}
 use Rattle.g1_replay.specs.declared.end.End.{End}
 use Rattle.g1_replay.specs.declared.end.End.TheVariants.{Whole, Refused, Stopped, ReadFailed}
 use Rattle.g1_replay.specs.declared.end.End.TheVariants.{WriteFailed}

@@ -1,14 +1,10 @@
 -- Logs of mutators that stand still, logs as they begin, and the line of completed buffers at a
 -- pause.
-use Rattle.std.specs.Prelude.{◌≡◌, ℕ, ◌<◌, Bool, true, false, List, [], length, slice_index_or}
-use Rattle.g1_log.specs.declared.ends.Taker.{Taker}
-use Rattle.g1_log.specs.Ends.{taken_of}
+use Rattle.std.specs.Prelude.{◌≡◌, ◌<◌}
+use Rattle.g1_replay.specs.Prelude.{ℕ, Bool, true, false, List, [], length, slice_index_or, Taker}
+use Rattle.g1_replay.specs.Prelude.{taken_of, Drain, Redirect, Empties, Mutator, Command}
 use Rattle.g1_log.specs.Log.{Cards}
 use Rattle.g1_core.specs.declared.entry.Call.{Call}
-use Rattle.g1_core.specs.declared.entry.Call.TheVariants.{Drain, Redirect}
-use Rattle.g1_steps.specs.Steps.{Empties}
-use Rattle.g1_steps.specs.declared.steps.mutator.Mutator.{Mutator}
-use Rattle.g1_trace.specs.declared.command.Command.{Command}
 use Rattle.g1_trace.specs.declared.command.Command.TheVariants as command
 
 -- whether the mutators stand still for a call, and for a command

@@ -1,5 +1,5 @@
 -- What a refused call makes of a replay.
-use Rattle.g1_history.specs.declared.refusal.Refusal.{Refusal}
+use Rattle.g1_replay.specs.Prelude.{Refusal}
 use Rattle.g1_history.specs.declared.refusal.Refusal.TheVariants as refusal
 use Rattle.g1_replay.specs.declared.stop.Stop.{Stop}
 use Rattle.g1_replay.specs.declared.stop.Stop.TheVariants.{NoMemory, BookFull}

@@ -1,12 +1,8 @@
 //! The questions, drains, clears and redirects of a trace: each is one call of the first caller,
 //! and its line.
-ghost use Rattle.std.specs.Prelude.{◌∷◌, [], IfErr};
-ghost use Rattle.g1_history.specs.History.{layout_in};
-ghost use Rattle.g1_trace.specs.Bytes.{Puts};
-ghost use Rattle.g1_trace.specs.Grammar.{IsCommandCall};
-ghost use Rattle.g1_trace.specs.Text.{call_line};
-ghost use Rattle.g1_replay.specs.Playing.{Does, HasPlayed, IsBookFull, MayStop};
-ghost use Rattle.g1_replay.specs.Reading.{more_may_come};
+ghost use Rattle.std.specs.Prelude.{◌∷◌};
+ghost use Rattle.g1_replay.specs.{[], IfErr, layout_in, Puts, IsCommandCall, call_line, Does};
+ghost use Rattle.g1_replay.specs.{HasPlayed, IsBookFull, MayStop, more_may_come};
 
 use crate::stop::Stop;
 use g1_core::{Call, Reply};

@@ -1,8 +1,6 @@
 //! The drains that end a crew or a race: one of each region, in order, each with its line.
-ghost use Rattle.std.specs.Prelude.{◌≡◌, ◌<◌, [], ◌∷◌, IfErr};
-ghost use Rattle.g1_replay.specs.Drains.{HasDrained};
-ghost use Rattle.g1_replay.specs.Playing.{Does, MayStop};
-ghost use Rattle.g1_replay.specs.Reading.{more_may_come};
+ghost use Rattle.std.specs.Prelude.{◌≡◌, ◌<◌, ◌∷◌};
+ghost use Rattle.g1_replay.specs.{[], IfErr, HasDrained, Does, MayStop, more_may_come};
 
 use crate::stop::Stop;
 use g1_core::Call;
@@ -12,9 +10,8 @@ use std::io::Write;
 
 /// What the threads leave, whose regions can be drained.
 pub(crate) trait Drains {
-    ghost use Rattle.std.specs.Prelude.{ℕ, List, [], ◌++◌};
-    ghost use Rattle.g1_layout.specs.Shape.{Shape};
-    ghost use Rattle.g1_trace.specs.declared.command.Command.{Command};
+    ghost use Rattle.std.specs.Prelude.{◌++◌};
+    ghost use Rattle.g1_replay.specs.Prelude.{ℕ, List, [], Shape, Command};
 
     /// The heap that it is of.
     ghost layout: { Self → Shape };

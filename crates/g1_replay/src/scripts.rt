@@ -1,7 +1,6 @@
 //! The scripts of a crew or a race: what each of its threads is to do, and why one was refused.
-ghost use Rattle.std.specs.Prelude.{◌≡◌, IfOk};
-ghost use Rattle.std.specs.List.{filter_map};
-ghost use Rattle.g1_replay.specs.Scripts.{asked_in, refusal_in, step_for, IsScriptOf};
+ghost use Rattle.std.specs.Prelude.{◌≡◌};
+ghost use Rattle.g1_replay.specs.{IfOk, filter_map, asked_in, refusal_in, step_for, IsScriptOf};
 
 use g1_history::Refusal;
 use g1_layout::NoMemory;

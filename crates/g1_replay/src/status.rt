@@ -1,6 +1,6 @@
 //! The exit status that tells how a replay ended.
 ghost use Rattle.std.specs.Prelude.{◌≡◌};
-ghost use Rattle.g1_replay.specs.Status.{exit_status};
+ghost use Rattle.g1_replay.specs.{exit_status};
 
 use crate::end::End;
 

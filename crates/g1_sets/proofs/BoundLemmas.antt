@@ -1,17 +1,8 @@
 -- How many cards there can be.
-use Rattle.std.proofs.Common.{◌≡◌, inl, inr, ℕ, suc, ◌<◌, ◌≤◌, ◌+◌, ◌*◌, ◌^◌, false, List, [], ◌∷◌, length, arith, sym, ap, ◌∙◌, subst}
-use Rattle.std.specs.Prelude.{All, Contains, nat_eq, sum_by}
-use Rattle.std.specs.List.{IsDistinct, list_any}
+use Rattle.std.specs.Prelude.{◌≡◌, ◌<◌, ◌≤◌, ◌+◌, ◌*◌, ◌^◌, ◌∷◌}
+use Rattle.g1_sets.specs.{inl, inr, ℕ, suc, false, List, [], length, arith, sym, ap, ◌∙◌, subst, All, Contains, nat_eq, sum_by, IsDistinct, list_any, All-contains, cases_Bool, mul-le, get_or_default, length_push, sum_by-le, sum_by-cons, Shape, IsShape, IsWithinProfile, card_count, card_count_limit, list_at, with_card, AreLists}
 use Rattle.std.proofs.Math.Nat.{mul-le-mul}
-use Rattle.std.proofs.lemmas.List.Elements.{All-contains}
-use Rattle.std.proofs.lemmas.Bool.{cases_Bool}
-use Rattle.std.proofs.lemmas.Nat.{mul-le}
-use Rattle.std.proofs.lemmas.List.{get_or_default, length_push}
-use Rattle.std.proofs.lemmas.List.Sums.{sum_by-le, sum_by-cons}
 use Rattle.std.proofs.lemmas.Map.Steps.{length-le_from_distinct_below}
-use Rattle.g1_layout.specs.Shape.{Shape, IsShape, IsWithinProfile, card_count}
-use Rattle.g1_layout.proofs.ShapeLemmas.{card_count_limit}
-use Rattle.g1_sets.specs.Pairs.{list_at, with_card, AreLists}
 use Rattle.g1_sets.proofs.CardLemmas.{in_list, with_card-new, IsDistinct-with_card, All-with_card}
 
 -- a list is no longer than there are cards

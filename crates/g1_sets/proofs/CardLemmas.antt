@@ -1,13 +1,7 @@
 -- A list of cards in which one or several others are inserted.
-use Rattle.std.proofs.Common.{◌≡◌, ◌⊎◌, inl, inr, ℕ, zero, suc, Bool, true, false, List, [], ◌∷◌, ◌++◌, get_or, refl, sym, ap, ◌∙◌, subst, arith}
-use Rattle.std.specs.Prelude.{Contains, All, nat_eq, if◌then◌else◌}
-use Rattle.std.specs.Cmp.{nat_eq_equiv}
-use Rattle.std.specs.List.{IsDistinct, list_any}
-use Rattle.std.proofs.lemmas.Bool.{eqb-true, true≢false}
-use Rattle.std.proofs.lemmas.List.Elements.{Contains-append_left, Contains-push, Contains-push_cases, Contains-get_or, All-contains, All-push}
-use Rattle.std.proofs.lemmas.Map.Keys.{IsDistinct-push}
+use Rattle.std.specs.Prelude.{◌≡◌, ◌⊎◌, ◌∷◌, ◌++◌, if◌then◌else◌}
+use Rattle.g1_sets.specs.{inl, inr, ℕ, zero, suc, Bool, true, false, List, [], get_or, refl, sym, ap, ◌∙◌, subst, arith, Contains, All, nat_eq, nat_eq_equiv, IsDistinct, list_any, eqb-true, true≢false, Contains-append_left, Contains-push, Contains-push_cases, Contains-get_or, All-contains, All-push, IsDistinct-push, with_card, with_cards}
 use Rattle.std.proofs.lemmas.Map.Views.{Contains-from_any, list_any-from_Contains}
-use Rattle.g1_sets.specs.Pairs.{with_card, with_cards}
 
 -- the test finds just the cards of the list
 pub in_list : (cards : List ℕ) (card : ℕ) → list_any (nat_eq card) cards ≡ true → Contains cards card

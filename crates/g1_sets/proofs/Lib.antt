@@ -9,3 +9,7 @@ pub mod RoomLemmas
 pub mod RowLemmas
 pub mod SetLemmas
 pub mod TotalLemmas
+use PairLemmas.*
+use RoomLemmas.*
+use RowLemmas.*
+use SetLemmas.*

@@ -1,12 +1,6 @@
 -- The lists by region: what they contain, before and after a card is inserted.
-use Rattle.std.proofs.Common.{◌≡◌, ◌⊎◌, inl, inr, ℕ, zero, suc, ◌<◌, List, [], ◌∷◌, ◌++◌, length, refl, sym, ap, ◌∙◌, subst, arith, length-set}
-use Rattle.std.specs.Prelude.{Contains, All, nat_eq, slice_set, replicate}
-use Rattle.std.specs.List.{IsDistinct}
-use Rattle.std.proofs.lemmas.Bool.{cases_eq}
-use Rattle.std.proofs.lemmas.List.{get_or-set_same, get_or-set_other, length-replicate}
-use Rattle.std.proofs.lemmas.List.Elements.{Contains-append_left, Contains-append_right, Contains-append_cases, Contains-push, Contains-push_cases}
-use Rattle.g1_layout.specs.Shape.{Shape, card_count}
-use Rattle.g1_sets.specs.Pairs.{list_at, with_card, Joins, AreLists}
+use Rattle.std.specs.Prelude.{◌≡◌, ◌⊎◌, ◌<◌, ◌∷◌, ◌++◌}
+use Rattle.g1_sets.specs.{inl, inr, ℕ, zero, suc, List, [], length, refl, sym, ap, ◌∙◌, subst, arith, length-set, Contains, All, nat_eq, slice_set, replicate, IsDistinct, cases_eq, get_or-set_same, get_or-set_other, length-replicate, Contains-append_left, Contains-append_right, Contains-append_cases, Contains-push, Contains-push_cases, Shape, card_count, list_at, with_card, Joins, AreLists}
 use Rattle.g1_sets.proofs.CardLemmas.{has_cases, Contains-with_card, Contains-with_card_old, Contains-with_card_cases, IsDistinct-with_card, All-with_card, with_card-again}
 
 pub list_at-set_same : (lists : List (List ℕ)) (region : ℕ) (cards : List ℕ) (r : ℕ) → region < length lists → r ≡ region → list_at (slice_set lists region cards) r ≡ cards

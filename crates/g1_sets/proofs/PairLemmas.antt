@@ -1,15 +1,8 @@
 -- The set of the pairs that the lists by region make up.
-use Rattle.std.proofs.Common.{◌≡◌, ◌⊎◌, inl, inr, ℕ, zero, suc, ◌<◌, ◌+◌, true, false, eqb, List, [], ◌∷◌, length, map, refl, sym, ap, ◌∙◌, subst, arith, Vec, Global}
-use Rattle.std.specs.Prelude.{Contains, not, nat_eq, slice_set, replicate, Result, Ok, Err, IfOk}
+use Rattle.std.specs.Prelude.{◌≡◌, ◌⊎◌, ◌<◌, ◌+◌, ◌∷◌}
+use Rattle.g1_sets.specs.{inl, inr, ℕ, zero, suc, true, eqb, List, [], length, map, refl, sym, ap, ◌∙◌, subst, arith, Vec, Global, Contains, not, nat_eq, slice_set, replicate, Result, Ok, Err, IfOk, cases_eq, or_cases, or_left, or_right, and_parts, and_from, eq-eqb, ne_eqb, not-true, true≢false, Contains-append_left, Contains-append_right, Contains-append_cases, list_any, Shape, pair_cmp, PairSet, list_at, of_card, of_region, without, with_cards, pairs_from, pairs_of, Joins, AreCardsOf, AreLists, AreTied, AreInOrder}
 use Rattle.std.specs.FinSet as set
-use Rattle.std.proofs.lemmas.Bool.{cases_eq, or_cases, or_left, or_right, and_parts, and_from, eq-eqb, ne_eqb, not-true, true≢false}
-use Rattle.std.proofs.lemmas.List.Elements.{Contains-append_left, Contains-append_right, Contains-append_cases}
-use Rattle.std.specs.List.{list_any}
-use Rattle.g1_layout.specs.Shape.{Shape}
-use Rattle.g1_layout.specs.Sets.{pair_cmp, PairSet}
 pub use Rattle.g1_layout.proofs.SetLemmas.{pair_exact, same_bools, same_pairs, pair_total, in_pairs, to_pairs, of_card_from, of_card_to}
-use Rattle.g1_sets.specs.Pairs.{list_at, of_card, of_region, without, with_cards, pairs_from, pairs_of, Joins, AreCardsOf, AreLists, AreTied}
-use Rattle.g1_sets.specs.Ascending.{AreInOrder}
 use Rattle.g1_sets.proofs.ListLemmas.{joins_cases, joins_old, joins_new, list_at-set_same, list_at-set_other}
 use Rattle.g1_sets.proofs.CardLemmas.{in_list, to_list, Contains-with_cards, Contains-with_cards_old, Contains-with_cards_cases}
 

@@ -1,12 +1,6 @@
 -- Room for a card in the sets of some regions.
-use Rattle.std.proofs.Common.{◌≡◌, ◌⊎◌, inl, inr, ℕ, ◌<◌, ◌≤◌, ◌+◌, List, length, get_or, take, ap, ◌∙◌, subst, arith}
-use Rattle.std.specs.Prelude.{slice_set, slice_index}
-use Rattle.std.proofs.lemmas.Bool.{cases_eq}
-use Rattle.std.proofs.lemmas.List.{get_or-set_same, get_or-set_other}
-use Rattle.std.proofs.lemmas.List.Elements.{All-more}
-use Rattle.g1_layout.specs.declared.region_set.RegionSet.{RegionSet}
-use Rattle.g1_layout.specs.Regions.{HasRegion, Gains}
-use Rattle.g1_sets.specs.Members.{HaveRoom}
+use Rattle.std.specs.Prelude.{◌≡◌, ◌⊎◌, ◌<◌, ◌≤◌, ◌+◌}
+use Rattle.g1_sets.specs.{inl, inr, ℕ, List, length, get_or, take, ap, ◌∙◌, subst, arith, slice_set, slice_index, cases_eq, get_or-set_same, get_or-set_other, All-more, RegionSet, HasRegion, Gains, HaveRoom}
 
 -- one region more that is in the row, or has room
 pub room_more : (row : RegionSet) (rooms regions : List ℕ) (i region : ℕ) → i < length regions → region ≡ get_or regions i region → HasRegion row region ⊎ 0 < slice_index rooms region → HaveRoom row rooms (take i regions)

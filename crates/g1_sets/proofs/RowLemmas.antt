@@ -1,14 +1,6 @@
 -- The rows of cards, as cards join lists and leave them.
-use Rattle.std.proofs.Common.{◌≡◌, inl, inr, ℕ, ◌<◌, List, [], ◌∷◌, ◌++◌, length, get_or, sym, ap, ◌∙◌, subst, arith, length-set}
-use Rattle.std.specs.Prelude.{All, Contains, slice_set, replicate}
-use Rattle.std.proofs.lemmas.Bool.{cases_eq}
-use Rattle.std.proofs.lemmas.List.{get_or-set_same, get_or-set_other, get_or_default, get_or-replicate, length-replicate}
-use Rattle.std.proofs.lemmas.List.Elements.{Contains-append_left, Contains-push, Contains-push_cases}
-use Rattle.g1_layout.specs.Shape.{Shape, card_count}
-use Rattle.g1_layout.specs.declared.region_set.RegionSet.{RegionSet}
-use Rattle.g1_layout.specs.Regions.{HasRegion, Gains, Loses}
-use Rattle.g1_sets.specs.Pairs.{list_at, with_card, with_cards, Joins}
-use Rattle.g1_sets.specs.Rows.{row_at, IsRowOf, AreSets, RowsGain, RowsLose}
+use Rattle.std.specs.Prelude.{◌≡◌, ◌<◌, ◌∷◌, ◌++◌}
+use Rattle.g1_sets.specs.{inl, inr, ℕ, List, [], length, get_or, sym, ap, ◌∙◌, subst, arith, length-set, All, Contains, slice_set, replicate, cases_eq, get_or-set_same, get_or-set_other, get_or_default, get_or-replicate, length-replicate, Contains-append_left, Contains-push, Contains-push_cases, Shape, card_count, RegionSet, HasRegion, Gains, Loses, list_at, with_card, with_cards, Joins, row_at, IsRowOf, AreSets, RowsGain, RowsLose}
 use Rattle.g1_sets.proofs.ListLemmas.{list_at-set_same, list_at-set_other, joins_cases, joins_old, joins_lists, replaced_lists, emptied_lists, none_listed, empty_lists}
 use Rattle.g1_sets.proofs.CardLemmas.{Contains-with_card, IsDistinct-with_cards, All-with_cards}
 use Rattle.g1_sets.proofs.PairLemmas.{in_none, many_cases, many_old, many_new}

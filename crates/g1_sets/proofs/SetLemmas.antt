@@ -1,13 +1,8 @@
 -- A write of one region's set, seen in the lists and in the room of all.
-use Rattle.std.proofs.Common.{◌≡◌, inr, ℕ, ◌<◌, ◌≤◌, ◌+◌, List, [], ◌∷◌, ◌++◌, length, get_or, take, drop, refl, sym, ap, ◌∙◌, subst, arith}
-use Rattle.std.specs.Prelude.{All, Contains, sum_by, slice_set, slice_index, Result, Ok, Err, OnErr}
+use Rattle.std.specs.Prelude.{◌≡◌, ◌<◌, ◌≤◌, ◌+◌, ◌∷◌, ◌++◌}
+use Rattle.g1_sets.specs.{inr, ℕ, List, [], length, get_or, take, drop, refl, sym, ap, ◌∙◌, subst, arith, All, Contains, sum_by, slice_set, slice_index, Result, Ok, Err, OnErr, length-map, get_or-map, get_or-set_same, map-set, take_more, sum_by_push, sum_by-take-le, IndexSet, keys, spare, list_at, with_card, Joins, RegionSet, lists_of, rooms_of, HaveRoom}
 use Rattle.std.proofs.Math.Seq.{map-set_same, take-append_seam}
-use Rattle.std.proofs.lemmas.List.{length-map, length-set, get_or-map, get_or-set_same, map-set, take_more}
-use Rattle.std.proofs.lemmas.List.Sums.{sum_by_push, sum_by-take-le}
-use Rattle.indexmap.specs.IndexSet.{IndexSet, keys, spare}
-use Rattle.g1_sets.specs.Pairs.{list_at, with_card, Joins}
-use Rattle.g1_layout.specs.declared.region_set.RegionSet.{RegionSet}
-use Rattle.g1_sets.specs.Members.{lists_of, rooms_of, HaveRoom}
+use Rattle.std.proofs.lemmas.List.{length-set}
 use Rattle.g1_sets.proofs.ListLemmas.{joins_more, list_at-set_same, list_at-set_other}
 use Rattle.g1_sets.proofs.CardLemmas.{with_card-there, to_list}
 use Rattle.g1_sets.proofs.RoomLemmas.{room_more, room_grown}

@@ -1,15 +1,7 @@
 -- How many pairs the lists make up.
-use Rattle.std.proofs.Common.{◌≡◌, inl, inr, ℕ, suc, ◌+◌, false, cond, List, [], ◌∷◌, ◌++◌, length, get_or, map, refl, sym, ap, ◌∙◌, arith}
-use Rattle.std.specs.Prelude.{Contains, nat_eq, sum_by}
-use Rattle.std.specs.Cmp.{nat_eq_equiv}
-use Rattle.std.specs.List.{IsDistinct}
+use Rattle.std.specs.Prelude.{◌≡◌, ◌+◌, ◌∷◌, ◌++◌}
+use Rattle.g1_sets.specs.{inl, inr, ℕ, suc, false, cond, List, [], length, get_or, map, refl, sym, ap, ◌∙◌, arith, Contains, nat_eq, sum_by, nat_eq_equiv, IsDistinct, cases_Bool, true≢false, Contains-append_cases, sum_by-cons, apart_from_distinct, IsDistinct-tail, pair_cmp, PairSet, list_at, pairs_from, pairs_of}
 use Rattle.std.specs.FinSet as set
-use Rattle.std.proofs.lemmas.Bool.{cases_Bool, true≢false}
-use Rattle.std.proofs.lemmas.List.Elements.{Contains-append_cases}
-use Rattle.std.proofs.lemmas.List.Sums.{sum_by-cons}
-use Rattle.std.proofs.lemmas.Map.Keys.{apart_from_distinct, IsDistinct-tail}
-use Rattle.g1_layout.specs.Sets.{pair_cmp, PairSet}
-use Rattle.g1_sets.specs.Pairs.{list_at, pairs_from, pairs_of}
 use Rattle.g1_sets.proofs.PairLemmas.{pair_total, in_pairs, row_from, from_pairs}
 
 -- the head of a list without repeats is not in its tail

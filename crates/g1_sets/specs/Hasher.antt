@@ -1,5 +1,6 @@
 -- What the hasher of cards computes.
-use Rattle.std.specs.Prelude.{ℕ, ◌+◌, ◌*◌, ◌%◌, ◌^◌, List, slice_index}
+use Rattle.std.specs.Prelude.{◌+◌, ◌*◌, ◌%◌, ◌^◌}
+use Rattle.g1_sets.specs.Prelude.{ℕ, List, slice_index}
 
 -- the first four bytes as a number, the lowest first
 abbrev pub first_four : List ℕ → ℕ

@@ -1,8 +1,7 @@
 -- The sets of all regions by their cards and by their room.
-use Rattle.std.specs.Prelude.{◌⊎◌, ◌<◌, ℕ, List, map, slice_index, All}
-use Rattle.indexmap.specs.IndexSet.{IndexSet, keys, spare}
-use Rattle.g1_layout.specs.declared.region_set.RegionSet.{RegionSet}
-use Rattle.g1_layout.specs.Regions.{HasRegion}
+use Rattle.std.specs.Prelude.{◌⊎◌, ◌<◌}
+use Rattle.g1_sets.specs.Prelude.{ℕ, List, map, slice_index, All, IndexSet, keys, spare, RegionSet}
+use Rattle.g1_sets.specs.Prelude.{HasRegion}
 
 -- by region: the cards in the order of their insertion
 abbrev pub lists_of : {S : Type 0} → List (IndexSet ℕ S) → List (List ℕ)

@@ -1,14 +1,12 @@
 -- What contracts see of the remembered sets: the recorded pairs (card, region), and the cards of
 -- each region in the order of their insertion.
-use Rattle.std.specs.Prelude.{◌≡◌, ◌≢◌, ◌↔◌, ◌<◌, ℕ, ◌+◌, ◌==◌, not, List, [], ◌∷◌, ◌++◌, map}
-use Rattle.std.specs.Prelude.{length, fold, slice_index_or, nat_eq, if◌then◌else◌, replicate}
-use Rattle.std.specs.Prelude.{Contains, IsTrue, All, refl}
+use Rattle.std.specs.Prelude.{◌≡◌, ◌≢◌, ◌↔◌, ◌<◌, ◌+◌, ◌==◌, ◌∷◌, ◌++◌, if◌then◌else◌}
+use Rattle.g1_sets.specs.Prelude.{ℕ, not, List, [], map, length, fold, slice_index_or, nat_eq}
+use Rattle.g1_sets.specs.Prelude.{replicate, Contains, IsTrue, All, refl, IsDistinct, list_any}
+use Rattle.g1_sets.specs.Prelude.{IsStrictlyIncreasing, Shape, shape_code, card_count}
+use Rattle.g1_sets.specs.Prelude.{region_of_card, PairSet}
 use Rattle.std.specs.Coded.{Coded, code_by, coded×, coded_list, coded_ℕ}
 use Rattle.std.specs.FinSet as set
-use Rattle.std.specs.List.{IsDistinct, list_any}
-use Rattle.std.specs.List.Sorted.{IsStrictlyIncreasing}
-use Rattle.g1_layout.specs.Shape.{Shape, shape_code, card_count, region_of_card}
-use Rattle.g1_layout.specs.Sets.{PairSet}
 
 pub record Pairs : Type 0 where
   pub layout : Shape

@@ -1,8 +1,7 @@
 -- By card: the regions whose lists have it.
-use Rattle.std.specs.Prelude.{◌≡◌, ◌↔◌, ◌⊎◌, ◌<◌, ℕ, List, [], Contains, length, slice_index_or}
-use Rattle.g1_layout.specs.Shape.{Shape, card_count}
-use Rattle.g1_layout.specs.declared.region_set.RegionSet.{RegionSet}
-use Rattle.g1_layout.specs.Regions.{HasRegion}
+use Rattle.std.specs.Prelude.{◌≡◌, ◌↔◌, ◌⊎◌, ◌<◌}
+use Rattle.g1_sets.specs.Prelude.{ℕ, List, [], Contains, length, slice_index_or, Shape, card_count}
+use Rattle.g1_sets.specs.Prelude.{RegionSet, HasRegion}
 use Rattle.g1_sets.specs.Pairs.{list_at, AreLists}
 
 -- the row of a card

@@ -1,10 +1,8 @@
 //! The set of one region, and the sets of all.
-ghost use Rattle.std.specs.Prelude.{◌≡◌, ◌<◌, ◌≤◌, ◌+◌, ◌^◌, ◌∷◌, [], ℕ, List, length, slice_index};
-ghost use Rattle.std.specs.Prelude.{slice_set, sum_by, All, OnOk, OnErr};
-ghost use Rattle.indexmap.specs.IndexSet.{spare};
-ghost use Rattle.g1_sets.specs.Members.{lists_of, rooms_of, HaveRoom};
-ghost use Rattle.g1_sets.specs.Pairs.{list_at, with_card, with_cards, Joins};
-ghost use Rattle.g1_sets.specs.Rows.{IsRowOf};
+ghost use Rattle.std.specs.Prelude.{◌≡◌, ◌<◌, ◌≤◌, ◌+◌, ◌^◌, ◌∷◌};
+ghost use Rattle.g1_sets.specs.{[], ℕ, List, length, slice_index, slice_set, sum_by, All, OnOk};
+ghost use Rattle.g1_sets.specs.{OnErr, spare, lists_of, rooms_of, HaveRoom, list_at, with_card};
+ghost use Rattle.g1_sets.specs.{with_cards, Joins, IsRowOf};
 
 use crate::hasher::CardHasher;
 use g1_layout::{Card, NoMemory, Region, RegionSet};

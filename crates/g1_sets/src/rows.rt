@@ -1,6 +1,6 @@
 //! By card, the regions whose sets have it.
-ghost use Rattle.std.specs.Prelude.{◌<◌, length, All};
-ghost use Rattle.g1_sets.specs.Rows.{RowsGain, RowsLose};
+ghost use Rattle.std.specs.Prelude.{◌<◌};
+ghost use Rattle.g1_sets.specs.{length, All, RowsGain, RowsLose};
 
 use g1_layout::{Card, Region, RegionSet};
 

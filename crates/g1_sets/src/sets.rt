@@ -1,9 +1,9 @@
 //! The sets of all regions, and what is recorded in them.
-ghost use Rattle.std.specs.Prelude.{◌≡◌, ◌↔◌, ◌<◌, ℕ, length, min, replicate, [], Some, slice_get};
-ghost use Rattle.std.specs.Prelude.{slice_set, All, IsTrue, IfOk, OnOk, OnErr};
+ghost use Rattle.std.specs.Prelude.{◌≡◌, ◌↔◌, ◌<◌};
+ghost use Rattle.g1_sets.specs.Prelude.{ℕ, length, min, replicate, [], Some, slice_get, slice_set};
+ghost use Rattle.g1_sets.specs.Prelude.{All, IsTrue, IfOk, OnOk, OnErr};
 ghost use Rattle.std.specs.FinSet as set;
-ghost use Rattle.g1_layout.specs.Shape.{IsWithinProfile, card_count};
-ghost use Rattle.g1_layout.specs.Regions.{HasRegion};
+ghost use Rattle.g1_sets.specs.Prelude.{IsWithinProfile, card_count, HasRegion};
 ghost use Rattle.g1_sets.specs.Members.{lists_of};
 ghost use Rattle.g1_sets.specs.Pairs.{list_at, of_card, of_region, with_cards, without, new_pairs};
 ghost use Rattle.g1_sets.specs.Pairs.{HasOnlyOutside, AreCardsOf, AreTied, Joins};

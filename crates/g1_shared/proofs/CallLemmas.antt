@@ -1,22 +1,10 @@
 -- One call more of a counted book, by one of its callers.
-use Rattle.std.specs.Prelude.{◌≡◌, ◌<◌, ◌≤◌, ◌^◌, ◌↔◌, ℕ, ◌+◌, Bool, true, [], ◌∷◌, ◌++◌, Option, Result, Ok, Err, false, length, count_by, cond, IfOk, OnOk, OnErr, IsSome}
+use Rattle.std.specs.Prelude.{◌≡◌, ◌<◌, ◌≤◌, ◌^◌, ◌↔◌, ◌+◌, ◌∷◌, ◌++◌}
+use Rattle.g1_shared.specs.{ℕ, Bool, true, [], Option, Result, Ok, Err, false, length, count_by, cond, IfOk, OnOk, OnErr, IsSome, sym, ap, ◌∙◌, subst, arith, refl, length-append, Taker, Entry, Shape, IsAsked, Refusal, stores_by, History, Totals, IsKept, IsEnteredBy, IsFull, made_of, stored_of, Mutator, CallerCounts, SharedTerms, AreCounted, AreNone, LeadsTo, kept_terms, shared_terms, one_call, is_store, one_store, CallerState, called_once, count_by-le-length, fold-append, Table, IsStep, IsAllowed, table_after}
 use Rattle.std.specs.Result.{IsErr}
-use Rattle.std.proofs.Common.{sym, ap, ◌∙◌, subst, arith, refl, length-append}
-use Rattle.g1_log.specs.declared.ends.Taker.{Taker}
-use Rattle.g1_core.specs.declared.entry.Entry.{Entry}
-use Rattle.g1_layout.specs.Shape.{Shape}
 use Rattle.g1_core.specs.declared.entry.Call.{Call}
 use Rattle.g1_core.specs.declared.entry.Call.TheVariants.{Store, Refine, Target, Pending, Members, Status, Drain, Clear, Redirect}
-use Rattle.g1_history.specs.Asked.{IsAsked}
-use Rattle.g1_history.specs.declared.refusal.Refusal.{Refusal}
 use Rattle.g1_history.specs.declared.refusal.Refusal.TheVariants.{BookFull}
-use Rattle.g1_history.specs.History.{stores_by, History, Totals, IsKept, IsEnteredBy, IsFull, made_of, stored_of}
-use Rattle.g1_steps.specs.declared.steps.mutator.Mutator.{Mutator}
-use Rattle.g1_shared.specs.Counts.{CallerCounts, SharedTerms, AreCounted, AreNone, LeadsTo, kept_terms, shared_terms, one_call, is_store, one_store}
-use Rattle.g1_shared.specs.Callers.{CallerState, called_once}
-use Rattle.std.proofs.lemmas.List.Sums.{count_by-le-length, fold-append}
-use Rattle.g1_core.specs.Table.{Table}
-use Rattle.g1_core.specs.Run.{IsStep, IsAllowed, table_after}
 use Rattle.g1_core.proofs.RunLemmas.{permitted_push}
 use Rattle.g1_shared.proofs.CountLemmas.{stores_more}
 

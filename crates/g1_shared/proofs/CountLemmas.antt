@@ -1,21 +1,7 @@
 -- How counts grow.
-use Rattle.std.proofs.Common.{◌≡◌, ℕ, ◌+◌, ◌-◌, ◌/◌, ◌≤◌, Bool, true, false, cond, if◌then◌else◌, nat_lt, Option, Some, None, List, [], ◌∷◌, ◌++◌, length, map, refl, sym, subst, ap, ◌∙◌, arith, append_assoc, append-nil, length-append}
-use Rattle.std.specs.Prelude.{count_by, Result, Ok, Err, IfOk, OnErr}
-use Rattle.std.proofs.lemmas.List.{length-map}
-use Rattle.std.proofs.lemmas.List.Sums.{sum_by-append}
-use Rattle.g1_layout.specs.Shape.{Shape}
-use Rattle.g1_log.specs.declared.parcel.Parcel.{Parcel}
-use Rattle.g1_log.specs.declared.ends.Taker.{Taker}
-use Rattle.g1_log.specs.Ends.{taken_of}
-use Rattle.g1_core.specs.declared.reply.RefineReply.{RefineReply}
-use Rattle.g1_core.specs.declared.entry.Entry.{Entry}
-use Rattle.g1_history.specs.declared.refusal.Refusal.{Refusal}
-use Rattle.g1_steps.specs.Made.{CallMade, Refused}
-use Rattle.g1_steps.specs.Steps.{GainsAtMost, IsTake, IsRefinement}
+use Rattle.std.specs.Prelude.{◌≡◌, ◌+◌, ◌-◌, ◌/◌, ◌≤◌, if◌then◌else◌, ◌∷◌, ◌++◌}
+use Rattle.g1_shared.specs.{ℕ, Bool, true, false, cond, nat_lt, Option, Some, None, List, [], length, map, refl, sym, subst, ap, ◌∙◌, arith, append_assoc, append-nil, length-append, count_by, Result, Ok, Err, IfOk, OnErr, length-map, sum_by-append, Shape, Parcel, Taker, taken_of, RefineReply, Entry, Refusal, CallMade, Refused, GainsAtMost, IsTake, IsRefinement, Turn, turn_call, round_calls, round_size, IsRound, CallerCounts, one_call, counts_after, counts_after_then, CountsDid, is_store, MakesFor}
 use Rattle.g1_steps.proofs.StepLemmas.{gains_nothing, gains_single}
-use Rattle.g1_steps.specs.Rounds.{Turn, turn_call, round_calls, round_size, IsRound}
-use Rattle.g1_shared.specs.Counts.{CallerCounts, one_call, counts_after, counts_after_then, CountsDid, is_store}
-use Rattle.g1_shared.specs.Callers.{MakesFor}
 
 -- how many stores there are with one entry more
 pub stores_more : (es now : List Entry) (e : Entry) (n : ℕ) → n ≡ count_by is_store es → now ≡ es ++ e ∷ [] → n + cond (is_store e) 1 0 ≡ count_by is_store now

@@ -1,17 +1,6 @@
 -- What a round does at a shared book, and at a desk of it.
-use Rattle.std.proofs.Common.{◌≡◌, ◌+◌, ◌≤◌, ℕ, List, [], ◌∷◌, refl, subst, arith}
-use Rattle.std.specs.Prelude.{Result, Ok, Err, IfOk, OnOk}
-use Rattle.g1_log.specs.declared.line.Line.{Line}
-use Rattle.g1_log.specs.declared.parcel.Parcel.{Parcel}
-use Rattle.g1_log.specs.Ends.{capacity_of}
-use Rattle.g1_core.specs.declared.reply.RefineReply.{RefineReply}
-use Rattle.g1_history.specs.declared.refusal.Refusal.{Refusal}
-use Rattle.g1_shared.specs.Counts.{SharedTerms}
-use Rattle.g1_steps.specs.Made.{CallMade}
-use Rattle.g1_steps.specs.Rounds.{IsRound, round_size}
-use Rattle.g1_steps.specs.Ask.{AskWork}
-use Rattle.g1_shared.specs.Callers.{CallerState, IsRoundAt, caller_mark, taken_list}
-use Rattle.g1_shared.specs.Did.{DeskDid}
+use Rattle.std.specs.Prelude.{◌≡◌, ◌+◌, ◌≤◌, ◌∷◌}
+use Rattle.g1_shared.specs.{ℕ, List, [], refl, subst, arith, Result, Ok, Err, IfOk, OnOk, Line, Parcel, capacity_of, RefineReply, Refusal, SharedTerms, CallMade, IsRound, round_size, AskWork, CallerState, IsRoundAt, caller_mark, taken_list, DeskDid}
 use Rattle.g1_shared.proofs.CountLemmas.{round_as, round_makes}
 
 -- the same round, of whose calls something else is told, and of whose start another name is known

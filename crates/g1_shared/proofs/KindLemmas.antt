@@ -1,17 +1,6 @@
 -- What is known of the kind of a store under a lock.
-use Rattle.std.proofs.Common.{◌≡◌, ℕ, Bool, List, ◌∷◌, Option, Some, None, refl, sym, ap, subst, ◌∙◌}
-use Rattle.std.specs.Prelude.{Result, Ok, Err, IfOk}
-use Rattle.g1_layout.specs.Shape.{Shape}
-use Rattle.g1_layout.specs.declared.kind.Kind.{Kind}
-use Rattle.g1_core.specs.declared.reply.StoreReply.{StoreReply}
-use Rattle.g1_core.specs.Run.{kind_of}
-use Rattle.g1_history.specs.declared.refusal.Refusal.{Refusal}
-use Rattle.g1_history.specs.History.{History, Terms, table_in}
-use Rattle.g1_shared.specs.Counts.{SharedTerms}
-use Rattle.g1_steps.specs.Made.{CallMade, Stored}
-use Rattle.g1_steps.specs.Steps.{Help, IsStored, help_calls, store_answer}
-use Rattle.g1_shared.specs.Answers.{IsKindAt, AreAnswersAt}
-use Rattle.g1_shared.specs.Counts.{AreCounted}
+use Rattle.std.specs.Prelude.{◌≡◌, ◌∷◌}
+use Rattle.g1_shared.specs.{ℕ, Bool, List, Option, Some, None, refl, sym, ap, subst, ◌∙◌, Result, Ok, Err, IfOk, Shape, Kind, StoreReply, kind_of, Refusal, History, Terms, table_in, SharedTerms, CallMade, Stored, Help, IsStored, help_calls, store_answer, IsKindAt, AreAnswersAt, AreCounted}
 
 -- the kind of a store at a counted book
 pub kind_at : (keeps : Bool) (terms : SharedTerms) (made stored : ℕ) (h : History) (slot : ℕ) (target : Option ℕ) (kind : Kind)

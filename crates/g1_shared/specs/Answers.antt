@@ -1,13 +1,8 @@
 -- The answers of calls under a lock: of the state there only the heap is known.
-use Rattle.std.specs.Prelude.{◌≡◌, ℕ, List, [], ◌∷◌, ◌++◌, Option}
-use Rattle.g1_layout.specs.Shape.{Shape}
-use Rattle.g1_layout.specs.declared.kind.Kind.{Kind}
-use Rattle.g1_core.specs.Machine.{State}
+use Rattle.std.specs.Prelude.{◌≡◌, ◌∷◌, ◌++◌}
+use Rattle.g1_shared.specs.Prelude.{ℕ, List, [], Option, Shape, Kind, State, Table, kind_of}
+use Rattle.g1_shared.specs.Prelude.{RefineReply, CallMade, Stored, Refined, Refused}
 use Rattle.g1_core.specs.Refinement.{IsRefined}
-use Rattle.g1_core.specs.Table.{Table}
-use Rattle.g1_core.specs.Run.{kind_of}
-use Rattle.g1_core.specs.declared.reply.RefineReply.{RefineReply}
-use Rattle.g1_steps.specs.Made.{CallMade, Stored, Refined, Refused}
 
 -- The kind is that of such a store at some table of this heap: null or within a region where the
 -- store is, and else dirty or logged.

@@ -1,24 +1,14 @@
 -- A caller of a shared book as contracts see it, and what the steps do to it.
-use Rattle.std.specs.Prelude.{◌≡◌, ℕ, ◌+◌, ◌<◌, ◌≤◌, ◌⊎◌, Bool, true, false, List, [], ◌∷◌, ◌++◌}
-use Rattle.std.specs.Prelude.{length, Option, Some, None, IfSome, IsSome, Result, OnOk, OnErr}
-use Rattle.g1_layout.specs.Shape.{Shape}
-use Rattle.g1_log.specs.declared.line.Line.{Line}
-use Rattle.g1_log.specs.declared.ends.Taker.{Taker}
+use Rattle.std.specs.Prelude.{◌≡◌, ◌+◌, ◌<◌, ◌≤◌, ◌⊎◌, ◌∷◌, ◌++◌}
+use Rattle.g1_shared.specs.Prelude.{ℕ, Bool, true, false, List, [], length, Option, Some, None}
+use Rattle.g1_shared.specs.Prelude.{IfSome, IsSome, Result, OnOk, OnErr, Shape, Line, Taker, Parcel}
+use Rattle.g1_shared.specs.Prelude.{line_home, capacity_of, put_of, taken_of, StoreReply, IsLent}
+use Rattle.g1_shared.specs.Prelude.{RefineReply, No, Full, Helped, Mutator, Refusal, IsRefinement}
+use Rattle.g1_shared.specs.Prelude.{IsRound, round_size, IsNewMutator}
 use Rattle.g1_log.specs.declared.buffer.Buffer.{Buffer}
-use Rattle.g1_log.specs.declared.parcel.Parcel.{Parcel}
 use Rattle.g1_log.specs.Log.{Cards}
-use Rattle.g1_log.specs.Ends.{line_home, capacity_of, put_of, taken_of}
-use Rattle.g1_core.specs.declared.reply.StoreReply.{StoreReply}
-use Rattle.g1_core.specs.Calls.{IsLent}
-use Rattle.g1_core.specs.declared.reply.RefineReply.{RefineReply}
 use Rattle.g1_core.specs.declared.reply.Fill.{Fill}
-use Rattle.g1_core.specs.declared.reply.Fill.TheVariants.{No, Full, Helped}
-use Rattle.g1_steps.specs.declared.steps.mutator.Mutator.{Mutator}
-use Rattle.g1_history.specs.declared.refusal.Refusal.{Refusal}
 use Rattle.g1_shared.specs.Counts.{CallerCounts, SharedTerms, one_call, CountsDid}
-use Rattle.g1_steps.specs.Steps.{IsRefinement}
-use Rattle.g1_steps.specs.Rounds.{IsRound, round_size}
-use Rattle.g1_steps.specs.Opening.{IsNewMutator}
 use Rattle.g1_steps.specs.Marks.{MutatorMark, TakerMark, mutator_mark, taker_mark}
 
 -- A caller: its counts, its log and sender where it is a mutator, and its taker.

@@ -1,17 +1,12 @@
 -- What is counted of a caller: its entries, and the stores among them.
-use Rattle.std.specs.Prelude.{◌≡◌, ℕ, ◌+◌, Bool, true, false, List, [], ◌∷◌, ◌++◌, refl}
-use Rattle.std.specs.Prelude.{length, count_by, fold}
+use Rattle.std.specs.Prelude.{◌≡◌, ◌+◌, ◌∷◌, ◌++◌}
+use Rattle.g1_shared.specs.Prelude.{ℕ, Bool, true, false, List, [], refl, length, count_by, fold}
+use Rattle.g1_shared.specs.Prelude.{Shape, Entry, Machine, IsPermitted, table_after, Table, History}
+use Rattle.g1_shared.specs.Prelude.{Terms, made_of, stored_of, terms_of, table_in, layout_in}
+use Rattle.g1_shared.specs.Prelude.{CallMade, Stored, Refined, Refused}
 use Rattle.std.specs.Coded.{Coded, code_by, coded×, coded_ℕ}
-use Rattle.g1_layout.specs.Shape.{Shape}
 use Rattle.g1_core.specs.declared.config.Settings.{Settings}
-use Rattle.g1_core.specs.declared.entry.Entry.{Entry}
-use Rattle.g1_core.specs.Machine.{Machine}
-use Rattle.g1_core.specs.Run.{IsPermitted, table_after}
-use Rattle.g1_core.specs.Table.{Table}
 use Rattle.g1_history.specs.History as book
-use Rattle.g1_history.specs.History.{History, Terms, made_of, stored_of, terms_of, table_in}
-use Rattle.g1_history.specs.History.{layout_in}
-use Rattle.g1_steps.specs.Made.{CallMade, Stored, Refined, Refused}
 use Rattle.g1_shared.specs.Answers.{AreAnswersAt}
 
 -- whether an entry is that of a store

@@ -1,11 +1,10 @@
 -- What the calls of a worker leave behind at a desk of a shared book.
-use Rattle.std.specs.Prelude.{◌≡◌, ℕ, Bool, cond, ◌+◌, ◌≤◌, List, [], ◌∷◌, ◌++◌, count_by, sum_by}
-use Rattle.std.proofs.Common.{refl, sym, ap, subst, ◌∙◌, arith, append-nil, append_assoc}
-use Rattle.std.proofs.Common.{length-append}
-use Rattle.std.proofs.lemmas.List.Sums.{sum_by-append}
+use Rattle.std.specs.Prelude.{◌≡◌, ◌+◌, ◌≤◌, ◌∷◌, ◌++◌}
+use Rattle.g1_shared.specs.Prelude.{ℕ, Bool, cond, List, [], count_by, sum_by, refl, sym, ap, subst}
+use Rattle.g1_shared.specs.Prelude.{◌∙◌, arith, append-nil, append_assoc, length-append}
+use Rattle.g1_shared.specs.Prelude.{sum_by-append, Ask, AskStore, AskFlush, AskWork, is_store_ask}
+use Rattle.g1_shared.specs.Prelude.{GainsAtMost}
 use Rattle.g1_shared.specs.Callers.{CallerState, MakesFor, caller_mark, mutator_log, taken_list}
-use Rattle.g1_steps.specs.Ask.{Ask, AskStore, AskFlush, AskWork, is_store_ask}
-use Rattle.g1_steps.specs.Steps.{GainsAtMost}
 
 -- how many entries are made for a call at most, where a round makes at most `limit`
 abbrev pub most_for : ℕ → Ask → ℕ

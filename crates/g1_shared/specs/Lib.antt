@@ -1,5 +1,13 @@
+-- The root passes on what its modules have and what stands in Prelude.
+pub mod Prelude
 pub mod Answers
 pub mod Callers
 pub mod Counts
 pub mod Did
 pub mod Stores
+pub use Prelude.*
+pub use Answers.*
+pub use Callers.*
+pub use Counts.*
+pub use Did.*
+pub use Stores.*

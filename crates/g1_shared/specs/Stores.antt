@@ -1,10 +1,7 @@
 -- What a store by a caller of a shared book does to the caller.
-use Rattle.std.specs.Prelude.{◌≡◌, ◌+◌, ◌↔◌, ℕ, IsNone, IfSome}
-use Rattle.g1_log.specs.declared.line.Line.{Line}
-use Rattle.g1_core.specs.Barrier.{logged, buffer_of}
-use Rattle.g1_core.specs.declared.reply.StoreReply.{StoreReply}
-use Rattle.g1_core.specs.declared.reply.Fill.TheVariants.{No, Helped}
-use Rattle.g1_steps.specs.Steps.{MayRefuse}
+use Rattle.std.specs.Prelude.{◌≡◌, ◌+◌, ◌↔◌}
+use Rattle.g1_shared.specs.Prelude.{ℕ, IsNone, IfSome, Line, logged, buffer_of, StoreReply, No}
+use Rattle.g1_shared.specs.Prelude.{Helped, MayRefuse}
 use Rattle.g1_shared.specs.Callers.{CallerState, IsStoreAt, caller_log}
 
 -- A store of this card counts once, and its log goes into the queue where the card fills it, or the

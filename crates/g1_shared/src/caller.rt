@@ -90,7 +90,8 @@ pub struct Caller<M: Terms, S: Ledger> {
 }
 
 impl<M: Terms, S: Ledger> Model for Caller<M, S> {
-    ghost use Rattle.std.specs.Prelude.{◌<◌, IsSome};
+    ghost use Rattle.std.specs.Prelude.{◌<◌};
+    ghost use Rattle.g1_shared.specs.Prelude.{IsSome};
     ghost use Rattle.g1_shared.specs.Callers.{CallerState};
 
     ghost Value = { CallerState };

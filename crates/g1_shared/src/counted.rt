@@ -1,8 +1,8 @@
 //! A book with the ledgers of its calls and of its stores: what a shared book keeps under its lock.
 //! Its calls are in [`calls`](crate::calls).
 ghost use Rattle.std.specs.Prelude.{◌≡◌};
+ghost use Rattle.g1_shared.specs.Prelude.{made_of, stored_of, terms_of, table_in};
 ghost use Rattle.g1_shared.specs.Counts.{AreCounted, LeadsTo, kept_terms};
-ghost use Rattle.g1_history.specs.History.{made_of, stored_of, terms_of, table_in};
 
 use crate::ledgers::Terms;
 use g1_history::{Book, Keeps, Kept};
@@ -24,7 +24,7 @@ pub struct Counted<M: Terms, S: Ledger, H: Keeps = Kept> {
 
 impl<M: Terms, S: Ledger, H: Keeps> Model for Counted<M, S, H> {
     ghost use Rattle.g1_shared.specs.Counts.{AreCounted};
-    ghost use Rattle.g1_history.specs.History.{History, history_code};
+    ghost use Rattle.g1_shared.specs.Prelude.{History, history_code};
     ghost use Rattle.g1_core.specs.contracts.entry.Entry as entry;
 
     ghost Value = { History };

@@ -20,7 +20,7 @@ pub trait Terms: Ledger {
 }
 
 impl Terms for Brand {
-    ghost use Rattle.g1_history.specs.History.{opened};
+    ghost use Rattle.g1_shared.specs.Prelude.{opened};
     ghost use Rattle.g1_shared.specs.Counts.{shared_terms};
 
     ghost terms = { shared_terms (opened (record { regions = 0; cards = 0; slots = 0 })

@@ -1,6 +1,6 @@
 //! The calls of one caller at a book or core under a lock.
-ghost use Rattle.std.specs.Prelude.{◌≡◌, refl, nat_lt};
-ghost use Rattle.std.proofs.Common.{◌∙◌, ap};
+ghost use Rattle.std.specs.Prelude.{◌≡◌};
+ghost use Rattle.g1_shared.specs.Prelude.{refl, nat_lt, ◌∙◌, ap};
 ghost use Rattle.g1_shared.specs.Counts.{counts_after, counts_after_then, counts_after_number};
 ghost use Rattle.g1_shared.specs.Answers.{AreAnswersAt, answers_then};
 

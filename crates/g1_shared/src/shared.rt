@@ -50,8 +50,8 @@ impl<M: Terms, S: Ledger, H: Keeps> Model for Shared<M, S, H> {
 
 impl<M: Terms, S: Ledger, H: Keeps> Shared<M, S, H> {
     ghost use Rattle.std.specs.Sync.Mutex.{mutex_guard_value};
-    ghost use Rattle.g1_core.specs.Machine.{IsSound};
-    ghost use Rattle.g1_history.specs.History.{IsKept, made_of, stored_of, table_in, terms_of};
+    ghost use Rattle.g1_shared.specs.Prelude.{IsSound, IsKept, made_of, stored_of, table_in};
+    ghost use Rattle.g1_shared.specs.Prelude.{terms_of};
     ghost use Rattle.g1_shared.specs.Counts.{LeadsTo, kept_terms};
 
     /// Waits for the lock, and returns the counted book until the guard is dropped.

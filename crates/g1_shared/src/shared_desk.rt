@@ -1,9 +1,8 @@
 //! A desk at a shared book.
-ghost use Rattle.std.specs.Prelude.{◌≡◌, length, refl, nat_lt};
+ghost use Rattle.std.specs.Prelude.{◌≡◌};
+ghost use Rattle.g1_shared.specs.Prelude.{length, refl, nat_lt, slot_count, card_of, logged};
+ghost use Rattle.g1_shared.specs.Prelude.{capacity_of};
 ghost use Rattle.std.proofs.Props.{props};
-ghost use Rattle.g1_layout.specs.Shape.{slot_count, card_of};
-ghost use Rattle.g1_core.specs.Barrier.{logged};
-ghost use Rattle.g1_log.specs.Ends.{capacity_of};
 ghost use Rattle.g1_shared.specs.Callers.{IsCallerOf, caller_log, IsStoreAt, IsFlushAt, IsRoundAt};
 ghost use Rattle.g1_shared.specs.Did.{IsRefusedAt};
 ghost use Rattle.g1_shared.specs.Answers.{IsKindAt};

@@ -3,3 +3,6 @@ pub mod RoundLemmas
 pub mod ServedLemmas
 pub mod StepLemmas
 pub mod WorkerLemmas
+use ServedLemmas.*
+use StepLemmas.*
+use WorkerLemmas.*

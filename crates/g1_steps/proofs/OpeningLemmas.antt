@@ -1,10 +1,6 @@
 -- Mutators as they begin, with one more.
-use Rattle.std.proofs.Common.{◌≡◌, ℕ, ◌+◌, List, [], ◌∷◌, ◌++◌, length, subst, sym, arith}
-use Rattle.std.specs.List.{All}
-use Rattle.std.proofs.lemmas.List.Elements.{All-nil, All-cons}
-use Rattle.g1_log.specs.declared.line.Line.{Line}
-use Rattle.g1_steps.specs.declared.steps.mutator.Mutator.{Mutator}
-use Rattle.g1_steps.specs.Opening.{IsNewMutator, AreNewMutators}
+use Rattle.std.specs.Prelude.{◌≡◌, ◌+◌, ◌∷◌, ◌++◌}
+use Rattle.g1_steps.specs.{ℕ, List, [], length, subst, sym, arith, All, All-nil, All-cons, Line, Mutator, IsNewMutator, AreNewMutators}
 
 mutators_then : (line : Line) (size k : ℕ) (ms : List Mutator) (m : Mutator) → AreNewMutators line size k ms → IsNewMutator line size (k + length ms) m → AreNewMutators line size k (ms ++ m ∷ [])
 mutators_then line size k [] m all new = let here : k + 0 ≡ k = omega arith in (subst (λ n. IsNewMutator line size n m) here new, tt)

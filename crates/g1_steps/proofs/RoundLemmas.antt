@@ -1,17 +1,8 @@
 -- A round of refinements, call after call.
-use Rattle.std.proofs.Common.{◌≡◌, ◌+◌, ◌<◌, ◌≤◌, ◌⊎◌, inl, inr, ℕ, suc, Bool, true, false, not, List, [], ◌∷◌, ◌++◌, length, map, refl, sym, subst, ap, ◌∙◌, arith, append_assoc, append-nil, length-append, Option, Some, None}
-use Rattle.std.specs.Prelude.{All, IsSome, IsNone}
-use Rattle.std.specs.List.{flat_map}
-use Rattle.std.proofs.lemmas.List.{map-append}
+use Rattle.std.specs.Prelude.{◌≡◌, ◌+◌, ◌<◌, ◌≤◌, ◌⊎◌, ◌∷◌, ◌++◌}
+use Rattle.g1_steps.specs.{inl, inr, ℕ, suc, Bool, true, false, not, List, [], length, map, refl, sym, subst, ap, ◌∙◌, arith, append_assoc, append-nil, length-append, Option, Some, None, All, IsSome, IsNone, flat_map, map-append, All-nil, All-push, Parcel, RefineReply, Refusal, CallMade, Refused, GainsAtMost, FoundEmpty, Turn, turn_call, round_calls, IsRound, IsSumOf, IsRefused, replies_of, parcels_of, AreWholeButLast, Progress, IsNextOf, sums_with}
 use Rattle.std.proofs.lemmas.List.Sums.{sum_by-append}
-use Rattle.std.proofs.lemmas.List.Elements.{All-nil, All-push}
 use Rattle.std.proofs.lemmas.Grind.{flat_map-append}
-use Rattle.g1_log.specs.declared.parcel.Parcel.{Parcel}
-use Rattle.g1_core.specs.declared.reply.RefineReply.{RefineReply}
-use Rattle.g1_history.specs.declared.refusal.Refusal.{Refusal}
-use Rattle.g1_steps.specs.Made.{CallMade, Refused}
-use Rattle.g1_steps.specs.Steps.{GainsAtMost, FoundEmpty}
-use Rattle.g1_steps.specs.Rounds.{Turn, turn_call, round_calls, IsRound, IsSumOf, IsRefused, replies_of, parcels_of, AreWholeButLast, Progress, IsNextOf, sums_with}
 use Rattle.g1_steps.proofs.StepLemmas.{gains_nothing}
 
 -- A round so far: `calls` calls, all of them whole.

@@ -1,16 +1,7 @@
 -- Which steps serve what a worker asked for.
-use Rattle.std.proofs.Common.{ℕ, List, [], ◌∷◌, Option, Some, None, refl, sym, subst, inl, inr, append-nil}
-use Rattle.std.specs.Prelude.{filter, Ok, Err}
-use Rattle.g1_log.specs.declared.parcel.Parcel.{Parcel}
-use Rattle.g1_core.specs.declared.reply.StoreReply.{StoreReply}
-use Rattle.g1_core.specs.declared.reply.RefineReply.{RefineReply}
-use Rattle.g1_history.specs.declared.refusal.Refusal.{Refusal}
-use Rattle.g1_steps.specs.declared.steps.mutator.FlushReply.{FlushReply}
-use Rattle.g1_steps.specs.Made.{CallMade, Stored}
-use Rattle.g1_steps.specs.Steps.{Help, help_calls, IsStored, IsFlushed}
-use Rattle.g1_steps.specs.Rounds.{Turn, round_calls, IsRound}
-use Rattle.g1_steps.specs.Ask.{Ask, AskStore, AskFlush, AskWork}
-use Rattle.g1_steps.specs.Served.{was_made, AreRefinements, IsHelp, Serves, HasServed}
+use Rattle.std.specs.Prelude.{◌∷◌}
+use Rattle.g1_steps.specs.{ℕ, List, [], Option, Some, None, refl, sym, subst, inl, inr, append-nil, filter, Ok, Err, Parcel, StoreReply, RefineReply, Refusal, FlushReply, CallMade, Stored, Help, help_calls, IsStored, IsFlushed, Turn, round_calls, IsRound, AskStore, AskFlush, AskWork, was_made, AreRefinements, IsHelp, Serves, HasServed}
+use Rattle.g1_steps.specs.Ask.{Ask}
 
 -- one thing that was asked for, served by these calls
 served_one : {S : Type 0} (did : S → List CallMade → S → Type 0) (s t : S) (ask : Ask) (calls : List CallMade) → did s calls t → Serves ask (filter was_made calls) → HasServed did s (ask ∷ []) t

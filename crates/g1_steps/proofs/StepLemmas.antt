@@ -1,25 +1,9 @@
 -- What the steps add up to.
-use Rattle.std.proofs.Common.{◌≡◌, ◌+◌, ◌≤◌, ℕ, Bool, true, false, List, [], ◌∷◌, ◌++◌, Option, Some, None, refl, sym, subst, ap, ◌∙◌, inl, inr, arith, append_assoc, append-nil, length, length-append, map, if◌then◌else◌, nat_lt}
+use Rattle.std.specs.Prelude.{◌≡◌, ◌+◌, ◌≤◌, ◌∷◌, ◌++◌, if◌then◌else◌}
+use Rattle.g1_steps.specs.{ℕ, Bool, true, false, List, [], Option, Some, None, refl, sym, subst, ap, ◌∙◌, inl, inr, arith, append_assoc, append-nil, length, length-append, map, nat_lt, SameRegion, Null, AlreadyDirty, Logged, Parcel, Result, Ok, Err, IfOk, IsNone, IsSome, MatchOption, taker_view, taken_of, WasOfLength, WasEmpty, Taker, RefineReply, buffer_of, Full, StoreReply, Entry, store_entry, refine_entry, History, IsEntered, Refusal, CallMade, Stored, Refined, Refused, AreCalls, entries_made, Grows, IsBookCall, Turn, round_calls, replies_of, Help, passed, filled, store_answer, GainsAtMost, Empties, IsTake, IsRefinement}
 use Rattle.g1_layout.specs.declared.kind.Kind.{Kind}
-use Rattle.g1_layout.specs.declared.kind.Kind.TheVariants.{SameRegion, Null, AlreadyDirty, Logged}
-use Rattle.g1_log.specs.declared.parcel.Parcel.{Parcel}
 use Rattle.g1_log.specs.Log.{Cards}
-use Rattle.std.specs.Prelude.{Result, Ok, Err, IfOk, IsNone, IsSome, MatchOption}
 use Rattle.g1_log.specs.Line.{taken_by}
-use Rattle.g1_log.specs.Ends.{taker_view, taken_of, WasOfLength, WasEmpty}
-use Rattle.g1_log.specs.declared.ends.Taker.{Taker}
-use Rattle.g1_core.specs.declared.reply.RefineReply.{RefineReply}
-use Rattle.g1_core.specs.Barrier.{buffer_of}
-use Rattle.g1_core.specs.declared.reply.Fill.TheVariants.{Full}
-use Rattle.g1_core.specs.declared.reply.StoreReply.{StoreReply}
-use Rattle.g1_core.specs.declared.entry.Entry.{Entry}
-use Rattle.g1_core.specs.Calls.{store_entry, refine_entry}
-use Rattle.g1_history.specs.History.{History, IsEntered}
-use Rattle.g1_history.specs.declared.refusal.Refusal.{Refusal}
-use Rattle.g1_steps.specs.Made.{CallMade, Stored, Refined, Refused, AreCalls, entries_made}
-use Rattle.g1_steps.specs.Lent.{Grows, IsBookCall}
-use Rattle.g1_steps.specs.Rounds.{Turn, round_calls, replies_of}
-use Rattle.g1_steps.specs.Steps.{Help, passed, filled, store_answer, GainsAtMost, Empties, IsTake, IsRefinement}
 
 handed_by : (filled : Bool) (cards buffer : List ℕ) → (if filled then None else Some cards) ≡ Some buffer → buffer ≡ cards
 handed_by true cards buffer is = cc

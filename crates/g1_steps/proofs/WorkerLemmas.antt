@@ -1,9 +1,6 @@
 -- Lists of asks, threads and jobs with one more.
-use Rattle.std.proofs.Common.{◌≡◌, ℕ, ◌+◌, ◌<◌, List, [], ◌∷◌, ◌++◌, length, take, get_or, map, sym, ap, ◌∙◌, append_assoc}
-use Rattle.std.proofs.lemmas.List.{take_more, map-append}
-use Rattle.std.specs.List.{AllZip}
-use Rattle.g1_steps.specs.declared.crew.desk.Step.{Step}
-use Rattle.g1_steps.specs.Ask.{ask_of, asks_of}
+use Rattle.std.specs.Prelude.{◌≡◌, ◌+◌, ◌<◌, ◌∷◌, ◌++◌}
+use Rattle.g1_steps.specs.{ℕ, List, [], length, take, get_or, map, sym, ap, ◌∙◌, append_assoc, take_more, map-append, AllZip, Step, ask_of, asks_of}
 
 pub asks_more : (steps : List Step) (i : ℕ) (d : Step) → i < length steps → asks_of (take (i + 1) steps) ≡ asks_of (take i steps) ++ ask_of (get_or steps i d) ∷ []
 asks_more steps i d h =

@@ -1,6 +1,6 @@
 -- What a worker asks of its desk.
-use Rattle.std.specs.Prelude.{◌≡◌, ℕ, ◌<◌, Bool, true, false, List, map, replicate, All, Option}
-use Rattle.std.specs.Prelude.{IfSome}
+use Rattle.std.specs.Prelude.{◌≡◌, ◌<◌}
+use Rattle.g1_steps.specs.Prelude.{ℕ, Bool, true, false, List, map, replicate, All, Option, IfSome}
 use Rattle.g1_steps.specs.declared.crew.desk.Step.{Step}
 use Rattle.g1_steps.specs.declared.crew.desk.Step.TheVariants.{Store, Flush}
 use Rattle.g1_steps.specs.declared.crew.desk.Script.{Script}

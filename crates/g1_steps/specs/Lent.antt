@@ -1,10 +1,8 @@
 -- What calls do to a book that is lent.
-use Rattle.std.specs.Prelude.{◌≡◌, ◌≢◌, ◌↔◌, ℕ, Bool, true, List, [], ◌∷◌, ◌++◌}
-use Rattle.std.proofs.Common.{◌∙◌, ap}
-use Rattle.g1_core.specs.declared.entry.Entry.{Entry}
-use Rattle.g1_core.specs.Calls.{store_entry, refine_entry, DoesStore, DoesRefine}
-use Rattle.g1_history.specs.declared.refusal.Refusal.TheVariants.{BookFull}
-use Rattle.g1_history.specs.History.{History, IsEnteredBy, IsFull, made_of, terms_of}
+use Rattle.std.specs.Prelude.{◌≡◌, ◌≢◌, ◌↔◌, ◌∷◌, ◌++◌}
+use Rattle.g1_steps.specs.Prelude.{ℕ, Bool, true, List, [], ◌∙◌, ap, Entry, store_entry}
+use Rattle.g1_steps.specs.Prelude.{refine_entry, DoesStore, DoesRefine, BookFull, History}
+use Rattle.g1_steps.specs.Prelude.{IsEnteredBy, IsFull, made_of, terms_of}
 use Rattle.g1_steps.specs.Made.{CallMade, Stored, Refined, Refused, AreCalls}
 
 -- The history has just these entries more, on the same terms.

@@ -1,3 +1,5 @@
+-- The root passes on what its modules have and what stands in Prelude.
+pub mod Prelude
 pub mod Ask
 pub mod Lent
 pub mod Made
@@ -7,3 +9,16 @@ pub mod Ran
 pub mod Rounds
 pub mod Served
 pub mod Steps
+pub use Prelude.*
+pub use Ask.*
+pub use Lent.*
+pub use Made.*
+pub use Marks.*
+pub use Opening.*
+pub use Ran.*
+pub use Rounds.*
+pub use Served.*
+pub use Steps.*
+pub use declared.crew.desk.Step.{Step}
+pub use declared.steps.mutator.FlushReply.{FlushReply}
+pub use declared.steps.mutator.Mutator.{Mutator}

@@ -1,11 +1,7 @@
 -- Calls of one caller, as they were answered.
-use Rattle.std.specs.Prelude.{◌≡◌, ℕ, List, [], ◌∷◌, ◌++◌, Option, Result, Ok, Err}
-use Rattle.std.proofs.Common.{sym, subst}
-use Rattle.g1_core.specs.declared.reply.StoreReply.{StoreReply}
-use Rattle.g1_core.specs.declared.reply.RefineReply.{RefineReply}
-use Rattle.g1_core.specs.declared.entry.Entry.{Entry}
-use Rattle.g1_core.specs.Calls.{store_entry, refine_entry}
-use Rattle.g1_history.specs.declared.refusal.Refusal.{Refusal}
+use Rattle.std.specs.Prelude.{◌≡◌, ◌∷◌, ◌++◌}
+use Rattle.g1_steps.specs.Prelude.{ℕ, List, [], Option, Result, Ok, Err, sym, subst, StoreReply}
+use Rattle.g1_steps.specs.Prelude.{RefineReply, Entry, store_entry, refine_entry, Refusal}
 
 -- a store or a refinement with its answer, or a call that was refused
 pub data CallMade : Type 0 where

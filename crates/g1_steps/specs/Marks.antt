@@ -1,8 +1,7 @@
 -- Who a mutator and a taker are, whatever they have logged, put or taken.
-use Rattle.std.specs.Prelude.{ℕ, Option, Some, None}
+use Rattle.g1_steps.specs.Prelude.{ℕ, Option, Some, None, Taker, sender_home, taker_home, number_of}
+use Rattle.g1_steps.specs.Prelude.{sender_rights, taker_rights}
 use Rattle.atomic_table.specs.Seated.{TableId}
-use Rattle.g1_log.specs.declared.ends.Taker.{Taker}
-use Rattle.g1_log.specs.Ends.{sender_home, taker_home, number_of, sender_rights, taker_rights}
 use Rattle.g1_steps.specs.declared.steps.mutator.Mutator.{Mutator}
 
 pub record MutatorMark : Type 0 where

@@ -1,7 +1,6 @@
 -- Callers as they begin.
-use Rattle.std.specs.Prelude.{◌≡◌, ℕ, ◌+◌, List, [], ◌∷◌}
-use Rattle.g1_log.specs.declared.line.Line.{Line}
-use Rattle.g1_log.specs.Ends.{IsNewSender}
+use Rattle.std.specs.Prelude.{◌≡◌, ◌+◌, ◌∷◌}
+use Rattle.g1_steps.specs.Prelude.{ℕ, List, [], Line, IsNewSender}
 use Rattle.g1_steps.specs.declared.steps.mutator.Mutator.{Mutator}
 
 -- Mutator k as it begins: with an empty log of this size, and sender k, which has put nothing.

@@ -1,6 +1,7 @@
 -- What workers make of what they were asked for.
-use Rattle.std.specs.Prelude.{◌≡◌, ℕ, ◌<◌, List, length, take, Option, Some, None, Result, Ok, Err}
-use Rattle.g1_history.specs.declared.refusal.Refusal.{Refusal}
+use Rattle.std.specs.Prelude.{◌≡◌, ◌<◌}
+use Rattle.g1_steps.specs.Prelude.{ℕ, List, length, take, Option, Some, None, Result, Ok, Err}
+use Rattle.g1_steps.specs.Prelude.{Refusal}
 use Rattle.g1_steps.specs.Ask.{Ask}
 
 -- All calls were made; or just those before the one that was refused, of which there are as many as

@@ -1,15 +1,9 @@
 -- What a round of refinements does: its calls, what they add up to, and where it ends.
-use Rattle.std.specs.Prelude.{◌≡◌, ◌≤◌, ◌+◌, ◌-◌, ◌/◌, ◌⊎◌, ℕ, Bool, true, false, List, [], ◌∷◌}
-use Rattle.std.specs.Prelude.{◌++◌, length, map, sum_by, All, nat_lt, not, if◌then◌else◌, Option}
-use Rattle.std.specs.Prelude.{Some, None, IsSome, IsNone, Result, IfOk, IfErr}
-use Rattle.std.specs.List.{flat_map}
-use Rattle.g1_log.specs.declared.ends.Taker.{Taker}
-use Rattle.g1_log.specs.declared.parcel.Parcel.{Parcel}
-use Rattle.g1_log.specs.declared.line.Line.{Line}
-use Rattle.g1_log.specs.Ends.{taken_of, capacity_of, IsSameTaker}
-use Rattle.g1_core.specs.declared.reply.RefineReply.{RefineReply}
-use Rattle.g1_history.specs.declared.refusal.Refusal.{Refusal}
-use Rattle.g1_history.specs.declared.refusal.Refusal.TheVariants.{NoMemory}
+use Rattle.std.specs.Prelude.{◌≡◌, ◌≤◌, ◌+◌, ◌-◌, ◌/◌, ◌⊎◌, ◌∷◌, ◌++◌, if◌then◌else◌}
+use Rattle.g1_steps.specs.Prelude.{ℕ, Bool, true, false, List, [], length, map, sum_by, All, nat_lt}
+use Rattle.g1_steps.specs.Prelude.{not, Option, Some, None, IsSome, IsNone, Result, IfOk, IfErr}
+use Rattle.g1_steps.specs.Prelude.{flat_map, Taker, Parcel, Line, taken_of, capacity_of}
+use Rattle.g1_steps.specs.Prelude.{IsSameTaker, RefineReply, Refusal, NoMemory}
 use Rattle.g1_steps.specs.declared.steps.refiner.Sums.{Sums}
 use Rattle.g1_steps.specs.Made.{CallMade, Refined, Refused}
 use Rattle.g1_steps.specs.Steps.{GainsAtMost, FoundEmpty, IsOfCalls}

@@ -1,10 +1,7 @@
 -- Which calls serve what a worker asked for, where no lock hides them.
-use Rattle.std.specs.Prelude.{◌≡◌, Bool, true, false, List, [], ◌∷◌, ◌++◌, filter}
-use Rattle.std.proofs.Common.{sym, ap, subst, ◌∙◌, append_assoc}
-use Rattle.std.proofs.lemmas.List.Elements.{filter-append}
-use Rattle.g1_log.specs.declared.ends.Taker.{Taker}
-use Rattle.g1_log.specs.Ends.{taken_of}
-use Rattle.g1_history.specs.declared.refusal.Refusal.{Refusal}
+use Rattle.std.specs.Prelude.{◌≡◌, ◌∷◌, ◌++◌}
+use Rattle.g1_steps.specs.Prelude.{Bool, true, false, List, [], filter, sym, ap, subst, ◌∙◌}
+use Rattle.g1_steps.specs.Prelude.{append_assoc, filter-append, Taker, taken_of, Refusal}
 use Rattle.g1_steps.specs.Made.{CallMade, Stored, Refined, Refused}
 use Rattle.g1_steps.specs.Rounds.{IsRefused}
 use Rattle.g1_steps.specs.Ask.{Ask, AskStore, AskFlush, AskWork}

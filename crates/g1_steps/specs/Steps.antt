@@ -1,22 +1,14 @@
 -- What the steps of a caller do: the calls that they make, what becomes of a completed buffer, and
 -- what was taken from the line.
-use Rattle.std.specs.Prelude.{◌≡◌, ◌≢◌, ◌≤◌, ◌+◌, ◌*◌, ◌^◌, ◌⊎◌, ◌↔◌, ℕ, true, false, List, []}
-use Rattle.std.specs.Prelude.{◌∷◌, ◌++◌, length, Option, Some, None, Result, Ok, Err, IsSome}
-use Rattle.std.specs.Prelude.{IsNone, IfOk, IfErr, OnErr}
-use Rattle.g1_layout.specs.declared.kind.Kind.TheVariants.{Logged}
-use Rattle.g1_log.specs.declared.line.Line.{Line}
+use Rattle.std.specs.Prelude.{◌≡◌, ◌≢◌, ◌≤◌, ◌+◌, ◌*◌, ◌^◌, ◌⊎◌, ◌↔◌, ◌∷◌, ◌++◌}
+use Rattle.g1_steps.specs.Prelude.{ℕ, true, false, List, [], length, Option, Some, None, Result, Ok}
+use Rattle.g1_steps.specs.Prelude.{Err, IsSome, IsNone, IfOk, IfErr, OnErr, Logged, Line, Taker}
+use Rattle.g1_steps.specs.Prelude.{Parcel, put_of, taken_of, capacity_of, IsSameSender, IsSameTaker}
+use Rattle.g1_steps.specs.Prelude.{WasFull, WasEmpty, logged, buffer_of, No, Full, Helped}
+use Rattle.g1_steps.specs.Prelude.{StoreReply, RefineReply, Refusal}
 use Rattle.g1_log.specs.declared.ends.Sender.{Sender}
-use Rattle.g1_log.specs.declared.ends.Taker.{Taker}
 use Rattle.g1_log.specs.declared.buffer.Buffer.{Buffer}
-use Rattle.g1_log.specs.declared.parcel.Parcel.{Parcel}
-use Rattle.g1_log.specs.Ends.{put_of, taken_of, capacity_of, IsSameSender, IsSameTaker, WasFull}
-use Rattle.g1_log.specs.Ends.{WasEmpty}
-use Rattle.g1_core.specs.Barrier.{logged, buffer_of}
 use Rattle.g1_core.specs.declared.reply.Fill.{Fill}
-use Rattle.g1_core.specs.declared.reply.Fill.TheVariants.{No, Full, Helped}
-use Rattle.g1_core.specs.declared.reply.StoreReply.{StoreReply}
-use Rattle.g1_core.specs.declared.reply.RefineReply.{RefineReply}
-use Rattle.g1_history.specs.declared.refusal.Refusal.{Refusal}
 use Rattle.g1_steps.specs.declared.steps.mutator.FlushReply.{FlushReply}
 use Rattle.g1_steps.specs.declared.steps.mutator.Mutator.{Mutator}
 use Rattle.g1_steps.specs.declared.steps.mutator.Passed.{Passed}

@@ -1,8 +1,8 @@
 //! The calls that the steps of a caller make.
-ghost use Rattle.std.specs.Prelude.{◌≡◌, ◌<◌, ◌≤◌, ◌+◌, ℕ, Bool, [], ◌∷◌, ◌++◌, List, true, false};
-ghost use Rattle.std.specs.Prelude.{length, IfOk, OnErr, IfSome, IsNone, option_map};
-ghost use Rattle.g1_layout.specs.Shape.{Shape, slot_count, card_of};
-ghost use Rattle.g1_core.specs.Calls.{IsLent};
+ghost use Rattle.std.specs.Prelude.{◌≡◌, ◌<◌, ◌≤◌, ◌+◌, ◌∷◌, ◌++◌};
+ghost use Rattle.g1_steps.specs.Prelude.{ℕ, Bool, [], List, true, false, length, IfOk, OnErr};
+ghost use Rattle.g1_steps.specs.Prelude.{IfSome, IsNone, option_map, Shape, slot_count, card_of};
+ghost use Rattle.g1_steps.specs.Prelude.{IsLent};
 ghost use Rattle.g1_steps.specs.Made.{CallMade, stores, refines};
 
 use g1_core::{RefineReply, StoreReply};

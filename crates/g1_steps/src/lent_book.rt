@@ -1,7 +1,6 @@
 //! The calls of one caller at a borrowed book.
-ghost use Rattle.std.specs.Prelude.{◌≡◌, refl, nat_lt};
-ghost use Rattle.std.proofs.Common.{◌∙◌, ap, subst};
-ghost use Rattle.g1_history.specs.History.{Terms, layout_in};
+ghost use Rattle.std.specs.Prelude.{◌≡◌};
+ghost use Rattle.g1_steps.specs.Prelude.{refl, nat_lt, ◌∙◌, ap, subst, Terms, layout_in};
 ghost use Rattle.g1_steps.specs.Made.{AreCalls, calls_then};
 ghost use Rattle.g1_steps.specs.Lent.{IsBookCallBy, book_calls_stay};
 

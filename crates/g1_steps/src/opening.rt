@@ -1,9 +1,8 @@
 //! How callers begin: with a queue of completed buffers, an empty log for each mutator, and their
 //! ends of the queue.
-ghost use Rattle.std.specs.Prelude.{◌≡◌, ◌+◌, ◌≤◌, vec_len, vec_capacity, IfOk};
-ghost use Rattle.std.specs.List.{All};
-ghost use Rattle.g1_log.specs.Ends.{capacity_of, AreNewSenders, IsNewTaker};
-ghost use Rattle.g1_steps.specs.Opening.{AreNewMutators};
+ghost use Rattle.std.specs.Prelude.{◌≡◌, ◌+◌, ◌≤◌};
+ghost use Rattle.g1_steps.specs.{vec_len, vec_capacity, IfOk, All, capacity_of, AreNewSenders};
+ghost use Rattle.g1_steps.specs.{IsNewTaker, AreNewMutators};
 
 use crate::steps::Mutator;
 use g1_core::Config;

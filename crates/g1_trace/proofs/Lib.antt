@@ -3,3 +3,7 @@ pub mod PlaceLemmas
 pub mod ListLemmas
 pub mod PutLemmas
 pub mod PlainLemmas
+use ListLemmas.*
+use PlainLemmas.*
+use PutLemmas.*
+use WordLemmas.*

@@ -1,9 +1,7 @@
 -- The text of a list of cards, in blocks and from its end.
-use Rattle.std.proofs.Common.{◌≡◌, ℕ, suc, ◌+◌, ◌<◌, ◌≤◌, ◌^◌, List, [], ◌∷◌, ◌++◌, take, drop, set, length, get_or, decimal, refl, sym, ◌∙◌, ap, append_assoc, add-one, arith, lit<}
-use Rattle.std.proofs.Math.Seq.{drop-cons}
-use Rattle.std.proofs.lemmas.List.{drop-set, take-append-drop}
+use Rattle.std.specs.Prelude.{◌≡◌, ◌+◌, ◌<◌, ◌≤◌, ◌^◌, ◌∷◌, ◌++◌}
+use Rattle.g1_trace.specs.{ℕ, suc, List, [], take, drop, set, length, get_or, decimal, refl, sym, ◌∙◌, ap, append_assoc, add-one, arith, lit<, drop-cons, drop-set, take-append-drop, list_text}
 use Rattle.std.proofs.lemmas.Fmt.{length-decimal-le}
-use Rattle.g1_trace.specs.Text.{list_text}
 
 -- the number of a card has at most ten digits
 pub ten_digits : (n : ℕ) → n < 2 ^ 32 → length (decimal n) ≤ 10

@@ -1,8 +1,7 @@
 -- Another number of words than the places are.
-use Rattle.std.proofs.Common.{◌≡◌, ◌≢◌, ℕ, ◌<◌, length, refl, List, [], ◌∷◌, arith}
-use Rattle.std.specs.Prelude.{Err}
+use Rattle.std.specs.Prelude.{◌≡◌, ◌≢◌, ◌<◌, ◌∷◌}
+use Rattle.g1_trace.specs.{ℕ, length, refl, List, [], arith, Err, Place, read_none, read_one, read_two, read_three}
 use Rattle.g1_trace.specs.declared.fault.TraceFault.TheVariants.{Words}
-use Rattle.g1_trace.specs.Places.{Place, read_none, read_one, read_two, read_three}
 
 pub some_word : (ws : List (List ℕ)) → 0 < length ws → read_none ws ≡ Err Words
 some_word [] h = absurd (omega arith)

@@ -1,22 +1,8 @@
 -- A line that is spelled plainly, word by word.
-use Rattle.std.proofs.Common.{inl, inr, ◌≡◌, ◌≢◌, ℕ, ◌==◌, ◌+◌, ◌-◌, ◌*◌, ◌<◌, ◌≤◌, List, [], ◌∷◌, ◌++◌, refl, length, take, drop, get_or, suc, add-one, codes, sym, ap, ◌∙◌, arith, rules, nat_lt, append_assoc, append-nil, Option, Some, None, false}
-use Rattle.std.specs.Prelude.{Result, Ok, Err, true}
+use Rattle.std.specs.Prelude.{◌≡◌, ◌≢◌, ◌==◌, ◌+◌, ◌-◌, ◌*◌, ◌<◌, ◌≤◌, ◌∷◌, ◌++◌}
+use Rattle.g1_trace.specs.{inl, inr, ℕ, List, [], refl, length, take, drop, get_or, suc, add-one, codes, sym, ap, ◌∙◌, arith, rules, nat_lt, append_assoc, append-nil, Option, Some, None, false, Result, Ok, Err, true, is_ascii_digit, bytes_eq, drop-cons, take-append_seam, eq-eqb, ne_eqb, cases_Bool, false≢true, length-append, length-take-le, take-append-drop, take-append-le, Shape, slot_count, Store, Dialect, TraceFault, NoMutator, NoSlot, read_command, read_named, command_words, fit_below, fit_target, read_target, IsNumberBefore, IsTargetBefore, IsLineBefore, words_from, with_word, read_digits, read_number, IsPart, IsSolid}
 use Rattle.std.specs.Result.{result_ok}
-use Rattle.std.specs.Char.{is_ascii_digit}
-use Rattle.std.specs.Str.{bytes_eq}
-use Rattle.std.proofs.Math.Seq.{drop-cons, take-append_seam}
-use Rattle.std.proofs.lemmas.Bool.{eq-eqb, ne_eqb, cases_Bool, false≢true}
-use Rattle.std.proofs.lemmas.List.{length-append, length-take-le, take-append-drop, take-append-le}
 use Rattle.std.proofs.lemmas.Slice.Eq.{bytes_eq-Decides}
-use Rattle.g1_layout.specs.Shape.{Shape, slot_count}
-use Rattle.g1_trace.specs.declared.command.Command.TheVariants.{Store}
-use Rattle.g1_trace.specs.declared.dialect.Dialect.{Dialect}
-use Rattle.g1_trace.specs.declared.fault.TraceFault.{TraceFault}
-use Rattle.g1_trace.specs.declared.fault.TraceFault.TheVariants.{NoMutator, NoSlot}
-use Rattle.g1_trace.specs.Grammar.{read_command, read_named, command_words}
-use Rattle.g1_trace.specs.Places.{fit_below, fit_target, read_target}
-use Rattle.g1_trace.specs.Plain.{IsNumberBefore, IsTargetBefore, IsLineBefore}
-use Rattle.g1_trace.specs.Words.{words_from, with_word, read_digits, read_number, IsPart, IsSolid}
 use Rattle.g1_trace.proofs.WordLemmas.{with_word_some}
 
 -- numbers that a test tells apart

@@ -1,11 +1,6 @@
 -- Writes that follow each other, as one.
-use Rattle.std.proofs.Common.{◌≡◌, ℕ, List, [], ◌++◌, ◌-◌, length, take, drop, subst, Option, None, Some, append_assoc, append-nil, refl, sym, ◌∙◌, ap}
-use Rattle.std.proofs.KnownBytes.{Appends-nil, Appends-trans}
-use Rattle.std.proofs.Math.Seq.{take-length}
-use Rattle.std.proofs.lemmas.List.{take-append-drop, length-drop}
-use Rattle.std.specs.Prelude.{Result, Ok, Err, IsErr}
-use Rattle.std.specs.Io.KnownBytes.{Appends, Keeps}
-use Rattle.g1_trace.specs.Bytes.{AppendsFront, Puts}
+use Rattle.std.specs.Prelude.{◌≡◌, ◌++◌, ◌-◌}
+use Rattle.g1_trace.specs.{ℕ, List, [], length, take, drop, subst, Option, None, Some, append_assoc, append-nil, refl, sym, ◌∙◌, ap, Appends-nil, Appends-trans, take-length, take-append-drop, length-drop, Result, Ok, Err, IsErr, Appends, Keeps, AppendsFront, Puts}
 
 pub keeps_appends : (a b : Option (List ℕ)) → Keeps a b → Appends a b []
 keeps_appends None b p = tt

@@ -1,12 +1,8 @@
 -- A line's words, byte by byte.
-use Rattle.std.proofs.Common.{inl, inr, true, ◌≡◌, ◌≢◌, ℕ, ◌+◌, ◌-◌, ◌*◌, ◌^◌, ◌<◌, ◌≤◌, List, [], ◌∷◌, ◌++◌, refl, length, take, drop, get_or, sym, ap, subst, ◌∙◌, arith, add-one, drop-cons}
-use Rattle.std.proofs.Math.Seq.{take-suc, drop-length}
-use Rattle.std.proofs.lemmas.List.{length-take}
-use Rattle.std.proofs.lemmas.Bool.{ne_eqb, cases_Bool, cases_lt}
+use Rattle.std.specs.Prelude.{◌≡◌, ◌≢◌, ◌+◌, ◌-◌, ◌*◌, ◌^◌, ◌<◌, ◌≤◌, ◌∷◌, ◌++◌}
+use Rattle.g1_trace.specs.{inl, inr, true, ℕ, List, [], refl, length, take, drop, get_or, sym, ap, subst, ◌∙◌, arith, add-one, take-suc, drop-length, length-take, ne_eqb, cases_Bool, cases_lt, is_ascii_digit, Ok, words_from, with_word, read_digits, ◌>>=◌}
+use Rattle.std.proofs.Common.{drop-cons}
 use Rattle.std.proofs.Math.Nat.{pow-suc}
-use Rattle.std.specs.Char.{is_ascii_digit}
-use Rattle.std.specs.Prelude.{Ok}
-use Rattle.g1_trace.specs.Words.{words_from, with_word, read_digits, ◌>>=◌}
 
 -- a byte of a word
 other_byte : (line word : List ℕ) (i : ℕ) → i < length line → get_or line i 0 ≢ 32

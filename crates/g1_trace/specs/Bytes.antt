@@ -1,6 +1,6 @@
 -- What a writer holds after text was put into it.
-use Rattle.std.specs.Prelude.{◌≡◌, ℕ, List, ◌++◌, MatchResult, Result, Option}
-use Rattle.std.specs.Io.KnownBytes.{Appends}
+use Rattle.std.specs.Prelude.{◌≡◌, ◌++◌}
+use Rattle.g1_trace.specs.Prelude.{ℕ, List, MatchResult, Result, Option, Appends}
 
 -- The known bytes grew by a beginning of the text.
 abbrev pub AppendsFront : Option (List ℕ) → Option (List ℕ) → List ℕ → Type 0

@@ -1,9 +1,7 @@
 -- What a line of a trace means: the header, or a command.
-use Rattle.std.specs.Prelude.{ℕ, ◌<◌, ◌*◌, List, [], ◌∷◌, ◌==◌, nat_lt, ◌&&◌, if◌then◌else◌}
-use Rattle.std.specs.Prelude.{Bool, true, false, Result, Ok, Err, Option, Some, None, IfSome, codes}
-use Rattle.std.specs.Str.{bytes_eq}
-use Rattle.g1_layout.specs.Shape.{Shape, slot_count}
-use Rattle.g1_core.specs.declared.entry.Call.{Call}
+use Rattle.std.specs.Prelude.{◌<◌, ◌*◌, ◌∷◌, ◌==◌, ◌&&◌, if◌then◌else◌}
+use Rattle.g1_trace.specs.Prelude.{ℕ, List, [], nat_lt, Bool, true, false, Result, Ok, Err, Option}
+use Rattle.g1_trace.specs.Prelude.{Some, None, IfSome, codes, bytes_eq, Shape, slot_count, Call}
 use Rattle.g1_core.specs.Run as run
 use Rattle.g1_core.specs.declared.entry.Call.TheVariants as calls
 use Rattle.g1_core.specs.declared.entry.Call.TheVariants.{Target, Pending, Members, Status, Drain}

@@ -1,8 +1,7 @@
 -- What may stand in the places behind the first word of a line.
-use Rattle.std.specs.Prelude.{ℕ, List, [], ◌∷◌, nat_lt, if◌then◌else◌, Result, Ok, Err, Option}
-use Rattle.std.specs.Prelude.{Some, None, codes}
-use Rattle.std.specs.Str.{bytes_eq}
-use Rattle.g1_layout.specs.Shape.{Shape, slot_count, card_count}
+use Rattle.std.specs.Prelude.{◌∷◌, if◌then◌else◌}
+use Rattle.g1_trace.specs.Prelude.{ℕ, List, [], nat_lt, Result, Ok, Err, Option, Some, None, codes}
+use Rattle.g1_trace.specs.Prelude.{bytes_eq, Shape, slot_count, card_count}
 use Rattle.g1_trace.specs.declared.fault.TraceFault.{TraceFault}
 use Rattle.g1_trace.specs.declared.fault.TraceFault.TheVariants.{Words, NoMutator, NoSlot, NoCard}
 use Rattle.g1_trace.specs.declared.fault.TraceFault.TheVariants.{NoRegion}

@@ -1,6 +1,6 @@
 -- What longer bytes begin with: a word and the byte that ends it, or the whole line of a command.
-use Rattle.std.specs.Prelude.{◌≡◌, ℕ, ◌≤◌, List, [], ◌∷◌, ◌++◌, length, take, Ok, Option, Some}
-use Rattle.g1_layout.specs.Shape.{Shape}
+use Rattle.std.specs.Prelude.{◌≡◌, ◌≤◌, ◌∷◌, ◌++◌}
+use Rattle.g1_trace.specs.Prelude.{ℕ, List, [], length, take, Ok, Option, Some, Shape}
 use Rattle.g1_trace.specs.declared.command.Command.{Command}
 use Rattle.g1_trace.specs.declared.dialect.Dialect.{Dialect}
 use Rattle.g1_trace.specs.Grammar.{read_command}

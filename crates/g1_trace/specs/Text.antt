@@ -1,6 +1,7 @@
 -- The output lines, each with its line feed: by their numbers, then by what the calls answer.
-use Rattle.std.specs.Prelude.{ℕ, Bool, true, false, List, [], ◌∷◌, ◌++◌, Option, Some, None, codes}
-use Rattle.std.specs.Prelude.{decimal, length, if◌then◌else◌, ◌==◌, ◌&&◌, not}
+use Rattle.std.specs.Prelude.{◌∷◌, ◌++◌, if◌then◌else◌, ◌==◌, ◌&&◌}
+use Rattle.g1_trace.specs.Prelude.{ℕ, Bool, true, false, List, [], Option, Some, None, codes}
+use Rattle.g1_trace.specs.Prelude.{decimal, length, not, Call}
 use Rattle.g1_layout.specs.declared.kind.Kind.{Kind}
 use Rattle.g1_layout.specs.declared.kind.Kind.TheVariants.{SameRegion, Null, AlreadyDirty, Logged}
 use Rattle.g1_core.specs.declared.reply.Fill.{Fill}
@@ -8,7 +9,6 @@ use Rattle.g1_core.specs.declared.reply.Fill.TheVariants.{No, Full, Helped}
 use Rattle.g1_core.specs.declared.reply.StoreReply.{StoreReply}
 use Rattle.g1_core.specs.declared.reply.RefineReply.{RefineReply}
 use Rattle.g1_core.specs.declared.reply.Status.{Status}
-use Rattle.g1_core.specs.declared.entry.Call.{Call}
 use Rattle.g1_core.specs.declared.entry.Call.TheVariants as call
 use Rattle.g1_core.specs.declared.entry.Reply.{Reply}
 use Rattle.g1_core.specs.declared.entry.Reply.TheVariants as reply

@@ -1,7 +1,7 @@
 -- The commands of a trace, up to its first fault or its end.
-use Rattle.std.specs.Prelude.{ℕ, ◌+◌, List, [], ◌∷◌, ◌++◌, ◌==◌, nat_lt, length, if◌then◌else◌}
-use Rattle.std.specs.Prelude.{option_to_list, Result, Ok, Err, Option, Some, None}
-use Rattle.g1_layout.specs.Shape.{Shape}
+use Rattle.std.specs.Prelude.{◌+◌, ◌∷◌, ◌++◌, ◌==◌, if◌then◌else◌}
+use Rattle.g1_trace.specs.Prelude.{ℕ, List, [], nat_lt, length, option_to_list, Result, Ok, Err}
+use Rattle.g1_trace.specs.Prelude.{Option, Some, None, Shape}
 use Rattle.g1_trace.specs.declared.command.Command.{Command}
 use Rattle.g1_trace.specs.declared.dialect.Dialect.{Dialect}
 use Rattle.g1_trace.specs.declared.fault.TraceFault.{TraceFault}

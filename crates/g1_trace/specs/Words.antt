@@ -1,7 +1,7 @@
 -- The words of a line, and the numbers that words are.
-use Rattle.std.specs.Prelude.{◌≢◌, ℕ, ◌+◌, ◌-◌, ◌*◌, Bool, false, List, [], ◌∷◌, ◌++◌, ◌==◌, nat_lt}
-use Rattle.std.specs.Prelude.{length, if◌then◌else◌, Result, Ok, Err}
-use Rattle.std.specs.Char.{is_ascii_digit}
+use Rattle.std.specs.Prelude.{◌≢◌, ◌+◌, ◌-◌, ◌*◌, ◌∷◌, ◌++◌, ◌==◌, if◌then◌else◌}
+use Rattle.g1_trace.specs.Prelude.{ℕ, Bool, false, List, [], nat_lt, length, Result, Ok, Err}
+use Rattle.g1_trace.specs.Prelude.{is_ascii_digit}
 use Rattle.g1_trace.specs.declared.fault.TraceFault.{TraceFault}
 use Rattle.g1_trace.specs.declared.fault.TraceFault.TheVariants.{NotNumber}
 

@@ -1,10 +1,9 @@
 //! What a line of a trace asks for: its command.
 
-ghost use Rattle.std.specs.Prelude.{◌≡◌, ℕ, [], IfOk, IfSome};
-ghost use Rattle.g1_trace.specs.Words.{words_from};
-ghost use Rattle.g1_layout.specs.Shape.{IsShape};
-ghost use Rattle.g1_trace.specs.Grammar.{has_stores_alone, is_script, read_call, read_named};
-ghost use Rattle.g1_trace.specs.Grammar.{read_command, redirect_of, IsCommandCall, IsCommandOf};
+ghost use Rattle.std.specs.Prelude.{◌≡◌};
+ghost use Rattle.g1_trace.specs.{ℕ, [], IfOk, IfSome, words_from, IsShape, has_stores_alone};
+ghost use Rattle.g1_trace.specs.{is_script, read_call, read_named, read_command, redirect_of};
+ghost use Rattle.g1_trace.specs.{IsCommandCall, IsCommandOf};
 
 use crate::command::Command;
 use crate::dialect::Dialect;

@@ -1,8 +1,7 @@
 //! The header of a trace, which opens its heap.
 
-ghost use Rattle.std.specs.Prelude.{◌≡◌, ℕ, []};
-ghost use Rattle.g1_trace.specs.Words.{words_from};
-ghost use Rattle.g1_trace.specs.Grammar.{heap_of, read_opening, read_header};
+ghost use Rattle.std.specs.Prelude.{◌≡◌};
+ghost use Rattle.g1_trace.specs.{ℕ, [], words_from, heap_of, read_opening, read_header};
 
 use crate::fault::TraceFault;
 use crate::places::{clamped, three_numbers};

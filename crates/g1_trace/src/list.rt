@@ -1,10 +1,8 @@
 //! The text of a list of cards. A short list is written in one block with its line, a longer one in
 //! many.
-ghost use Rattle.std.specs.Prelude.{◌≡◌, ℕ, List, [], ◌++◌, ◌+◌, ◌-◌, ◌*◌, ◌<◌, ◌≤◌, length, drop};
-ghost use Rattle.std.specs.Prelude.{MatchResult, codes};
-ghost use Rattle.std.specs.Io.KnownBytes.{Appends};
-ghost use Rattle.g1_trace.specs.Bytes.{Puts};
-ghost use Rattle.g1_trace.specs.Text.{list_text};
+ghost use Rattle.std.specs.Prelude.{◌≡◌, ◌++◌, ◌+◌, ◌-◌, ◌*◌, ◌<◌, ◌≤◌};
+ghost use Rattle.g1_trace.specs.{ℕ, List, [], length, drop, MatchResult, codes, Appends, Puts};
+ghost use Rattle.g1_trace.specs.{list_text};
 
 use crate::output::{WriteFailed, ending_at_end, put, words_before};
 use g1_core::CardList;

@@ -2,9 +2,9 @@
 //!
 //! A write that fails, or that takes no byte, is a failed write. Nothing is tried again, and a
 //! beginning of the text stays written (docs/traces.md, Ends).
-ghost use Rattle.std.specs.Prelude.{◌≡◌, ℕ, List, [], ◌++◌, ◌+◌, ◌<◌, ◌≤◌, length, take, drop};
-ghost use Rattle.std.specs.Prelude.{MatchResult, decimal, IfOk, OnErr, if◌then◌else◌};
-ghost use Rattle.std.specs.Io.KnownBytes.{Appends};
+ghost use Rattle.std.specs.Prelude.{◌≡◌, ◌++◌, ◌+◌, ◌<◌, ◌≤◌, if◌then◌else◌};
+ghost use Rattle.g1_trace.specs.Prelude.{ℕ, List, [], length, take, drop, MatchResult, decimal};
+ghost use Rattle.g1_trace.specs.Prelude.{IfOk, OnErr, Appends};
 ghost use Rattle.g1_trace.specs.Bytes.{Puts};
 ghost use Rattle.g1_trace.specs.Text.{with_number, ending};
 

@@ -4,14 +4,12 @@
 //! `Words` is returned if there are more or fewer words than the command has, `NotNumber` if a word
 //! is no number, and only then the fault of the leftmost number that is too large for its place.
 
-ghost use Rattle.std.specs.Prelude.{◌≡◌, ◌<◌, ℕ, [], min, IfOk, IfSome};
-ghost use Rattle.g1_layout.specs.Shape.{IsShape, slot_count, card_count};
-ghost use Rattle.g1_trace.specs.declared.fault.TraceFault.TheVariants.{NoMutator, NoSlot, NoCard};
-ghost use Rattle.g1_trace.specs.declared.fault.TraceFault.TheVariants.{NoRegion};
-ghost use Rattle.g1_trace.specs.Words.{words_from, read_number};
-ghost use Rattle.g1_trace.specs.Places.{fit_below, fit_target, read_target, read_none, read_one};
-ghost use Rattle.g1_trace.specs.Places.{read_two, read_three, mutator_place, slot_place};
-ghost use Rattle.g1_trace.specs.Places.{card_place, region_place, target_place, number_place};
+ghost use Rattle.std.specs.Prelude.{◌≡◌, ◌<◌};
+ghost use Rattle.g1_trace.specs.{ℕ, [], min, IfOk, IfSome, IsShape, slot_count, card_count};
+ghost use Rattle.g1_trace.specs.{NoMutator, NoSlot, NoCard, NoRegion, words_from, read_number};
+ghost use Rattle.g1_trace.specs.{fit_below, fit_target, read_target, read_none, read_one, read_two};
+ghost use Rattle.g1_trace.specs.{read_three, mutator_place, slot_place, card_place, region_place};
+ghost use Rattle.g1_trace.specs.{target_place, number_place};
 
 use crate::fault::TraceFault;
 use crate::words::{is, is_blank, one_word, three_words, two_words};

@@ -2,10 +2,9 @@
 //!
 //! Most lines of a trace are stores that a program wrote: single spaces, few digits. A store that
 //! is not spelled so is read like any other line.
-ghost use Rattle.std.specs.Prelude.{◌≤◌, ◌+◌, length, IfSome};
-ghost use Rattle.g1_layout.specs.Shape.{IsShape};
-ghost use Rattle.g1_trace.specs.Grammar.{IsCommandOf};
-ghost use Rattle.g1_trace.specs.Plain.{IsNumberBefore, IsTargetBefore, IsLineBefore};
+ghost use Rattle.std.specs.Prelude.{◌≤◌, ◌+◌};
+ghost use Rattle.g1_trace.specs.{length, IfSome, IsShape, IsCommandOf, IsNumberBefore};
+ghost use Rattle.g1_trace.specs.{IsTargetBefore, IsLineBefore};
 
 use crate::command::Command;
 use crate::dialect::Dialect;

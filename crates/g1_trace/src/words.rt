@@ -1,10 +1,9 @@
 //! The words of a line, and the numbers that words are.
 
-ghost use Rattle.std.specs.Prelude.{◌≡◌, ◌≢◌, List, [], ◌∷◌, ◌≤◌, ◌<◌, length, take, drop};
-ghost use Rattle.std.specs.Prelude.{slice_index, true, false, Ok, IfSome, IsNone};
-ghost use Rattle.std.specs.Str.{bytes_eq};
-ghost use Rattle.g1_trace.specs.Words.{words_from, with_word, read_digits, read_number};
-ghost use Rattle.g1_trace.specs.Words.{is_remark_word};
+ghost use Rattle.std.specs.Prelude.{◌≡◌, ◌≢◌, ◌∷◌, ◌≤◌, ◌<◌};
+ghost use Rattle.g1_trace.specs.{List, [], length, take, drop, slice_index, true, false, Ok};
+ghost use Rattle.g1_trace.specs.{IfSome, IsNone, bytes_eq, words_from, with_word, read_digits};
+ghost use Rattle.g1_trace.specs.{read_number, is_remark_word};
 
 use crate::fault::TraceFault;
 

@@ -1,11 +1,7 @@
 //! A range of slots of a heap at a pause is copied to another one.
 ghost use Rattle.std.specs.Prelude.{◌≡◌, ◌⊎◌, ◌+◌, ◌≤◌};
-ghost use Rattle.g1_layout.specs.Shape.{slot_count};
-ghost use Rattle.g1_c.specs.Calls.{TellsRefusal};
-ghost use Rattle.g1_handles.specs.AtPause.{Copies};
-ghost use Rattle.g1_handles.specs.HeapCalls.{IsHeapRefused};
-ghost use Rattle.g1_handles.specs.Life.{IsSameHeap, OfPaused};
-ghost use Rattle.g1_handles.specs.Lacks.{LacksSlots};
+ghost use Rattle.g1_c.specs.{slot_count, TellsRefusal, Copies, IsHeapRefused, IsSameHeap, OfPaused};
+ghost use Rattle.g1_c.specs.{LacksSlots};
 
 use core::mem::replace_with;
 use g1_handles::code::DONE;

@@ -1,13 +1,7 @@
 //! Refinement and drains of a heap at a pause.
-ghost use Rattle.std.specs.Prelude.{◌≡◌, ◌≢◌, ◌<◌, take};
-ghost use Rattle.g1_c.specs.Calls.{TellsRefusal};
-ghost use Rattle.g1_handles.specs.AtPause.{DrainsAtPause, Refines};
-ghost use Rattle.g1_handles.specs.Arrays.{IsWritten};
-ghost use Rattle.g1_handles.specs.Codes.{IsRefusal};
-ghost use Rattle.g1_handles.specs.HeapCalls.{IsHeapRefused};
-ghost use Rattle.g1_handles.specs.Life.{IsSameHeap};
-ghost use Rattle.g1_handles.specs.Sets.{HasFirst};
-ghost use Rattle.g1_handles.specs.Lacks.{LacksRegion};
+ghost use Rattle.std.specs.Prelude.{◌≡◌, ◌≢◌, ◌<◌};
+ghost use Rattle.g1_c.specs.{take, TellsRefusal, DrainsAtPause, Refines, IsWritten, IsRefusal};
+ghost use Rattle.g1_c.specs.{IsHeapRefused, IsSameHeap, HasFirst, LacksRegion};
 
 use core::mem::replace_with;
 use g1_handles::code::{DONE, Refusal};

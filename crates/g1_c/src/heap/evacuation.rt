@@ -1,12 +1,8 @@
 //! What follows an evacuation of a heap at a pause: references are moved or a remembered set is
 //! emptied, and a region is freed.
 ghost use Rattle.std.specs.Prelude.{◌≡◌, ◌≢◌, ◌⊎◌, ◌<◌};
-ghost use Rattle.g1_c.specs.Calls.{TellsRefusal};
-ghost use Rattle.g1_handles.specs.AtPause.{ClearsAt, Redirects, Wipes, Forgets, RefersOut};
-ghost use Rattle.g1_handles.specs.Codes.{IsRefusal};
-ghost use Rattle.g1_handles.specs.HeapCalls.{IsHeapRefused};
-ghost use Rattle.g1_handles.specs.Life.{IsSameHeap, OfPaused};
-ghost use Rattle.g1_handles.specs.Lacks.{LacksRegion};
+ghost use Rattle.g1_c.specs.{TellsRefusal, ClearsAt, Redirects, Wipes, Forgets, RefersOut};
+ghost use Rattle.g1_c.specs.{IsRefusal, IsHeapRefused, IsSameHeap, OfPaused, LacksRegion};
 
 use core::mem::replace_with;
 use g1_core::ClearReply;

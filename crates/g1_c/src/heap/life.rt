@@ -1,14 +1,10 @@
 //! The life of a heap whose stores race: it begins at a pause, goes on, pauses again, and ends at a
 //! pause.
-ghost use Rattle.std.specs.Prelude.{◌≡◌, ◌<◌, None, length};
-ghost use Rattle.g1_c.specs.Calls.{TellsRefusal};
-ghost use Rattle.g1_handles.specs.Codes.{layout_of, IsRefusal};
-ghost use Rattle.g1_handles.specs.Life.{OfPaused, IsFor, IsNewHeap, IsOpeningRefused};
-ghost use Rattle.g1_handles.specs.Life.{IsGoingRefused, IsPauseRefused, IsEndRefused};
-ghost use Rattle.g1_handles.specs.Life.{AreLikeOf, AreOfHeap};
-ghost use Rattle.g1_handles.specs.Life.{HasCountedNothing};
-ghost use Rattle.g1_handles.specs.Phases.{ComesToPause, Resumes};
-ghost use Rattle.g1_handles.specs.Racing.{held_racers, held_sweepers};
+ghost use Rattle.std.specs.Prelude.{◌≡◌, ◌<◌};
+ghost use Rattle.g1_c.specs.{None, length, TellsRefusal, layout_of, IsRefusal, OfPaused, IsFor};
+ghost use Rattle.g1_c.specs.{IsNewHeap, IsOpeningRefused, IsGoingRefused, IsPauseRefused};
+ghost use Rattle.g1_c.specs.{IsEndRefused, AreLikeOf, AreOfHeap, HasCountedNothing, ComesToPause};
+ghost use Rattle.g1_c.specs.{Resumes, held_racers, held_sweepers};
 
 use g1_handles::code::DONE;
 use g1_handles::heap::handle::HeapHandle;

@@ -1,18 +1,13 @@
 //! Queries on a heap at a pause: what a slot refers to, whether a card is pending, how much is
 //! pending and recorded, and what is recorded for a region.
-ghost use Rattle.std.specs.Prelude.{◌≡◌, ◌≢◌, ◌<◌, ◌≤◌, ◌==◌, take};
-ghost use Rattle.g1_race.specs.Over.{table_at};
+ghost use Rattle.std.specs.Prelude.{◌≡◌, ◌≢◌, ◌<◌, ◌≤◌, ◌==◌};
+ghost use Rattle.g1_c.specs.{take, table_at, TellsRefusal, SlotRefers, TellsPending, TellsStatus};
+ghost use Rattle.g1_c.specs.{TellsMembers, IsWritten, IsRefusal, reference_of, IsHeapRefused};
+ghost use Rattle.g1_c.specs.{IsSameHeap, HasFirst, LacksCard, LacksRegion, LacksSlot, Answers};
 ghost use Rattle.g1_race.specs.Reading.{IsNextMember};
-ghost use Rattle.g1_c.specs.Calls.{TellsRefusal};
-ghost use Rattle.g1_handles.specs.AtPause.{SlotRefers, TellsPending, TellsStatus, TellsMembers};
-ghost use Rattle.g1_handles.specs.Arrays.{IsWritten};
-ghost use Rattle.g1_handles.specs.Codes.{IsRefusal, reference_of};
-ghost use Rattle.g1_handles.specs.HeapCalls.{IsHeapRefused};
-ghost use Rattle.g1_handles.specs.Life.{IsSameHeap};
-ghost use Rattle.g1_handles.specs.Sets.{HasFirst};
-ghost use Rattle.g1_handles.specs.Lacks.{LacksCard, LacksRegion, LacksSlot};
 
 use crate::one_core::queries::Totals;
+use crate::tell::{tell, tell_whether};
 use core::mem::replace_with;
 use g1_handles::code::{DONE, NULL, Refusal};
 use g1_handles::heap::at_pause::{PausedHeap, at_pause};
@@ -22,7 +17,6 @@ use g1_handles::heap::sets::{Told, Which, set_of_heap};
 use std::alloc::Global;
 
 /// As in `g1.h`.
-#[tactic(auto, using(crate::proofs::Calls::tells_none))]
 #[unsafe(no_mangle)]
 pub extern "C" fn g1_heap_target(
     alloc: Global,
@@ -30,30 +24,20 @@ pub extern "C" fn g1_heap_target(
     slot: u32,
     target: &mut u32,
 ) -> u32
-    ensures target { result ≡ 0 → IsSameHeap heap.old.value heap.new.value (λ old new.
-        SlotRefers old slot (reference_of target.new)) }
-    ensures told { TellsRefusal 0 result heap.old.value heap.new.value (target.new ≡ 4294967295)
+    ensures told { Answers result target.new (target.new ≡ 4294967295) heap.old.value heap.new.value
+        (λ target. IsSameHeap heap.old.value heap.new.value (λ old new.
+        SlotRefers old slot (reference_of target)))
         (IsHeapRefused heap.old.value (λ old. LacksSlot old.layout slot)) }
-    ensures same { heap.new.value ≡ heap.old.value }
 {
-    match replace_with(
+    let answer = replace_with(
         heap,
         (alloc, |heap: &mut PausedHeap| target_at(heap, slot)),
         at_pause,
-    ) {
-        Err(refusal) => {
-            *target = NULL;
-            refusal.word()
-        }
-        Ok(word) => {
-            *target = word;
-            DONE
-        }
-    }
+    );
+    tell(answer, NULL, target)
 }
 
 /// As in `g1.h`.
-#[tactic(auto, using(crate::proofs::Calls::tells_none))]
 #[unsafe(no_mangle)]
 pub extern "C" fn g1_heap_is_pending(
     alloc: Global,
@@ -61,27 +45,18 @@ pub extern "C" fn g1_heap_is_pending(
     card: u32,
     pending: &mut u32,
 ) -> u32
-    ensures pending { result ≡ 0 → IsSameHeap heap.old.value heap.new.value (λ old new.
-        TellsPending old card (pending.new == 1)) }
-    ensures word { pending.new ≤ 1 }
-    ensures told { TellsRefusal 0 result heap.old.value heap.new.value (pending.new ≡ 0)
+    ensures told { Answers result (pending.new == 1) (pending.new ≡ 0) heap.old.value heap.new.value
+        (λ answer. IsSameHeap heap.old.value heap.new.value (λ old new.
+        TellsPending old card answer))
         (IsHeapRefused heap.old.value (λ old. LacksCard old.layout card)) }
-    ensures same { heap.new.value ≡ heap.old.value }
+    ensures word { pending.new ≤ 1 }
 {
-    match replace_with(
+    let answer = replace_with(
         heap,
         (alloc, |heap: &mut PausedHeap| is_pending_at(heap, card)),
         at_pause,
-    ) {
-        Err(refusal) => {
-            *pending = 0;
-            refusal.word()
-        }
-        Ok(answer) => {
-            *pending = answer as u32;
-            DONE
-        }
-    }
+    );
+    tell_whether(answer, pending)
 }
 
 /// As in `g1.h`.
@@ -155,7 +130,6 @@ pub extern "C" fn g1_heap_members(
 }
 
 /// As in `g1.h`.
-#[tactic(auto, using(crate::proofs::Calls::tells_none))]
 #[unsafe(no_mangle)]
 pub extern "C" fn g1_heap_next_member(
     alloc: Global,
@@ -164,27 +138,18 @@ pub extern "C" fn g1_heap_next_member(
     from: u32,
     card: &mut u32,
 ) -> u32
-    ensures next { result ≡ 0 → IsSameHeap heap.old.value heap.new.value (λ old new.
-        IsNextMember (table_at old) region from (reference_of card.new)) }
-    ensures told { TellsRefusal 0 result heap.old.value heap.new.value (card.new ≡ 4294967295)
+    ensures told { Answers result card.new (card.new ≡ 4294967295) heap.old.value heap.new.value
+        (λ card. IsSameHeap heap.old.value heap.new.value (λ old new.
+        IsNextMember (table_at old) region from (reference_of card)))
         (IsHeapRefused heap.old.value (λ old. LacksRegion old.layout region)) }
-    ensures same { heap.new.value ≡ heap.old.value }
 {
-    match replace_with(
+    let answer = replace_with(
         heap,
         (
             alloc,
             |heap: &mut PausedHeap| next_member_at(heap, region, from),
         ),
         at_pause,
-    ) {
-        Err(refusal) => {
-            *card = NULL;
-            refusal.word()
-        }
-        Ok(word) => {
-            *card = word;
-            DONE
-        }
-    }
+    );
+    tell(answer, NULL, card)
 }

@@ -1,10 +1,8 @@
 //! Several threads read a heap at a pause: how that begins and ends.
-ghost use Rattle.std.specs.Prelude.{◌≡◌, ◌<◌, length};
-ghost use Rattle.g1_handles.specs.Codes.{IsRefusal};
-ghost use Rattle.g1_handles.specs.Phases.{BeginsReading, EndsReading};
-ghost use Rattle.g1_handles.specs.Racing.{held_readers};
-ghost use Rattle.g1_handles.specs.Readers.{AreReadersOf, AreReadersLike};
-ghost use Rattle.g1_handles.specs.Readers.{IsReadBy, IsReadRefused, IsReadEndRefused};
+ghost use Rattle.std.specs.Prelude.{◌≡◌, ◌<◌};
+ghost use Rattle.g1_c.specs.{length, IsRefusal, BeginsReading, EndsReading, held_readers};
+ghost use Rattle.g1_c.specs.{AreReadersOf, AreReadersLike, IsReadBy, IsReadRefused};
+ghost use Rattle.g1_c.specs.{IsReadEndRefused};
 
 use g1_handles::code::DONE;
 use g1_handles::heap::handle::HeapHandle;

@@ -1,12 +1,7 @@
 //! The collector's own stores into a heap at a pause.
-ghost use Rattle.std.specs.Prelude.{◌≡◌, ◌⊎◌, ◌≤◌, length, take};
-ghost use Rattle.g1_c.specs.Calls.{TellsRefusal};
-ghost use Rattle.g1_handles.specs.AtPause.{StoresAt, StoresAllAt};
-ghost use Rattle.g1_handles.specs.Batch.{IsFaultAt};
-ghost use Rattle.g1_handles.specs.Codes.{OfKind, reference_of};
-ghost use Rattle.g1_handles.specs.HeapCalls.{IsHeapRefused};
-ghost use Rattle.g1_handles.specs.Life.{IsSameHeap, OfPaused};
-ghost use Rattle.g1_handles.specs.Lacks.{LacksPlace};
+ghost use Rattle.std.specs.Prelude.{◌≡◌, ◌⊎◌, ◌≤◌};
+ghost use Rattle.g1_c.specs.{length, take, TellsRefusal, StoresAt, StoresAllAt, IsFaultAt, OfKind};
+ghost use Rattle.g1_c.specs.{reference_of, IsHeapRefused, IsSameHeap, OfPaused, LacksPlace};
 
 use core::mem::replace_with;
 use g1_handles::code::{DONE, STOPPED, kind_word};

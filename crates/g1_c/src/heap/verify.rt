@@ -1,11 +1,7 @@
 //! Checks of a heap at a pause, for a debug build.
-ghost use Rattle.std.specs.Prelude.{◌≡◌, ◌+◌, ◌≤◌, length};
-ghost use Rattle.g1_layout.specs.Shape.{slot_count};
-ghost use Rattle.g1_c.specs.Calls.{TellsRefusal};
-ghost use Rattle.g1_handles.specs.HeapCalls.{IsHeapRefused};
-ghost use Rattle.g1_handles.specs.Life.{IsSameHeap, OfPaused};
-ghost use Rattle.g1_handles.specs.Verifying.{FindsAt};
-ghost use Rattle.g1_handles.specs.Lacks.{LacksRanges};
+ghost use Rattle.std.specs.Prelude.{◌≡◌, ◌+◌, ◌≤◌};
+ghost use Rattle.g1_c.specs.{length, slot_count, TellsRefusal, IsHeapRefused, IsSameHeap, OfPaused};
+ghost use Rattle.g1_c.specs.{FindsAt, LacksRanges};
 
 use core::mem::replace_with;
 use g1_handles::code::{DONE, NULL};

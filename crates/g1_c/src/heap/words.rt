@@ -1,13 +1,10 @@
 //! The words of a heap: where they lie, and, at a pause, what a slot's is and a store of data.
 ghost use Rattle.std.specs.Prelude.{◌≡◌, ◌⊎◌, ◌<◌, ◌^◌};
-ghost use Rattle.g1_race.specs.Members.{race_words};
-ghost use Rattle.g1_c.specs.Calls.{TellsRefusal};
-ghost use Rattle.g1_handles.specs.AtPause.{HasWord, StoresDataAt};
-ghost use Rattle.g1_handles.specs.HeapCalls.{IsHeapRefused};
-ghost use Rattle.g1_handles.specs.Life.{IsSameHeap, OfHeap, SaysNoHeap};
+ghost use Rattle.g1_c.specs.{race_words, TellsRefusal, HasWord, StoresDataAt, IsHeapRefused};
+ghost use Rattle.g1_c.specs.{IsSameHeap, OfHeap, SaysNoHeap, LacksSlot, Answers};
 ghost use denote.RawPtr.{null_ptr};
-ghost use Rattle.g1_handles.specs.Lacks.{LacksSlot};
 
+use crate::tell::tell;
 use core::mem::replace_with;
 use g1_handles::code::{DONE, Refusal};
 use g1_handles::heap::at_pause::{PausedHeap, at_pause};
@@ -38,7 +35,6 @@ pub extern "C" fn g1_heap_words(alloc: Global, heap: &mut HeapHandle, words: &mu
 }
 
 /// As in `g1.h`.
-#[tactic(auto, using(crate::proofs::Calls::tells_none))]
 #[unsafe(no_mangle)]
 pub extern "C" fn g1_heap_word(
     alloc: Global,
@@ -46,26 +42,16 @@ pub extern "C" fn g1_heap_word(
     slot: u32,
     word: &mut u64,
 ) -> u32
-    ensures word { result ≡ 0 → IsSameHeap heap.old.value heap.new.value (λ old new.
-        HasWord old slot word.new) }
-    ensures told { TellsRefusal 0 result heap.old.value heap.new.value (word.new ≡ 0)
+    ensures told { Answers result word.new (word.new ≡ 0) heap.old.value heap.new.value
+        (λ word. IsSameHeap heap.old.value heap.new.value (λ old new. HasWord old slot word))
         (IsHeapRefused heap.old.value (λ old. LacksSlot old.layout slot)) }
-    ensures same { heap.new.value ≡ heap.old.value }
 {
-    match replace_with(
+    let answer = replace_with(
         heap,
         (alloc, |heap: &mut PausedHeap| word_at(heap, slot)),
         at_pause,
-    ) {
-        Err(refusal) => {
-            *word = 0;
-            refusal.word()
-        }
-        Ok(found) => {
-            *word = found;
-            DONE
-        }
-    }
+    );
+    tell(answer, 0, word)
 }
 
 /// As in `g1.h`.

@@ -1,12 +1,7 @@
 //! Several stores in a race by one call.
-ghost use Rattle.std.specs.Prelude.{◌≡◌, ◌⊎◌, ◌<◌, ◌≤◌, length, take};
-ghost use Rattle.arrayvec.specs.ArrayVec.{array_vec_len};
-ghost use Rattle.g1_race.specs.Members.{race_layout};
-ghost use Rattle.g1_c.specs.Calls.{TellsRefusal};
-ghost use Rattle.g1_handles.specs.Batch.{IsFaultAt};
-ghost use Rattle.g1_handles.specs.RaceStores.{StoresAll, CanStoreAll};
-ghost use Rattle.g1_handles.specs.Racing.{OfRacer, IfRacer, racer_race_of};
-ghost use Rattle.g1_handles.specs.Refusals.{SaysNoMember};
+ghost use Rattle.std.specs.Prelude.{◌≡◌, ◌⊎◌, ◌<◌, ◌≤◌};
+ghost use Rattle.g1_c.specs.{length, take, array_vec_len, race_layout, TellsRefusal, IsFaultAt};
+ghost use Rattle.g1_c.specs.{StoresAll, CanStoreAll, OfRacer, IfRacer, racer_race_of, SaysNoMember};
 
 use core::mem::replace_with;
 use g1_handles::any_handle::visit;

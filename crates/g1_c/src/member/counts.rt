@@ -1,9 +1,7 @@
 //! What a racer and a sweeper have done.
 ghost use Rattle.std.specs.Prelude.{◌≡◌, ◌<◌};
-ghost use Rattle.g1_c.specs.Calls.{TellsRefusal};
+ghost use Rattle.g1_c.specs.{TellsRefusal, OfRacer, OfSweeper, SaysNoMember};
 ghost use Rattle.g1_handles.specs.Counting.{stored_of};
-ghost use Rattle.g1_handles.specs.Racing.{OfRacer, OfSweeper};
-ghost use Rattle.g1_handles.specs.Refusals.{SaysNoMember};
 
 use core::mem::replace_with;
 use g1_handles::any_handle::visit;

@@ -1,10 +1,7 @@
 //! Stores of data in a race.
 ghost use Rattle.std.specs.Prelude.{◌≡◌, ◌<◌, ◌≤◌, ◌^◌};
-ghost use Rattle.g1_layout.specs.Shape.{slot_count};
-ghost use Rattle.g1_race.specs.Members.{race_layout};
-ghost use Rattle.g1_c.specs.Calls.{TellsRefusal};
-ghost use Rattle.g1_handles.specs.Racing.{OfRacer, IfRacer, StoresData, racer_race_of};
-ghost use Rattle.g1_handles.specs.Refusals.{IsRaceDataRefused};
+ghost use Rattle.g1_c.specs.{slot_count, race_layout, TellsRefusal, OfRacer, IfRacer, StoresData};
+ghost use Rattle.g1_c.specs.{racer_race_of, IsRaceDataRefused};
 
 use core::mem::replace_with;
 use g1_handles::any_handle::visit;

@@ -1,12 +1,8 @@
 //! Stores in a race that tell what the slot referred to before, or depend on it.
 ghost use Rattle.std.specs.Prelude.{◌≡◌, ◌⊎◌, ◌<◌, ◌≤◌};
-ghost use Rattle.arrayvec.specs.ArrayVec.{array_vec_len};
-ghost use Rattle.g1_race.specs.Members.{race_layout};
-ghost use Rattle.g1_c.specs.Calls.{TellsRefusal};
-ghost use Rattle.g1_handles.specs.Codes.{IsStoreOf, OfKind, reference_of};
-ghost use Rattle.g1_handles.specs.RaceStores.{Swaps, Exchanges, FindsOther};
-ghost use Rattle.g1_handles.specs.Racing.{OfRacer, IfRacer, racer_race_of};
-ghost use Rattle.g1_handles.specs.Refusals.{IsRaceStoreRefused, IsRaceExchangeRefused};
+ghost use Rattle.g1_c.specs.{array_vec_len, race_layout, TellsRefusal, IsStoreOf, OfKind};
+ghost use Rattle.g1_c.specs.{reference_of, Swaps, Exchanges, FindsOther, OfRacer, IfRacer};
+ghost use Rattle.g1_c.specs.{racer_race_of, IsRaceStoreRefused, IsRaceExchangeRefused};
 
 use core::mem::replace_with;
 use g1_handles::any_handle::visit;

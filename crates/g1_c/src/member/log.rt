@@ -1,9 +1,7 @@
 //! The log of a racer.
-ghost use Rattle.std.specs.Prelude.{◌≡◌, ◌⊎◌, ◌<◌, ◌≤◌, length, take};
-ghost use Rattle.g1_c.specs.Calls.{TellsRefusal};
-ghost use Rattle.g1_handles.specs.Racing.{OfRacer, IfRacer, TakesLog};
-ghost use Rattle.g1_handles.specs.Arrays.{IsWritten};
-ghost use Rattle.g1_handles.specs.Refusals.{SaysNoMember};
+ghost use Rattle.std.specs.Prelude.{◌≡◌, ◌⊎◌, ◌<◌, ◌≤◌};
+ghost use Rattle.g1_c.specs.{length, take, TellsRefusal, OfRacer, IfRacer, TakesLog, IsWritten};
+ghost use Rattle.g1_c.specs.{SaysNoMember};
 
 use g1_handles::code::{DONE, Refusal};
 use g1_handles::member::log::take_log;

@@ -1,15 +1,14 @@
 //! Queries by a reader: what a slot refers to and its word, whether a card is pending, and what is
 //! recorded for a region.
 ghost use Rattle.std.specs.Prelude.{◌≡◌, ◌<◌, ◌≤◌, ◌==◌};
-ghost use Rattle.g1_c.specs.Calls.{TellsRefusal};
-ghost use Rattle.g1_handles.specs.Codes.{reference_of};
-ghost use Rattle.g1_handles.specs.Readers.{OfReader, reader_layout, ReadsTarget, ReadsWord};
-ghost use Rattle.g1_handles.specs.Readers.{ReadsPair, ReadsPending, ReadsNext, IsReaderRefused};
-ghost use Rattle.g1_handles.specs.Lacks.{LacksCard, LacksPair, LacksRegion, LacksSlot};
+ghost use Rattle.g1_c.specs.{reference_of, OfReader, reader_layout, ReadsTarget, ReadsWord};
+ghost use Rattle.g1_c.specs.{ReadsPair, ReadsPending, ReadsNext, IsReaderRefused, LacksCard};
+ghost use Rattle.g1_c.specs.{LacksPair, LacksRegion, LacksSlot, Answers};
 
+use crate::tell::{tell, tell_whether};
 use core::mem::replace_with;
 use g1_handles::any_handle::visit;
-use g1_handles::code::{DONE, NULL};
+use g1_handles::code::NULL;
 use g1_handles::member::Member;
 use g1_handles::member::reader_handle::ReaderHandle;
 use g1_handles::member::reader_queries::{
@@ -19,7 +18,6 @@ use g1_race::Reader;
 use std::alloc::Global;
 
 /// As in `g1.h`.
-#[tactic(auto, using(crate::proofs::Calls::tells_none))]
 #[unsafe(no_mangle)]
 pub extern "C" fn g1_reader_target(
     alloc: Global,
@@ -27,30 +25,20 @@ pub extern "C" fn g1_reader_target(
     slot: u32,
     target: &mut u32,
 ) -> u32
-    ensures target { result ≡ 0 →
-        OfReader reader.old.value (λ a. ReadsTarget a slot (reference_of target.new)) }
-    ensures told { TellsRefusal 0 result reader.old.value reader.new.value (target.new ≡ 4294967295)
+    ensures told { Answers result target.new (target.new ≡ 4294967295)
+        reader.old.value reader.new.value
+        (λ target. OfReader reader.old.value (λ a. ReadsTarget a slot (reference_of target)))
         (IsReaderRefused reader.old.value (λ a. LacksSlot (reader_layout a) slot)) }
-    ensures same { reader.new.value ≡ reader.old.value }
 {
-    match replace_with(
+    let answer = replace_with(
         reader,
         (alloc, |reader: &mut Member<Reader>| target_by(reader, slot)),
         visit,
-    ) {
-        Err(refusal) => {
-            *target = NULL;
-            refusal.word()
-        }
-        Ok(word) => {
-            *target = word;
-            DONE
-        }
-    }
+    );
+    tell(answer, NULL, target)
 }
 
 /// As in `g1.h`.
-#[tactic(auto, using(crate::proofs::Calls::tells_none))]
 #[unsafe(no_mangle)]
 pub extern "C" fn g1_reader_word(
     alloc: Global,
@@ -58,29 +46,19 @@ pub extern "C" fn g1_reader_word(
     slot: u32,
     word: &mut u64,
 ) -> u32
-    ensures word { result ≡ 0 → OfReader reader.old.value (λ a. ReadsWord a slot word.new) }
-    ensures told { TellsRefusal 0 result reader.old.value reader.new.value (word.new ≡ 0)
+    ensures told { Answers result word.new (word.new ≡ 0) reader.old.value reader.new.value
+        (λ word. OfReader reader.old.value (λ a. ReadsWord a slot word))
         (IsReaderRefused reader.old.value (λ a. LacksSlot (reader_layout a) slot)) }
-    ensures same { reader.new.value ≡ reader.old.value }
 {
-    match replace_with(
+    let answer = replace_with(
         reader,
         (alloc, |reader: &mut Member<Reader>| word_by(reader, slot)),
         visit,
-    ) {
-        Err(refusal) => {
-            *word = 0;
-            refusal.word()
-        }
-        Ok(found) => {
-            *word = found;
-            DONE
-        }
-    }
+    );
+    tell(answer, 0, word)
 }
 
 /// As in `g1.h`.
-#[tactic(auto, using(crate::proofs::Calls::tells_none))]
 #[unsafe(no_mangle)]
 pub extern "C" fn g1_reader_is_pending(
     alloc: Global,
@@ -88,34 +66,24 @@ pub extern "C" fn g1_reader_is_pending(
     card: u32,
     pending: &mut u32,
 ) -> u32
-    ensures pending { result ≡ 0 →
-        OfReader reader.old.value (λ a. ReadsPending a card (pending.new == 1)) }
-    ensures word { pending.new ≤ 1 }
-    ensures told { TellsRefusal 0 result reader.old.value reader.new.value (pending.new ≡ 0)
+    ensures told { Answers result (pending.new == 1) (pending.new ≡ 0)
+        reader.old.value reader.new.value
+        (λ answer. OfReader reader.old.value (λ a. ReadsPending a card answer))
         (IsReaderRefused reader.old.value (λ a. LacksCard (reader_layout a) card)) }
-    ensures same { reader.new.value ≡ reader.old.value }
+    ensures word { pending.new ≤ 1 }
 {
-    match replace_with(
+    let answer = replace_with(
         reader,
         (
             alloc,
             |reader: &mut Member<Reader>| is_pending_by(reader, card),
         ),
         visit,
-    ) {
-        Err(refusal) => {
-            *pending = 0;
-            refusal.word()
-        }
-        Ok(answer) => {
-            *pending = answer as u32;
-            DONE
-        }
-    }
+    );
+    tell_whether(answer, pending)
 }
 
 /// As in `g1.h`.
-#[tactic(auto, using(crate::proofs::Calls::tells_none))]
 #[unsafe(no_mangle)]
 pub extern "C" fn g1_reader_has(
     alloc: Global,
@@ -124,34 +92,23 @@ pub extern "C" fn g1_reader_has(
     region: u32,
     has: &mut u32,
 ) -> u32
-    ensures has { result ≡ 0 →
-        OfReader reader.old.value (λ a. ReadsPair a card region (has.new == 1)) }
-    ensures word { has.new ≤ 1 }
-    ensures told { TellsRefusal 0 result reader.old.value reader.new.value (has.new ≡ 0)
+    ensures told { Answers result (has.new == 1) (has.new ≡ 0) reader.old.value reader.new.value
+        (λ answer. OfReader reader.old.value (λ a. ReadsPair a card region answer))
         (IsReaderRefused reader.old.value (λ a. LacksPair (reader_layout a) card region)) }
-    ensures same { reader.new.value ≡ reader.old.value }
+    ensures word { has.new ≤ 1 }
 {
-    match replace_with(
+    let answer = replace_with(
         reader,
         (
             alloc,
             |reader: &mut Member<Reader>| has_by(reader, card, region),
         ),
         visit,
-    ) {
-        Err(refusal) => {
-            *has = 0;
-            refusal.word()
-        }
-        Ok(answer) => {
-            *has = answer as u32;
-            DONE
-        }
-    }
+    );
+    tell_whether(answer, has)
 }
 
 /// As in `g1.h`.
-#[tactic(auto, using(crate::proofs::Calls::tells_none))]
 #[unsafe(no_mangle)]
 pub extern "C" fn g1_reader_next_member(
     alloc: Global,
@@ -160,27 +117,17 @@ pub extern "C" fn g1_reader_next_member(
     from: u32,
     card: &mut u32,
 ) -> u32
-    ensures next { result ≡ 0 →
-        OfReader reader.old.value (λ a. ReadsNext a region from (reference_of card.new)) }
-    ensures told { TellsRefusal 0 result reader.old.value reader.new.value (card.new ≡ 4294967295)
+    ensures told { Answers result card.new (card.new ≡ 4294967295) reader.old.value reader.new.value
+        (λ card. OfReader reader.old.value (λ a. ReadsNext a region from (reference_of card)))
         (IsReaderRefused reader.old.value (λ a. LacksRegion (reader_layout a) region)) }
-    ensures same { reader.new.value ≡ reader.old.value }
 {
-    match replace_with(
+    let answer = replace_with(
         reader,
         (
             alloc,
             |reader: &mut Member<Reader>| next_member_by(reader, region, from),
         ),
         visit,
-    ) {
-        Err(refusal) => {
-            *card = NULL;
-            refusal.word()
-        }
-        Ok(word) => {
-            *card = word;
-            DONE
-        }
-    }
+    );
+    tell(answer, NULL, card)
 }

@@ -1,10 +1,7 @@
 //! Concurrent refinement in a race.
 ghost use Rattle.std.specs.Prelude.{◌≡◌, ◌<◌};
-ghost use Rattle.g1_layout.specs.Shape.{card_count};
-ghost use Rattle.g1_race.specs.Members.{race_layout};
-ghost use Rattle.g1_c.specs.Calls.{TellsRefusal};
-ghost use Rattle.g1_handles.specs.Racing.{OfSweeper, IfSweeper, Sweeps, sweeper_race_of};
-ghost use Rattle.g1_handles.specs.Refusals.{IsSweepRefused};
+ghost use Rattle.g1_c.specs.{card_count, race_layout, TellsRefusal, OfSweeper, IfSweeper, Sweeps};
+ghost use Rattle.g1_c.specs.{sweeper_race_of, IsSweepRefused};
 
 use core::mem::replace_with;
 use g1_handles::any_handle::visit;

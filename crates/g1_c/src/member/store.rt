@@ -1,11 +1,8 @@
 //! Lock-free stores in a race.
 ghost use Rattle.std.specs.Prelude.{◌≡◌, ◌<◌};
-ghost use Rattle.arrayvec.specs.ArrayVec.{array_vec_len};
-ghost use Rattle.g1_race.specs.Members.{race_layout};
-ghost use Rattle.g1_c.specs.Calls.{TellsRefusal};
-ghost use Rattle.g1_handles.specs.Codes.{IsStoreOf, OfKind, reference_of};
-ghost use Rattle.g1_handles.specs.Racing.{OfRacer, IfRacer, Stores, racer_race_of};
-ghost use Rattle.g1_handles.specs.Refusals.{IsRaceStoreRefused};
+ghost use Rattle.g1_c.specs.{array_vec_len, race_layout, TellsRefusal, IsStoreOf, OfKind};
+ghost use Rattle.g1_c.specs.{reference_of, OfRacer, IfRacer, Stores, racer_race_of};
+ghost use Rattle.g1_c.specs.{IsRaceStoreRefused};
 
 use core::mem::replace_with;
 use g1_handles::any_handle::visit;

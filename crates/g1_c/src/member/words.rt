@@ -1,10 +1,8 @@
 //! Stores of words in a race: a slot may hold null, a reference or data.
 ghost use Rattle.std.specs.Prelude.{◌≡◌, ◌⊎◌, ◌<◌, ◌≤◌};
-ghost use Rattle.g1_c.specs.Calls.{TellsRefusal};
-ghost use Rattle.g1_handles.specs.Codes.{OfKind};
+ghost use Rattle.g1_c.specs.{TellsRefusal, OfKind, OfRacer, IfRacer, racer_race_of};
 ghost use Rattle.g1_handles.specs.RaceWords.{SwapsWord, FindsOtherWord, CanStoreWord, MayHave};
 ghost use Rattle.g1_handles.specs.RaceWords.{IsSwapWordRefused, IsExchangeWordRefused};
-ghost use Rattle.g1_handles.specs.Racing.{OfRacer, IfRacer, racer_race_of};
 
 use core::mem::replace_with;
 use g1_handles::any_handle::visit;

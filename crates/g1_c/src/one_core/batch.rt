@@ -1,10 +1,8 @@
 //! Several stores by one call.
-ghost use Rattle.std.specs.Prelude.{◌≡◌, ◌⊎◌, ◌≤◌, length, take, IfSome};
+ghost use Rattle.std.specs.Prelude.{◌≡◌, ◌⊎◌, ◌≤◌};
+ghost use Rattle.g1_c.specs.Prelude.{length, take, IfSome, IsWritten, Between, made_all, IsFaultAt};
+ghost use Rattle.g1_c.specs.Prelude.{AreStoresRefused, IsCallRefused};
 ghost use Rattle.g1_c.specs.Calls.{TellsRefusal};
-ghost use Rattle.g1_handles.specs.Arrays.{IsWritten};
-ghost use Rattle.g1_handles.specs.Codes.{Between};
-ghost use Rattle.g1_handles.specs.Batch.{made_all, IsFaultAt};
-ghost use Rattle.g1_handles.specs.Refusals.{AreStoresRefused, IsCallRefused};
 
 use core::mem::replace_with;
 use g1_core::Core;

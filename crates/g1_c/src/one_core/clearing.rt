@@ -1,9 +1,6 @@
 //! The clear.
 ghost use Rattle.std.specs.Prelude.{◌≡◌, ◌≢◌, ◌<◌};
-ghost use Rattle.g1_handles.specs.Codes.{Between, IsRefusal};
-ghost use Rattle.g1_handles.specs.Refusals.{IsCallRefused};
-ghost use Rattle.g1_handles.specs.Lacks.{LacksRegion};
-ghost use Rattle.g1_handles.specs.Replies.{ClearsTo, AreOnlyRead};
+ghost use Rattle.g1_c.specs.{Between, IsRefusal, IsCallRefused, LacksRegion, ClearsTo, AreOnlyRead};
 
 use core::mem::replace_with;
 use g1_core::{ClearReply, Core};

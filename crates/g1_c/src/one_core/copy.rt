@@ -1,11 +1,7 @@
 //! A range of slots of a core is copied to another one.
-ghost use Rattle.std.specs.Prelude.{◌≡◌, ◌+◌, ◌≤◌, IfSome};
-ghost use Rattle.g1_layout.specs.Shape.{slot_count};
-ghost use Rattle.g1_c.specs.Calls.{TellsRefusal};
-ghost use Rattle.g1_handles.specs.Codes.{Between};
+ghost use Rattle.std.specs.Prelude.{◌≡◌, ◌+◌, ◌≤◌};
+ghost use Rattle.g1_c.specs.{IfSome, slot_count, TellsRefusal, Between, LacksRanges, IsCallRefused};
 ghost use Rattle.g1_handles.specs.Copies.{CopiesSlots};
-ghost use Rattle.g1_handles.specs.Lacks.{LacksRanges};
-ghost use Rattle.g1_handles.specs.Refusals.{IsCallRefused};
 
 use core::mem::replace_with;
 use g1_core::Core;

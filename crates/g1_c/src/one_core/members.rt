@@ -1,9 +1,7 @@
 //! The remembered set of a region, as it is recorded.
-ghost use Rattle.std.specs.Prelude.{◌≡◌, ◌≢◌, ◌<◌, length, take};
-ghost use Rattle.g1_handles.specs.Arrays.{IsWritten};
-ghost use Rattle.g1_handles.specs.Codes.{OfOpen, IsRefusal};
-ghost use Rattle.g1_handles.specs.Queries.{HasMembers, Overflows};
-ghost use Rattle.g1_handles.specs.Refusals.{AreMembersRefused, IsCallRefused};
+ghost use Rattle.std.specs.Prelude.{◌≡◌, ◌≢◌, ◌<◌};
+ghost use Rattle.g1_c.specs.{length, take, IsWritten, OfOpen, IsRefusal, HasMembers, Overflows};
+ghost use Rattle.g1_c.specs.{AreMembersRefused, IsCallRefused};
 
 use core::mem::replace_with;
 use g1_core::Core;

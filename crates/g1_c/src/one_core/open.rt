@@ -1,9 +1,7 @@
 //! Opening and closing a handle.
-ghost use Rattle.std.specs.Prelude.{◌≡◌, ◌↔◌, ◌<◌, Some, None, IsSome};
-ghost use Rattle.g1_core.specs.Machine.{Machine, new_machine};
-ghost use Rattle.g1_c.specs.Calls.{TellsRefusal};
-ghost use Rattle.g1_handles.specs.Codes.{layout_of, settings_of, IsRefusal};
-ghost use Rattle.g1_handles.specs.Refusals.{IsOpenRefused, SaysNotOpen};
+ghost use Rattle.std.specs.Prelude.{◌≡◌, ◌↔◌, ◌<◌};
+ghost use Rattle.g1_c.specs.{Some, None, IsSome, Machine, new_machine, TellsRefusal, layout_of};
+ghost use Rattle.g1_c.specs.{settings_of, IsRefusal, IsOpenRefused, SaysNotOpen};
 
 use core::mem::replace_with;
 use g1_handles::code::DONE;

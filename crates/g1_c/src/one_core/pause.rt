@@ -1,10 +1,7 @@
 //! The pause.
-ghost use Rattle.std.specs.Prelude.{◌≡◌, ◌<◌, length, take};
-ghost use Rattle.g1_c.specs.Calls.{TellsRefusal};
-ghost use Rattle.g1_handles.specs.Arrays.{IsWritten};
-ghost use Rattle.g1_handles.specs.Codes.{Between};
-ghost use Rattle.g1_handles.specs.Refusals.{IsCallRefused, IsDrainRefused};
-ghost use Rattle.g1_handles.specs.Replies.{DrainsTo};
+ghost use Rattle.std.specs.Prelude.{◌≡◌, ◌<◌};
+ghost use Rattle.g1_c.specs.{length, take, TellsRefusal, IsWritten, Between, IsCallRefused};
+ghost use Rattle.g1_c.specs.{IsDrainRefused, DrainsTo};
 
 use core::mem::replace_with;
 use g1_core::{Core, Drained};

@@ -1,11 +1,9 @@
 //! Queries: what a slot refers to, whether a card is pending, and how much is pending and recorded.
-ghost use Rattle.std.specs.Prelude.{◌≡◌, ◌<◌, ◌≤◌, ◌==◌, IfSome, IsSome};
-ghost use Rattle.g1_layout.specs.Shape.{slot_count, card_count};
+ghost use Rattle.std.specs.Prelude.{◌≡◌, ◌<◌, ◌≤◌, ◌==◌};
+ghost use Rattle.g1_c.specs.Prelude.{IfSome, IsSome, slot_count, card_count, Between, OfOpen};
+ghost use Rattle.g1_c.specs.Prelude.{reference_of, RefersTo, IsToldPending, HasStatus};
+ghost use Rattle.g1_c.specs.Prelude.{IsCallRefused, SaysNotOpen, LacksCard, LacksSlot};
 ghost use Rattle.g1_c.specs.Calls.{TellsRefusal};
-ghost use Rattle.g1_handles.specs.Codes.{Between, OfOpen, reference_of};
-ghost use Rattle.g1_handles.specs.Queries.{RefersTo, IsToldPending, HasStatus};
-ghost use Rattle.g1_handles.specs.Refusals.{IsCallRefused, SaysNotOpen};
-ghost use Rattle.g1_handles.specs.Lacks.{LacksCard, LacksSlot};
 
 use core::mem::replace_with;
 use g1_core::Core;

@@ -1,10 +1,7 @@
 //! The redirect.
-ghost use Rattle.std.specs.Prelude.{◌≡◌, ◌<◌, length, take};
-ghost use Rattle.g1_c.specs.Calls.{TellsRefusal};
-ghost use Rattle.g1_handles.specs.Arrays.{IsWritten};
-ghost use Rattle.g1_handles.specs.Codes.{Between};
-ghost use Rattle.g1_handles.specs.Refusals.{IsCallRefused, IsRedirectRefused};
-ghost use Rattle.g1_handles.specs.Replies.{RedirectsTo};
+ghost use Rattle.std.specs.Prelude.{◌≡◌, ◌<◌};
+ghost use Rattle.g1_c.specs.{length, take, TellsRefusal, IsWritten, Between, IsCallRefused};
+ghost use Rattle.g1_c.specs.{IsRedirectRefused, RedirectsTo};
 
 use core::mem::replace_with;
 use g1_core::{Core, Redirected};

@@ -1,10 +1,8 @@
 //! Refinement.
-ghost use Rattle.std.specs.Prelude.{◌≡◌, ◌≤◌, length, take};
+ghost use Rattle.std.specs.Prelude.{◌≡◌, ◌≤◌};
+ghost use Rattle.g1_c.specs.Prelude.{length, take, IsWritten, Between, IsCallRefused};
+ghost use Rattle.g1_c.specs.Prelude.{IsRefinementRefused, RefinesTo, reply_of};
 ghost use Rattle.g1_c.specs.Calls.{TellsRefusal};
-ghost use Rattle.g1_handles.specs.Arrays.{IsWritten};
-ghost use Rattle.g1_handles.specs.Codes.{Between};
-ghost use Rattle.g1_handles.specs.Refusals.{IsCallRefused, IsRefinementRefused};
-ghost use Rattle.g1_handles.specs.Replies.{RefinesTo, reply_of};
 
 use core::mem::replace_with;
 use g1_core::Core;

@@ -1,12 +1,9 @@
 //! Stores.
-ghost use Rattle.std.specs.Prelude.{◌≡◌, IfSome};
+ghost use Rattle.std.specs.Prelude.{◌≡◌};
+ghost use Rattle.g1_c.specs.{IfSome, TellsRefusal, kind_word, reference_of, IsStoreOf, Between};
+ghost use Rattle.g1_c.specs.{OfOpen, LacksPlace, IsCallRefused};
 ghost use Rattle.g1_core.specs.Run.{kind_of};
-ghost use Rattle.g1_c.specs.Calls.{TellsRefusal};
-ghost use Rattle.g1_handles.specs.Codes.{kind_word, reference_of, IsStoreOf, Between};
 ghost use Rattle.g1_core.specs.Barrier.{stored_machine};
-ghost use Rattle.g1_handles.specs.Codes.{OfOpen};
-ghost use Rattle.g1_handles.specs.Lacks.{LacksPlace};
-ghost use Rattle.g1_handles.specs.Refusals.{IsCallRefused};
 
 use core::mem::replace_with;
 use g1_core::Core;

@@ -1,12 +1,7 @@
 //! Checks of a core for a debug build.
-ghost use Rattle.std.specs.Prelude.{◌≡◌, ◌+◌, ◌≤◌, IfSome, length};
-ghost use Rattle.g1_layout.specs.Shape.{slot_count};
-ghost use Rattle.g1_core.specs.Machine.{IsOnlyRead};
-ghost use Rattle.g1_c.specs.Calls.{TellsRefusal};
-ghost use Rattle.g1_handles.specs.Codes.{Between};
-ghost use Rattle.g1_handles.specs.Verifying.{Finds};
-ghost use Rattle.g1_handles.specs.Lacks.{LacksRanges};
-ghost use Rattle.g1_handles.specs.Refusals.{IsCallRefused};
+ghost use Rattle.std.specs.Prelude.{◌≡◌, ◌+◌, ◌≤◌};
+ghost use Rattle.g1_c.specs.{IfSome, length, slot_count, IsOnlyRead, TellsRefusal, Between, Finds};
+ghost use Rattle.g1_c.specs.{LacksRanges, IsCallRefused};
 
 use core::mem::replace_with;
 use g1_core::Core;

@@ -1,10 +1,6 @@
 //! A call on a heap at a pause.
-ghost use Rattle.std.specs.Prelude.{Some, Result};
-ghost use Rattle.std.specs.Fn.{FnOnceReturnsAtMut};
-ghost use Rattle.g1_race.specs.Over.{Pause};
-ghost use Rattle.g1_handles.specs.declared.code.Refusal.{Refusal};
-ghost use Rattle.g1_handles.specs.AtPause.{IsKept};
-ghost use Rattle.g1_handles.specs.HeapCalls.{IsCalled};
+ghost use Rattle.g1_handles.specs.{Some, Result, FnOnceReturnsAtMut, Pause, Refusal, IsKept};
+ghost use Rattle.g1_handles.specs.{IsCalled};
 
 use crate::any_handle::{closed, into_box, opened};
 use crate::code::Refusal;

@@ -1,7 +1,7 @@
 //! A range of slots is copied to another one at a pause.
-ghost use Rattle.std.specs.Prelude.{◌≡◌, OnOk, IfErr, OnErr};
-ghost use Rattle.g1_handles.specs.AtPause.{IsKept, Copies};
-ghost use Rattle.g1_handles.specs.Lacks.{LacksRanges};
+ghost use Rattle.std.specs.Prelude.{◌≡◌};
+ghost use Rattle.g1_handles.specs.{OnOk, IfErr, OnErr, IsKept, LacksRanges};
+ghost use Rattle.g1_handles.specs.AtPause.{Copies};
 
 use crate::code::Refusal;
 use crate::heap::at_pause::PausedHeap;
@@ -9,7 +9,7 @@ use crate::one_core::copy::has_slots;
 
 /// Copies the words of `count` slots, from the slot `from` on, to as many from the slot `to` on.
 /// Returns `NoSlot` if one of the two ranges leaves the heap: nothing has changed.
-#[tactic(auto, using(crate::proofs::Kept::kept_same, crate::proofs::Kept::kept_race))]
+#[tactic(auto, using(crate::proofs::Kept::kept_same))]
 pub fn copy_at(heap: &mut PausedHeap, from: u32, to: u32, count: u32) -> Result<(), Refusal>
     ensures copied { OnOk result (Copies heap.old from to count heap.new) }
     ensures why { IfErr result (LacksRanges heap.old.layout from count to count) }

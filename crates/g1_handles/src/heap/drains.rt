@@ -1,10 +1,9 @@
 //! Refinement at a pause.
-ghost use Rattle.g1_handles.specs.AtPause.{IsKept, Refines};
+ghost use Rattle.g1_handles.specs.{IsKept, Refines};
 
 use crate::heap::at_pause::PausedHeap;
 
 /// Refines every dirty card. The members of each region are exact then.
-#[tactic(auto, using(crate::proofs::Kept::kept_refined))]
 pub fn refine_at(heap: &mut PausedHeap)
     ensures refined { Refines heap.old heap.new }
     ensures kept { IsKept heap.old heap.new }

@@ -1,12 +1,9 @@
 //! What follows an evacuation: references are moved or a remembered set is emptied, and a region is
 //! freed.
-ghost use Rattle.std.specs.Prelude.{◌≡◌, ◌≢◌, ◌<◌, ◌⊎◌, ℕ, true, false, IfOk, OnOk, IfErr, OnErr};
-ghost use Rattle.g1_layout.specs.Shape.{region_of};
-ghost use Rattle.g1_core.specs.Table.{Crosses};
-ghost use Rattle.g1_race.specs.Over.{table_at};
-ghost use Rattle.g1_handles.specs.AtPause.{IsKept, ClearsAt, Redirects, Wipes, Forgets, RefersOut};
-ghost use Rattle.g1_handles.specs.Codes.{cleared_of, IsClearWord};
-ghost use Rattle.g1_handles.specs.Lacks.{LacksRegion};
+ghost use Rattle.std.specs.Prelude.{◌≡◌, ◌≢◌, ◌<◌, ◌⊎◌, true};
+ghost use Rattle.g1_handles.specs.{ℕ, false, IfOk, OnOk, IfErr, OnErr, region_of, Crosses};
+ghost use Rattle.g1_handles.specs.{table_at, IsKept, ClearsAt, Redirects, Wipes, Forgets};
+ghost use Rattle.g1_handles.specs.{RefersOut, cleared_of, IsClearWord, LacksRegion};
 
 use crate::code::Refusal;
 use crate::heap::at_pause::PausedHeap;
@@ -17,7 +14,7 @@ use g1_layout::{Layout, Region};
 /// refers into it. Returns the word of the reply and the number that goes with it, as
 /// [`clear_in`](crate::one_core::clearing::clear_in) does. Unless that word is 0, nothing has
 /// changed. Returns `NoRegion` if the call was refused.
-#[tactic(auto, using(crate::proofs::Kept::kept_same, crate::proofs::Kept::kept_race))]
+#[tactic(auto, using(crate::proofs::Kept::kept_same))]
 pub fn clear_at(heap: &mut PausedHeap, region: u32) -> Result<(u32, u32), Refusal>
     ensures cleared { IfOk result (λ answer.
         ClearsAt heap.old region (cleared_of answer.0 answer.1) heap.new) }
@@ -35,7 +32,7 @@ pub fn clear_at(heap: &mut PausedHeap, region: u32) -> Result<(u32, u32), Refusa
 
 /// Moves the references into one region to another, and returns how many slots changed. Returns
 /// `NoRegion`, for either region, or `SameRegion` if the call was refused: nothing has changed.
-#[tactic(auto, using(crate::proofs::Kept::kept_same, crate::proofs::Kept::kept_refined))]
+#[tactic(auto, using(crate::proofs::Kept::kept_same))]
 pub fn redirect_at(heap: &mut PausedHeap, from: u32, to: u32) -> Result<u32, Refusal>
     ensures redirected { IfOk result (λ slots. Redirects heap.old from to slots heap.new) }
     ensures why { IfErr result (λ refusal. LacksRegion heap.old.layout from refusal
@@ -58,7 +55,7 @@ pub fn redirect_at(heap: &mut PausedHeap, from: u32, to: u32) -> Result<u32, Ref
 
 /// Stores null into each slot of a region. Returns `NoRegion` if the call was refused: nothing has
 /// changed.
-#[tactic(auto, using(crate::proofs::Kept::kept_same, crate::proofs::Kept::kept_race))]
+#[tactic(auto, using(crate::proofs::Kept::kept_same))]
 pub fn wipe_at(heap: &mut PausedHeap, region: u32) -> Result<(), Refusal>
     ensures wiped { OnOk result (Wipes heap.old region heap.new) }
     ensures why { IfErr result (LacksRegion heap.old.layout region) }
@@ -74,7 +71,7 @@ pub fn wipe_at(heap: &mut PausedHeap, region: u32) -> Result<(), Refusal>
 
 /// Removes a region's cards from all remembered sets. Returns `NoRegion`, or `StillReferenced` if a
 /// slot of the region refers out of it: nothing has changed.
-#[tactic(auto, using(crate::proofs::Kept::kept_same, crate::proofs::Kept::kept_race))]
+#[tactic(auto, using(crate::proofs::Kept::kept_same))]
 pub fn forget_at(heap: &mut PausedHeap, region: u32) -> Result<(), Refusal>
     ensures forgotten { OnOk result (Forgets heap.old region heap.new) }
     ensures why { IfErr result (λ refusal. LacksRegion heap.old.layout region refusal

@@ -1,6 +1,6 @@
 //! The handle of a heap whose stores race.
-ghost use Rattle.std.specs.Prelude.{◌≡◌, Option};
-ghost use Rattle.std.specs.Coded.{coded_option};
+ghost use Rattle.std.specs.Prelude.{◌≡◌};
+ghost use Rattle.g1_handles.specs.Prelude.{Option, coded_option};
 ghost use Rattle.g1_handles.specs.declared.heap.racing_heap.RacingHeap.{RacingHeap};
 ghost use Rattle.g1_handles.specs.Own.{heap_row};
 

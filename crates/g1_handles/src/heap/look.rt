@@ -1,7 +1,6 @@
 //! What a pause checks of each member of a race.
-ghost use Rattle.std.specs.Prelude.{◌≡◌, ◌⊎◌, Some, All, Any, OnOk, IfErr, map};
-ghost use Rattle.g1_handles.specs.Racing.{IsAmong};
-ghost use Rattle.g1_handles.specs.Refusals.{SaysNoMember};
+ghost use Rattle.std.specs.Prelude.{◌≡◌, ◌⊎◌};
+ghost use Rattle.g1_handles.specs.{Some, All, Any, OnOk, IfErr, map, IsAmong, SaysNoMember};
 
 use crate::any_handle::{AnyHandle, closed, into_box, opened};
 use crate::code::Refusal;

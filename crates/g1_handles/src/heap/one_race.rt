@@ -5,9 +5,8 @@
 //! member is of the same race, and only then. Each member also has a number, so that a member that
 //! is given twice is seen. No proof uses what the counts say: the clauses say only that nothing
 //! changes, and that the returned share is of the heap's race.
-ghost use Rattle.std.specs.Prelude.{◌≡◌, IfSome, map};
-ghost use Rattle.std.specs.Arc.{arc_value};
-ghost use Rattle.g1_handles.specs.Racing.{held_racers, held_sweepers};
+ghost use Rattle.std.specs.Prelude.{◌≡◌};
+ghost use Rattle.g1_handles.specs.{IfSome, map, arc_value, held_racers, held_sweepers};
 
 use crate::any_handle::{AnyHandle, closed, into_box, opened};
 use crate::member::racer_handle::RacerHandle;

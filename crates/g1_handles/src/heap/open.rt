@@ -1,11 +1,9 @@
 //! How a heap whose stores race begins and ends: at a pause.
-ghost use Rattle.std.specs.Prelude.{◌≡◌, IsTrue, Some, None, All, IfOk, IfErr, OnOk, OnErr};
-ghost use Rattle.std.specs.Prelude.{ℕ, ◌<◌, slice_index_or, vec_len};
-ghost use Rattle.std.specs.Arc.{arc_value};
-ghost use Rattle.g1_handles.specs.Codes.{layout_of};
-ghost use Rattle.g1_handles.specs.Life.{IsNewHeap, IsOpeningRefused, AreHeapCounts, OfPaused};
-ghost use Rattle.g1_handles.specs.Life.{IsEndRefused, HasCountedNothing};
-ghost use Rattle.g1_handles.specs.Counting.{no_counts};
+ghost use Rattle.std.specs.Prelude.{◌≡◌, ◌<◌};
+ghost use Rattle.g1_handles.specs.{IsTrue, Some, None, All, IfOk, IfErr, OnOk, OnErr, ℕ};
+ghost use Rattle.g1_handles.specs.{slice_index_or, vec_len, arc_value, layout_of, IsNewHeap};
+ghost use Rattle.g1_handles.specs.{IsOpeningRefused, AreHeapCounts, OfPaused, IsEndRefused};
+ghost use Rattle.g1_handles.specs.{HasCountedNothing, no_counts};
 
 use crate::any_handle::{closed, into_box, is_closed, opened};
 use crate::code::Refusal;

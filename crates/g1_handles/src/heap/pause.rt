@@ -1,16 +1,11 @@
 //! How a heap whose stores race comes to a pause.
-ghost use Rattle.std.specs.Prelude.{◌≡◌, ◌≤◌, Some, All, IfErr, OnOk, OnErr};
-ghost use Rattle.std.specs.Prelude.{IsSome, length, map, vec_capacity};
-ghost use Rattle.std.specs.Arc.{arc_value};
-ghost use Rattle.g1_race.specs.declared.race.Race.{Race};
-ghost use Rattle.g1_race.specs.Members.{racer_view, sweeper_view, racer_log};
-ghost use Rattle.g1_handles.specs.Life.{OfPaused, OfRacing, IsFor, IsPauseOf};
-ghost use Rattle.g1_handles.specs.Life.{IsPauseRefused, AreOfHeap, AreLikeOf, AreFor, ComesIn};
-ghost use Rattle.g1_handles.specs.Life.{heap_race, heap_counts, boxed_counts};
-ghost use Rattle.g1_handles.specs.Life.{waiting_counts};
-ghost use Rattle.g1_handles.specs.Phases.{ComesToPause};
-ghost use Rattle.g1_handles.specs.Racing.{held_racers, held_sweepers, role_in, AreClosed, IsOf};
-ghost use Rattle.g1_handles.specs.Racing.{counts_of};
+ghost use Rattle.std.specs.Prelude.{◌≡◌, ◌≤◌};
+ghost use Rattle.g1_handles.specs.{Some, All, IfErr, OnOk, OnErr, IsSome, length, map};
+ghost use Rattle.g1_handles.specs.{vec_capacity, arc_value, Race, racer_view, sweeper_view};
+ghost use Rattle.g1_handles.specs.{racer_log, OfPaused, OfRacing, IsFor, IsPauseOf, IsPauseRefused};
+ghost use Rattle.g1_handles.specs.{AreOfHeap, AreLikeOf, AreFor, ComesIn, heap_race, heap_counts};
+ghost use Rattle.g1_handles.specs.{boxed_counts, waiting_counts, ComesToPause, held_racers};
+ghost use Rattle.g1_handles.specs.{held_sweepers, role_in, AreClosed, IsOf, counts_of};
 
 use crate::any_handle::{AnyHandle, closed, into_box, opened};
 use crate::code::Refusal;

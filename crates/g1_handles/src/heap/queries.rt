@@ -1,11 +1,9 @@
 //! Queries at a pause: what a slot refers to, whether a card is pending, how much is pending and
 //! recorded, and what is recorded for a region, card by card.
-ghost use Rattle.std.specs.Prelude.{◌≡◌, IfOk, IfErr};
-ghost use Rattle.g1_handles.specs.Codes.{reference_of};
-ghost use Rattle.g1_handles.specs.AtPause.{IsKept, SlotRefers, TellsPending, TellsStatus};
-ghost use Rattle.g1_race.specs.Over.{table_at};
-ghost use Rattle.g1_race.specs.Reading.{IsNextMember};
-ghost use Rattle.g1_handles.specs.Lacks.{LacksCard, LacksRegion, LacksSlot};
+ghost use Rattle.std.specs.Prelude.{◌≡◌};
+ghost use Rattle.g1_handles.specs.{IfOk, IfErr, reference_of, IsKept, SlotRefers, TellsPending};
+ghost use Rattle.g1_handles.specs.{TellsStatus, table_at, IsNextMember, LacksCard, LacksRegion};
+ghost use Rattle.g1_handles.specs.{LacksSlot};
 
 use crate::code::{NULL, Refusal};
 use crate::heap::at_pause::PausedHeap;

@@ -1,13 +1,9 @@
 //! How a heap at a pause is lent to several threads, each of which reads it by a reader.
-ghost use Rattle.std.specs.Prelude.{◌≡◌, ◌+◌, ◌≤◌, Some, All, IfErr, OnOk, OnErr, length, map};
-ghost use Rattle.std.specs.Prelude.{vec_len, vec_capacity};
-ghost use Rattle.std.specs.Arc.{arc_value};
-ghost use Rattle.g1_race.specs.declared.race.Race.{Race};
-ghost use Rattle.g1_handles.specs.Life.{OfPaused, OfRead, AreFor};
-ghost use Rattle.g1_handles.specs.Phases.{BeginsReading};
-ghost use Rattle.g1_handles.specs.Racing.{held_readers, role_in, IsOf};
-ghost use Rattle.g1_handles.specs.Readers.{IsLentHeap, IsReadRefused};
-ghost use Rattle.g1_handles.specs.Readers.{IsLent, AreOut};
+ghost use Rattle.std.specs.Prelude.{◌≡◌, ◌+◌, ◌≤◌};
+ghost use Rattle.g1_handles.specs.{Some, All, IfErr, OnOk, OnErr, length, map, vec_len};
+ghost use Rattle.g1_handles.specs.{vec_capacity, arc_value, Race, OfPaused, OfRead, AreFor};
+ghost use Rattle.g1_handles.specs.{BeginsReading, held_readers, role_in, IsOf, IsLentHeap};
+ghost use Rattle.g1_handles.specs.{IsReadRefused, IsLent, AreOut};
 
 use crate::any_handle::{are_closed, closed, into_box, opened};
 use crate::code::Refusal;

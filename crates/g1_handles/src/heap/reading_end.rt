@@ -1,11 +1,9 @@
 //! How a heap is at its pause again, after threads have read it.
-ghost use Rattle.std.specs.Prelude.{◌≡◌, Some, IfErr, OnOk, OnErr, IsSome, All, length};
-ghost use Rattle.std.specs.Arc.{arc_value};
-ghost use Rattle.g1_handles.specs.Life.{OfRead};
-ghost use Rattle.g1_handles.specs.Phases.{EndsReading};
-ghost use Rattle.g1_handles.specs.Racing.{held_readers, role_in, AreClosed};
-ghost use Rattle.g1_handles.specs.Readers.{AreReadersAt, AreReadersOf, AreReadersLike, IsLentHeap};
-ghost use Rattle.g1_handles.specs.Readers.{IsReadBy, IsReadEndRefused, IsLent, AreOut};
+ghost use Rattle.std.specs.Prelude.{◌≡◌};
+ghost use Rattle.g1_handles.specs.{Some, IfErr, OnOk, OnErr, IsSome, All, length, arc_value};
+ghost use Rattle.g1_handles.specs.{OfRead, EndsReading, held_readers, role_in, AreClosed};
+ghost use Rattle.g1_handles.specs.{AreReadersAt, AreReadersOf, AreReadersLike, IsLentHeap};
+ghost use Rattle.g1_handles.specs.{IsReadBy, IsReadEndRefused, IsLent, AreOut};
 
 use crate::any_handle::{closed, into_box, opened};
 use crate::code::Refusal;

@@ -1,14 +1,9 @@
 //! How a heap whose stores race goes on after a pause.
-ghost use Rattle.std.specs.Prelude.{◌≡◌, Some, All, IfErr, OnOk, OnErr, length, map};
-ghost use Rattle.std.specs.Prelude.{vec_capacity};
-ghost use Rattle.std.specs.Arc.{arc_value};
-ghost use Rattle.g1_race.specs.declared.race.Race.{Race};
-ghost use Rattle.g1_handles.specs.Life.{OfPaused, LetsGo, IsLetGo};
-ghost use Rattle.g1_handles.specs.Life.{IsGoingRefused, AreFor};
-ghost use Rattle.g1_handles.specs.Life.{held_counts, boxed_counts, waiting_counts};
-ghost use Rattle.g1_handles.specs.Phases.{Resumes};
-ghost use Rattle.g1_handles.specs.Racing.{held_racers, held_sweepers, role_in, IsOf};
-ghost use Rattle.g1_handles.specs.Racing.{counts_of};
+ghost use Rattle.std.specs.Prelude.{◌≡◌};
+ghost use Rattle.g1_handles.specs.{Some, All, IfErr, OnOk, OnErr, length, map, vec_capacity};
+ghost use Rattle.g1_handles.specs.{arc_value, Race, OfPaused, LetsGo, IsLetGo, IsGoingRefused};
+ghost use Rattle.g1_handles.specs.{AreFor, held_counts, boxed_counts, waiting_counts, Resumes};
+ghost use Rattle.g1_handles.specs.{held_racers, held_sweepers, role_in, IsOf, counts_of};
 
 use crate::any_handle::{AnyHandle, are_closed, closed, into_box, opened};
 use crate::code::Refusal;

@@ -1,10 +1,8 @@
 //! The remembered set of a region at a pause, in an array of the caller's.
-ghost use Rattle.std.specs.Prelude.{◌≡◌, ◌+◌, ◌<◌, ◌≤◌, ◌++◌, ℕ, List, Some, IfOk, IfErr};
-ghost use Rattle.std.specs.Prelude.{OnErr, length};
-ghost use Rattle.g1_layout.specs.Shape.{card_count};
-ghost use Rattle.g1_core.specs.Table.{AreMembers};
-ghost use Rattle.g1_race.specs.Over.{table_at};
-ghost use Rattle.g1_handles.specs.AtPause.{IsKept, DrainsAtPause, TellsMembers};
+ghost use Rattle.std.specs.Prelude.{◌≡◌, ◌+◌, ◌<◌, ◌≤◌, ◌++◌};
+ghost use Rattle.g1_handles.specs.Prelude.{ℕ, List, Some, IfOk, IfErr, OnErr, length, card_count};
+ghost use Rattle.g1_handles.specs.Prelude.{AreMembers, table_at, IsKept};
+ghost use Rattle.g1_handles.specs.AtPause.{DrainsAtPause, TellsMembers};
 ghost use Rattle.g1_handles.specs.HeapCalls.{IsCalled};
 ghost use Rattle.g1_handles.specs.Sets.{Tells, AreMembersBelow, IsSetCall};
 ghost use Rattle.g1_handles.specs.Lacks.{LacksRegion};

@@ -1,9 +1,7 @@
 //! The collector's own stores at a pause.
-ghost use Rattle.std.specs.Prelude.{◌≡◌, ◌⊎◌, length, take, IfOk, IfErr, OnErr};
-ghost use Rattle.g1_handles.specs.AtPause.{IsKept, StoresAt, StoresAllAt};
-ghost use Rattle.g1_handles.specs.Batch.{IsFaultAt};
-ghost use Rattle.g1_handles.specs.Codes.{reference_of};
-ghost use Rattle.g1_handles.specs.Lacks.{LacksPlace};
+ghost use Rattle.std.specs.Prelude.{◌≡◌, ◌⊎◌};
+ghost use Rattle.g1_handles.specs.{length, take, IfOk, IfErr, OnErr, IsKept, StoresAt, StoresAllAt};
+ghost use Rattle.g1_handles.specs.{IsFaultAt, reference_of, LacksPlace};
 
 use crate::code::Refusal;
 use crate::heap::at_pause::PausedHeap;
@@ -13,7 +11,7 @@ use g1_layout::Kind;
 
 /// Stores a target into a slot, and returns the kind of the store. Returns `NoSlot`, for the slot
 /// or the target, if the call was refused: nothing has changed.
-#[tactic(auto, using(crate::proofs::Kept::kept_same, crate::proofs::Kept::kept_race))]
+#[tactic(auto, using(crate::proofs::Kept::kept_same))]
 pub fn store_at(heap: &mut PausedHeap, slot: u32, target: u32) -> Result<Kind, Refusal>
     ensures stored { IfOk result (λ kind.
         StoresAt heap.old slot (reference_of target) kind heap.new) }
@@ -33,7 +31,6 @@ pub fn store_at(heap: &mut PausedHeap, slot: u32, target: u32) -> Result<Kind, R
 
 /// Makes stores in order, up to the first that names a slot or a target that the heap does not
 /// have, and returns how many it made.
-#[tactic(auto, using(crate::proofs::Kept::kept_race))]
 pub fn store_all_at(heap: &mut PausedHeap, stores: &[Store]) -> usize
     ensures stored { StoresAllAt heap.old (take result stores.now) heap.new }
     ensures stopped { (result ≡ length stores.now)

@@ -1,9 +1,7 @@
 //! Checks of a heap at a pause, for a debug build.
-ghost use Rattle.std.specs.Prelude.{◌≡◌, ◌+◌, ◌≤◌, length, IfOk, IfErr, IsOk};
-ghost use Rattle.g1_layout.specs.Shape.{slot_count};
-ghost use Rattle.g1_handles.specs.AtPause.{IsKept};
-ghost use Rattle.g1_handles.specs.Verifying.{FindsAt};
-ghost use Rattle.g1_handles.specs.Lacks.{LacksRanges};
+ghost use Rattle.std.specs.Prelude.{◌≡◌, ◌+◌, ◌≤◌};
+ghost use Rattle.g1_handles.specs.{length, IfOk, IfErr, IsOk, slot_count, IsKept, FindsAt};
+ghost use Rattle.g1_handles.specs.{LacksRanges};
 
 use crate::code::Refusal;
 use crate::heap::at_pause::PausedHeap;

@@ -1,10 +1,8 @@
 //! The words of a heap: where they lie, and, at a pause, what a slot's is and a store of data,
 //! which refers to nothing.
-ghost use Rattle.std.specs.Prelude.{◌≡◌, ◌⊎◌, ◌<◌, ◌^◌, Some, IfOk, OnOk, IfErr, OnErr};
-ghost use Rattle.g1_race.specs.Members.{race_words};
-ghost use Rattle.g1_handles.specs.AtPause.{IsKept, HasWord, StoresDataAt};
-ghost use Rattle.g1_handles.specs.Life.{OfHeap, SaysNoHeap};
-ghost use Rattle.g1_handles.specs.Lacks.{LacksSlot};
+ghost use Rattle.std.specs.Prelude.{◌≡◌, ◌⊎◌, ◌<◌, ◌^◌};
+ghost use Rattle.g1_handles.specs.{Some, IfOk, OnOk, IfErr, OnErr, race_words, IsKept, HasWord};
+ghost use Rattle.g1_handles.specs.{StoresDataAt, OfHeap, SaysNoHeap, LacksSlot};
 
 use crate::any_handle::{closed, into_box, opened};
 use crate::code::Refusal;
@@ -57,7 +55,7 @@ pub fn word_at(heap: &mut PausedHeap, slot: u32) -> Result<u64, Refusal>
 
 /// Stores data into a slot: a word from 2^32 on, which refers to nothing. Returns `NoSlot`, or
 /// `BadWord` for a lower word, if the call was refused: nothing has changed.
-#[tactic(auto, using(crate::proofs::Kept::kept_same, crate::proofs::Kept::kept_race))]
+#[tactic(auto, using(crate::proofs::Kept::kept_same))]
 pub fn store_data_at(heap: &mut PausedHeap, slot: u32, word: u64) -> Result<(), Refusal>
     ensures stored { OnOk result (StoresDataAt heap.old slot word heap.new) }
     ensures why { IfErr result (λ refusal. LacksSlot heap.old.layout slot refusal

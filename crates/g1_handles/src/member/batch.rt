@@ -1,6 +1,6 @@
 //! Several stores in a race by one call.
-ghost use Rattle.std.specs.Prelude.{◌≡◌, ◌≢◌, Some, IfOk, IfErr, IsOkAnd, OnErr};
-ghost use Rattle.g1_race.specs.Members.{race_id, racer_race};
+ghost use Rattle.std.specs.Prelude.{◌≡◌, ◌≢◌};
+ghost use Rattle.g1_handles.specs.Prelude.{Some, IfOk, IfErr, IsOkAnd, OnErr, race_id, racer_race};
 ghost use Rattle.g1_handles.specs.Racing.{OfRacer, IfRacer, racing};
 ghost use Rattle.g1_handles.specs.RaceStores.{StoresFirst, CanStoreAll};
 ghost use Rattle.g1_handles.specs.Refusals.{SaysNoMember};

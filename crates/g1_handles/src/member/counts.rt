@@ -1,5 +1,6 @@
 //! What the racers and the sweepers of a heap have done, in numbers.
-ghost use Rattle.std.specs.Prelude.{◌≡◌, IfOk, IfErr};
+ghost use Rattle.std.specs.Prelude.{◌≡◌};
+ghost use Rattle.g1_handles.specs.Prelude.{IfOk, IfErr};
 ghost use Rattle.g1_handles.specs.Counting.{no_counts, with_store, with_card};
 ghost use Rattle.g1_handles.specs.Racing.{OfRacer, OfSweeper};
 ghost use Rattle.g1_handles.specs.Refusals.{SaysNoMember};

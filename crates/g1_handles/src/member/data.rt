@@ -1,9 +1,7 @@
 //! Stores of data in a race: a slot may hold data, which refers to nothing.
-ghost use Rattle.std.specs.Prelude.{◌≡◌, ◌<◌, ◌≤◌, ◌^◌, Some, IsOk, IfOk, IfErr, OnErr};
-ghost use Rattle.g1_layout.specs.Shape.{slot_count};
-ghost use Rattle.g1_race.specs.Members.{race_layout};
-ghost use Rattle.g1_handles.specs.Racing.{OfRacer, IfRacer, StoresData, racer_race_of};
-ghost use Rattle.g1_handles.specs.Refusals.{IsRaceDataRefused};
+ghost use Rattle.std.specs.Prelude.{◌≡◌, ◌<◌, ◌≤◌, ◌^◌};
+ghost use Rattle.g1_handles.specs.{Some, IsOk, IfOk, IfErr, OnErr, slot_count, race_layout};
+ghost use Rattle.g1_handles.specs.{OfRacer, IfRacer, StoresData, racer_race_of, IsRaceDataRefused};
 
 use crate::code::Refusal;
 use crate::member::Member;

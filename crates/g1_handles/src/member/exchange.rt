@@ -1,7 +1,7 @@
 //! Stores in a race that return what the slot referred to before, or depend on it.
-ghost use Rattle.std.specs.Prelude.{◌≡◌, ◌<◌, Some, IfOk, IfErr, IsOk, OnErr};
-ghost use Rattle.arrayvec.specs.ArrayVec.{array_vec_len};
-ghost use Rattle.g1_race.specs.Members.{race_layout};
+ghost use Rattle.std.specs.Prelude.{◌≡◌, ◌<◌};
+ghost use Rattle.g1_handles.specs.Prelude.{Some, IfOk, IfErr, IsOk, OnErr, array_vec_len};
+ghost use Rattle.g1_handles.specs.Prelude.{race_layout};
 ghost use Rattle.g1_handles.specs.Codes.{IsStoreOf, reference_of};
 ghost use Rattle.g1_handles.specs.RaceStores.{Swaps, IsExchange};
 ghost use Rattle.g1_handles.specs.Racing.{OfRacer, IfRacer, racer_race_of};

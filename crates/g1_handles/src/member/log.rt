@@ -1,9 +1,7 @@
 //! The log of a racer.
-ghost use Rattle.std.specs.Prelude.{◌≡◌, ◌⊎◌, ◌<◌, ◌≤◌, Some, IfOk, IfErr, IsOk, OnErr};
-ghost use Rattle.std.specs.Prelude.{length, take};
-ghost use Rattle.g1_handles.specs.Arrays.{IsWritten};
-ghost use Rattle.g1_handles.specs.Racing.{OfRacer, IfRacer, TakesLog};
-ghost use Rattle.g1_handles.specs.Refusals.{SaysNoMember};
+ghost use Rattle.std.specs.Prelude.{◌≡◌, ◌⊎◌, ◌<◌, ◌≤◌};
+ghost use Rattle.g1_handles.specs.{Some, IfOk, IfErr, IsOk, OnErr, length, take, IsWritten};
+ghost use Rattle.g1_handles.specs.{OfRacer, IfRacer, TakesLog, SaysNoMember};
 
 use crate::any_handle::{closed, into_box, opened};
 use crate::code::Refusal;

@@ -1,9 +1,8 @@
 //! What a reader answers, as the heap does at its pause.
-ghost use Rattle.std.specs.Prelude.{◌≡◌, Some, IfOk, IfErr};
-ghost use Rattle.g1_handles.specs.Codes.{reference_of};
-ghost use Rattle.g1_handles.specs.Readers.{OfReader, reader_layout, ReadsTarget, ReadsWord};
-ghost use Rattle.g1_handles.specs.Readers.{ReadsPending, ReadsPair, ReadsNext, IsReaderRefused};
-ghost use Rattle.g1_handles.specs.Lacks.{LacksCard, LacksPair, LacksRegion, LacksSlot};
+ghost use Rattle.std.specs.Prelude.{◌≡◌};
+ghost use Rattle.g1_handles.specs.{Some, IfOk, IfErr, reference_of, OfReader, reader_layout};
+ghost use Rattle.g1_handles.specs.{ReadsTarget, ReadsWord, ReadsPending, ReadsPair, ReadsNext};
+ghost use Rattle.g1_handles.specs.{IsReaderRefused, LacksCard, LacksPair, LacksRegion, LacksSlot};
 
 use crate::code::{NULL, Refusal};
 use crate::member::Member;

@@ -1,9 +1,7 @@
 //! Concurrent refinement in a race.
-ghost use Rattle.std.specs.Prelude.{◌≡◌, ◌<◌, Some, IsOk, OnOk, IfErr, OnErr};
-ghost use Rattle.g1_layout.specs.Shape.{card_count};
-ghost use Rattle.g1_race.specs.Members.{race_layout};
-ghost use Rattle.g1_handles.specs.Racing.{OfSweeper, IfSweeper, Sweeps, sweeper_race_of};
-ghost use Rattle.g1_handles.specs.Refusals.{IsSweepRefused};
+ghost use Rattle.std.specs.Prelude.{◌≡◌, ◌<◌};
+ghost use Rattle.g1_handles.specs.{Some, IsOk, OnOk, IfErr, OnErr, card_count, race_layout};
+ghost use Rattle.g1_handles.specs.{OfSweeper, IfSweeper, Sweeps, sweeper_race_of, IsSweepRefused};
 
 use crate::code::Refusal;
 use crate::member::Member;

@@ -1,10 +1,9 @@
 //! Lock-free stores in a race.
-ghost use Rattle.std.specs.Prelude.{◌≡◌, ◌<◌, Some, IfOk, IfErr, IsOk, OnErr};
-ghost use Rattle.arrayvec.specs.ArrayVec.{array_vec_len};
-ghost use Rattle.g1_race.specs.Members.{race_id, race_layout, racer_race};
-ghost use Rattle.g1_handles.specs.Codes.{IsStoreOf, reference_of};
-ghost use Rattle.g1_handles.specs.Racing.{OfRacer, IfRacer, Stores, racer_race_of, racing};
-ghost use Rattle.g1_handles.specs.Refusals.{IsRaceStoreRefused, SaysNoStore};
+ghost use Rattle.std.specs.Prelude.{◌≡◌, ◌<◌};
+ghost use Rattle.g1_handles.specs.{Some, IfOk, IfErr, IsOk, OnErr, array_vec_len, race_id};
+ghost use Rattle.g1_handles.specs.{race_layout, racer_race, IsStoreOf, reference_of, OfRacer};
+ghost use Rattle.g1_handles.specs.{IfRacer, Stores, racer_race_of, racing, IsRaceStoreRefused};
+ghost use Rattle.g1_handles.specs.{SaysNoStore};
 
 use crate::code::Refusal;
 use crate::member::Member;

@@ -1,6 +1,6 @@
 //! The handle of a sweeper.
-ghost use Rattle.std.specs.Prelude.{◌≡◌, Option};
-ghost use Rattle.std.specs.Coded.{coded_option};
+ghost use Rattle.std.specs.Prelude.{◌≡◌};
+ghost use Rattle.g1_handles.specs.Prelude.{Option, coded_option};
 ghost use Rattle.g1_handles.specs.Own.{SweeperMember, sweeper_row};
 
 use crate::any_handle::AnyHandle;

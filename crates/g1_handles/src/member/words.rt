@@ -1,9 +1,8 @@
 //! Stores of words in a race: a slot may hold null, a reference or data.
-ghost use Rattle.std.specs.Prelude.{◌≡◌, Some, IfOk, IfErr, IsOk, OnErr};
-ghost use Rattle.g1_handles.specs.Racing.{OfRacer, IfRacer, racer_race_of};
-ghost use Rattle.g1_handles.specs.RaceWords.{SwapsWord, IsWordExchange, CanStoreWord, MayHave};
-ghost use Rattle.g1_handles.specs.RaceWords.{SaysNoWordStore, IsSwapWordRefused};
-ghost use Rattle.g1_handles.specs.RaceWords.{IsExchangeWordRefused};
+ghost use Rattle.std.specs.Prelude.{◌≡◌};
+ghost use Rattle.g1_handles.specs.{Some, IfOk, IfErr, IsOk, OnErr, OfRacer, IfRacer, racer_race_of};
+ghost use Rattle.g1_handles.specs.{SwapsWord, IsWordExchange, CanStoreWord, MayHave};
+ghost use Rattle.g1_handles.specs.{SaysNoWordStore, IsSwapWordRefused, IsExchangeWordRefused};
 
 use crate::code::Refusal;
 use crate::member::Member;

@@ -1,6 +1,7 @@
 //! Several stores by one call.
-ghost use Rattle.std.specs.Prelude.{◌≡◌, ◌≤◌, true, false, length, take, IfOk, OnErr, IfErr};
-ghost use Rattle.std.specs.Prelude.{IfNone, MatchOption};
+ghost use Rattle.std.specs.Prelude.{◌≡◌, ◌≤◌, true};
+ghost use Rattle.g1_handles.specs.Prelude.{false, length, take, IfOk, OnErr, IfErr, IfNone};
+ghost use Rattle.g1_handles.specs.Prelude.{MatchOption};
 ghost use Rattle.g1_handles.specs.Codes.{IsStoreOf};
 ghost use Rattle.g1_handles.specs.Refusals.{AreStoresRefused};
 ghost use Rattle.g1_handles.specs.Batch.{made, made_all, cards_of, IsFaultAt};

@@ -1,9 +1,7 @@
 //! The clear.
-ghost use Rattle.std.specs.Prelude.{◌≡◌, ◌<◌, IfOk, IfErr, OnErr};
-ghost use Rattle.g1_core.specs.Machine.{IsOnlyRead};
-ghost use Rattle.g1_handles.specs.Codes.{cleared_of, IsClearWord};
-ghost use Rattle.g1_handles.specs.Replies.{ClearsTo};
-ghost use Rattle.g1_handles.specs.Lacks.{LacksRegion};
+ghost use Rattle.std.specs.Prelude.{◌≡◌, ◌<◌};
+ghost use Rattle.g1_handles.specs.{IfOk, IfErr, OnErr, IsOnlyRead, cleared_of, IsClearWord};
+ghost use Rattle.g1_handles.specs.{ClearsTo, LacksRegion};
 
 use crate::code::{DONE, Refusal};
 use g1_core::{ClearReply, Core};

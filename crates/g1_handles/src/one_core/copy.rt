@@ -1,8 +1,7 @@
 //! A range of slots of a core is copied to another one.
-ghost use Rattle.std.specs.Prelude.{◌≡◌, ◌+◌, ◌≤◌, ◌↔◌, IsTrue, IsOk, OnOk, IfErr, OnErr};
-ghost use Rattle.g1_layout.specs.Shape.{slot_count};
-ghost use Rattle.g1_handles.specs.Copies.{CopiesSlots};
-ghost use Rattle.g1_handles.specs.Lacks.{LacksRanges};
+ghost use Rattle.std.specs.Prelude.{◌≡◌, ◌+◌, ◌≤◌, ◌↔◌};
+ghost use Rattle.g1_handles.specs.{IsTrue, IsOk, OnOk, IfErr, OnErr, slot_count, CopiesSlots};
+ghost use Rattle.g1_handles.specs.{LacksRanges};
 
 use crate::code::Refusal;
 use g1_core::Core;

@@ -1,7 +1,6 @@
 //! The handle that C keeps: a core behind a pointer, or nothing if the pointer is null.
-ghost use Rattle.std.specs.Prelude.{◌≡◌, Option};
-ghost use Rattle.std.specs.Coded.{coded_option};
-ghost use Rattle.g1_core.specs.Machine.{Machine, machine_code};
+ghost use Rattle.std.specs.Prelude.{◌≡◌};
+ghost use Rattle.g1_handles.specs.Prelude.{Option, coded_option, Machine, machine_code};
 
 use crate::any_handle::AnyHandle;
 use crate::nullable_box::NullableBox;

@@ -1,5 +1,6 @@
 //! The remembered set of a region, as it is recorded.
-ghost use Rattle.std.specs.Prelude.{◌≤◌, length, IfOk, IfErr};
+ghost use Rattle.std.specs.Prelude.{◌≤◌};
+ghost use Rattle.g1_handles.specs.Prelude.{length, IfOk, IfErr};
 ghost use Rattle.g1_handles.specs.Queries.{IsListed, IsListOf};
 ghost use Rattle.g1_handles.specs.Refusals.{AreMembersRefused};
 

@@ -1,8 +1,7 @@
 //! Opening and closing a handle.
-ghost use Rattle.std.specs.Prelude.{◌≡◌, ◌↔◌, ◌<◌, Some, None, IfOk, IfErr, OnOk, OnErr, SomeIff};
-ghost use Rattle.std.specs.Prelude.{IsSome};
-ghost use Rattle.g1_core.specs.Machine.{new_machine};
-ghost use Rattle.g1_core.specs.Settings.{AreSettings};
+ghost use Rattle.std.specs.Prelude.{◌≡◌, ◌↔◌, ◌<◌};
+ghost use Rattle.g1_handles.specs.Prelude.{Some, None, IfOk, IfErr, OnOk, OnErr, SomeIff, IsSome};
+ghost use Rattle.g1_handles.specs.Prelude.{new_machine, AreSettings};
 ghost use Rattle.g1_handles.specs.Codes.{layout_of, settings_of, IsRefusal};
 ghost use Rattle.g1_handles.specs.Refusals.{IsNewRefused, IsOpenRefused, SaysNotOpen};
 

@@ -1,8 +1,7 @@
 //! The pause.
-ghost use Rattle.std.specs.Prelude.{◌≡◌, IfOk, IfErr, OnErr};
-ghost use Rattle.g1_core.specs.Calls.{drain_cards, drain_refined};
-ghost use Rattle.g1_handles.specs.Refusals.{IsDrainRefused};
-ghost use Rattle.g1_handles.specs.Replies.{DrainsTo, FitIn};
+ghost use Rattle.std.specs.Prelude.{◌≡◌};
+ghost use Rattle.g1_handles.specs.{IfOk, IfErr, OnErr, drain_cards, drain_refined, IsDrainRefused};
+ghost use Rattle.g1_handles.specs.{DrainsTo, FitIn};
 
 use crate::code::Refusal;
 use g1_core::{Core, Drained};

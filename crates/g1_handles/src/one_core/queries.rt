@@ -1,9 +1,8 @@
 //! Queries: what a slot refers to, whether a card is pending, and how much is pending and recorded.
-ghost use Rattle.std.specs.Prelude.{◌≡◌, ◌<◌, IfOk, IfErr, OnErr, IsOk, IfSome};
-ghost use Rattle.g1_layout.specs.Shape.{slot_count, card_count};
-ghost use Rattle.g1_handles.specs.Codes.{reference_of};
-ghost use Rattle.g1_handles.specs.Queries.{RefersTo, IsToldPending, HasStatus};
-ghost use Rattle.g1_handles.specs.Lacks.{LacksCard, LacksSlot};
+ghost use Rattle.std.specs.Prelude.{◌≡◌, ◌<◌};
+ghost use Rattle.g1_handles.specs.{IfOk, IfErr, OnErr, IsOk, IfSome, slot_count, card_count};
+ghost use Rattle.g1_handles.specs.{reference_of, RefersTo, IsToldPending, HasStatus, LacksCard};
+ghost use Rattle.g1_handles.specs.{LacksSlot};
 
 use crate::code::{NULL, Refusal};
 use g1_core::{Core, Status};

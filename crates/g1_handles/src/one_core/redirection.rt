@@ -1,8 +1,7 @@
 //! The redirect.
-ghost use Rattle.std.specs.Prelude.{◌≡◌, IfOk, IfErr, OnErr};
-ghost use Rattle.g1_core.specs.Calls.{redirect_refined};
-ghost use Rattle.g1_handles.specs.Refusals.{IsRedirectRefused};
-ghost use Rattle.g1_handles.specs.Replies.{RedirectsTo, FitIn};
+ghost use Rattle.std.specs.Prelude.{◌≡◌};
+ghost use Rattle.g1_handles.specs.{IfOk, IfErr, OnErr, redirect_refined, IsRedirectRefused};
+ghost use Rattle.g1_handles.specs.{RedirectsTo, FitIn};
 
 use crate::code::Refusal;
 use g1_core::{Core, Redirected};

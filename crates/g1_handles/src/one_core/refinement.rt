@@ -1,9 +1,7 @@
 //! Refinement.
-ghost use Rattle.std.specs.Prelude.{◌≡◌, ◌<◌, ◌≤◌, length, if◌then◌else◌, All};
-ghost use Rattle.std.specs.Prelude.{IfSome, IfNone, IfOk, IfErr, OnErr};
-ghost use Rattle.g1_layout.specs.Shape.{card_count};
-ghost use Rattle.g1_handles.specs.Refusals.{IsRefinementRefused};
-ghost use Rattle.g1_handles.specs.Replies.{RefinesTo, reply_of};
+ghost use Rattle.std.specs.Prelude.{◌≡◌, ◌<◌, ◌≤◌, if◌then◌else◌};
+ghost use Rattle.g1_handles.specs.{length, All, IfSome, IfNone, IfOk, IfErr, OnErr, card_count};
+ghost use Rattle.g1_handles.specs.{IsRefinementRefused, RefinesTo, reply_of};
 
 use crate::code::{DONE, Refusal, SHORT};
 use arrayvec::ArrayVec;

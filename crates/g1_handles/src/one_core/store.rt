@@ -1,10 +1,7 @@
 //! Stores.
-ghost use Rattle.std.specs.Prelude.{◌≡◌, ◌<◌, IfSome, IfNone, IfOk, IfErr, IsOk, OnOk, OnErr};
-ghost use Rattle.g1_layout.specs.Shape.{slot_count};
-ghost use Rattle.g1_core.specs.Run.{kind_of};
-ghost use Rattle.g1_handles.specs.Codes.{reference_of, IsStoreOf};
-ghost use Rattle.g1_core.specs.Barrier.{stored_machine};
-ghost use Rattle.g1_handles.specs.Lacks.{LacksPlace};
+ghost use Rattle.std.specs.Prelude.{◌≡◌, ◌<◌};
+ghost use Rattle.g1_handles.specs.{IfSome, IfNone, IfOk, IfErr, IsOk, OnOk, OnErr, slot_count};
+ghost use Rattle.g1_handles.specs.{kind_of, reference_of, IsStoreOf, stored_machine, LacksPlace};
 
 use crate::code::{NULL, Refusal};
 use g1_core::Core;

@@ -1,7 +1,7 @@
 //! Checks of a core for a debug build.
-ghost use Rattle.std.specs.Prelude.{◌≡◌, ◌+◌, ◌≤◌, length, IfOk, IfErr, IsOk, OnErr};
-ghost use Rattle.g1_layout.specs.Shape.{slot_count};
-ghost use Rattle.g1_core.specs.Machine.{IsOnlyRead};
+ghost use Rattle.std.specs.Prelude.{◌≡◌, ◌+◌, ◌≤◌};
+ghost use Rattle.g1_handles.specs.Prelude.{length, IfOk, IfErr, IsOk, OnErr, slot_count};
+ghost use Rattle.g1_handles.specs.Prelude.{IsOnlyRead};
 ghost use Rattle.g1_handles.specs.Verifying.{Finds};
 ghost use Rattle.g1_handles.specs.Lacks.{LacksRanges};
 

@@ -1,11 +1,8 @@
 //! How a race ends, and what holds then.
-ghost use Rattle.g1_core.specs.Table.{IsCovered};
-ghost use Rattle.g1_race.specs.Over.{ended_of, table_of};
-ghost use Rattle.g1_core.specs.Adoption.{IsPairOf};
-ghost use Rattle.std.specs.Prelude.{◌≡◌, ℕ, ◌+◌, ◌↔◌, All, Contains, map, vec_len};
-ghost use Rattle.g1_race.specs.Race.{IsOver, IsKnown};
-ghost use Rattle.g1_race.specs.Members.{race_id, race_layout, race_shape, race_begun, racer_race};
-ghost use Rattle.g1_race.specs.Members.{sweeper_race, racer_view, sweeper_view};
+ghost use Rattle.std.specs.Prelude.{◌≡◌, ◌+◌, ◌↔◌};
+ghost use Rattle.g1_race.specs.{IsCovered, IsPairOf, ℕ, All, Contains, map, vec_len, ended_of};
+ghost use Rattle.g1_race.specs.{table_of, IsOver, IsKnown, race_id, race_layout, race_shape};
+ghost use Rattle.g1_race.specs.{race_begun, racer_race, sweeper_race, racer_view, sweeper_view};
 
 use crate::ended::Closed;
 use crate::paused::Paused;

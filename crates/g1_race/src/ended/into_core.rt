@@ -1,7 +1,7 @@
 //! A race that is over becomes a core.
-ghost use Rattle.std.specs.Prelude.{◌≡◌, ◌+◌, IfOk, IfErr, length};
-ghost use Rattle.g1_layout.specs.Shape.{slot_count, card_count};
-ghost use Rattle.g1_race.specs.Over.{refs_of, marks_of, core_of};
+ghost use Rattle.std.specs.Prelude.{◌≡◌, ◌+◌};
+ghost use Rattle.g1_race.specs.{IfOk, IfErr, length, slot_count, card_count, refs_of, marks_of};
+ghost use Rattle.g1_race.specs.{core_of};
 
 use crate::ended::Closed;
 use crate::ended::pairs::list_pairs;

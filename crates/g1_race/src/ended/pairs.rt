@@ -1,13 +1,8 @@
 //! The recorded pairs of a race that is over.
-ghost use Rattle.std.specs.Prelude.{◌≡◌, ◌≢◌, ◌==◌, ◌+◌, ◌*◌, ◌/◌, ◌%◌, ◌<◌, ◌≤◌, ◌++◌, IfOk, OnOk};
-ghost use Rattle.std.specs.Prelude.{length, slice_index};
-ghost use Rattle.std.specs.Int.{bit_at};
-ghost use Rattle.std.specs.Slots.{slots_items, slots_len, IsFull};
-ghost use Rattle.g1_race_words.specs.Rule.{IsWholeShape, IsPair, bit_word, bit_place};
-ghost use Rattle.g1_race_words.specs.Rule.{pairs_of_card};
-ghost use Rattle.g1_race_words.specs.Rule.{pairs_up_to, word_count};
-ghost use Rattle.g1_race.specs.Race.{shape_of};
-ghost use Rattle.g1_race.specs.Telling.{block_regions};
+ghost use Rattle.std.specs.Prelude.{◌≡◌, ◌≢◌, ◌==◌, ◌+◌, ◌*◌, ◌/◌, ◌%◌, ◌<◌, ◌≤◌, ◌++◌};
+ghost use Rattle.g1_race.specs.{IfOk, OnOk, length, slice_index, bit_at, slots_items, slots_len};
+ghost use Rattle.g1_race.specs.{IsFull, IsWholeShape, IsPair, bit_word, bit_place, pairs_of_card};
+ghost use Rattle.g1_race.specs.{pairs_up_to, word_count, shape_of, block_regions};
 
 use crate::bits::bit_of;
 use arrayvec::ArrayVec;

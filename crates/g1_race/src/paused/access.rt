@@ -1,19 +1,12 @@
 //! What a pause reads and stores.
-ghost use Rattle.std.specs.Prelude.{◌≡◌, ℕ, ◌<◌, IfSome, slice_set};
+ghost use Rattle.std.specs.Prelude.{◌≡◌, ◌<◌};
+ghost use Rattle.g1_race.specs.{ℕ, IfSome, slice_set, some, get_elem?, slot_count, card_count};
+ghost use Rattle.g1_race.specs.{target_of, IsStep, kind_of, stored, target_entry, pending_entry};
+ghost use Rattle.g1_race.specs.{store_entry, IsBegun, started, crosses, word_count, shape_of};
+ghost use Rattle.g1_race.specs.{word_of, table_at, table_known, IsAtPause, MayRead, IsSameSeat};
+ghost use Rattle.g1_race.specs.{IsSameRace, SlotsBecome, WordsBecome, one_word, plain_reply};
+ghost use Rattle.g1_race.specs.{IsDirtied};
 ghost use Rattle.std.specs.FinSet as set;
-ghost use mathlib.Core.Option.{some};
-ghost use lib.ListN.{get_elem?};
-ghost use Rattle.g1_layout.specs.Shape.{slot_count, card_count};
-ghost use Rattle.g1_core.specs.Table.{target_of};
-ghost use Rattle.g1_core.specs.Run.{IsStep, kind_of, stored};
-ghost use Rattle.g1_core.specs.Calls.{target_entry, pending_entry, store_entry};
-ghost use Rattle.g1_race_words.specs.Rule.{IsBegun, started, crosses, word_count};
-ghost use Rattle.g1_race.specs.Race.{shape_of, word_of};
-ghost use Rattle.g1_race.specs.Over.{table_at};
-ghost use Rattle.g1_race.specs.Reading.{table_known, IsAtPause, MayRead, IsSameSeat};
-ghost use Rattle.g1_race.specs.Evacuating.{IsSameRace, SlotsBecome, WordsBecome, one_word};
-ghost use Rattle.g1_race.specs.Evacuating.{plain_reply};
-ghost use Rattle.g1_race.specs.Refining.{IsDirtied};
 
 use crate::paused::Paused;
 use crate::paused::drain::set_bit;

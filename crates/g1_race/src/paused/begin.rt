@@ -1,15 +1,9 @@
 //! A core becomes a race at a pause: its table is placed into the words of a heap of nulls.
-ghost use Rattle.std.specs.Prelude.{◌≡◌, ℕ, ◌+◌, ◌<◌, ◌≤◌, [], IfOk, All, replicate};
+ghost use Rattle.std.specs.Prelude.{◌≡◌, ◌+◌, ◌<◌, ◌≤◌};
+ghost use Rattle.g1_race.specs.{ℕ, [], IfOk, All, replicate, some, get_elem?, IsPairOf, In, IsPair};
+ghost use Rattle.g1_race.specs.{IsOfCrossing, mark_word, null_of, shape_of, table_at, start_at};
+ghost use Rattle.g1_race.specs.{Notes, AreCovered, AreMarked, ArePlaced, IsSame, IsAtPause};
 ghost use Rattle.std.specs.FinSet as set;
-ghost use mathlib.Core.Option.{some};
-ghost use lib.ListN.{get_elem?};
-ghost use Rattle.g1_core.specs.Adoption.{IsPairOf};
-ghost use Rattle.g1_race_words.specs.Rule.{In, IsPair, IsOfCrossing, mark_word, null_of};
-ghost use Rattle.g1_race.specs.Race.{shape_of};
-ghost use Rattle.g1_race.specs.Over.{table_at, start_at};
-ghost use Rattle.g1_race.specs.Refining.{Notes};
-ghost use Rattle.g1_race.specs.Resumed.{AreCovered, AreMarked, ArePlaced, IsSame};
-ghost use Rattle.g1_race.specs.Reading.{IsAtPause};
 
 use crate::paused::Paused;
 use crate::paused::access::{dirty, put};

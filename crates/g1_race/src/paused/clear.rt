@@ -1,15 +1,9 @@
 //! The clear at a pause: it empties a region's remembered set, once no reference enters the region.
-ghost use Rattle.std.specs.Prelude.{◌≡◌, ◌≢◌, ℕ, ◌+◌, ◌*◌, ◌<◌, ◌≤◌, ◌↔◌, IsTrue};
-ghost use Rattle.std.specs.Prelude.{true};
-ghost use mathlib.Core.Option.{some};
-ghost use lib.ListN.{get_elem?};
-ghost use Rattle.g1_core.specs.Run.{IsStep};
-ghost use Rattle.g1_core.specs.Calls.{clear_entry};
-ghost use Rattle.g1_race_words.specs.Rule.{IsWholeShape, crosses, mark_word, region_at};
-ghost use Rattle.g1_race.specs.Over.{table_at};
-ghost use Rattle.g1_race.specs.Clearing.{Into, IsLeastInto, IsLeastOfCard, IsEmptied};
-ghost use Rattle.g1_race.specs.Evacuating.{IsSameRace, SlotsBecome, same_word};
-ghost use Rattle.g1_race.specs.Reading.{IsAtPause, IsSameSeat};
+ghost use Rattle.std.specs.Prelude.{◌≡◌, ◌≢◌, ◌+◌, ◌*◌, ◌<◌, ◌≤◌, ◌↔◌};
+ghost use Rattle.g1_race.specs.{ℕ, IsTrue, true, some, get_elem?, IsStep, clear_entry};
+ghost use Rattle.g1_race.specs.{IsWholeShape, crosses, mark_word, region_at, table_at, Into};
+ghost use Rattle.g1_race.specs.{IsLeastInto, IsLeastOfCard, IsEmptied, IsSameRace, SlotsBecome};
+ghost use Rattle.g1_race.specs.{same_word, IsAtPause, IsSameSeat};
 
 use crate::bits::bit_of;
 use crate::paused::Paused;

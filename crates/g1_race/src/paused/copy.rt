@@ -1,11 +1,7 @@
 //! A range of slots is copied to another one.
-ghost use Rattle.std.specs.Prelude.{◌≡◌, ◌+◌, ◌<◌, ◌≤◌, slice_index};
-ghost use Rattle.g1_layout.specs.Shape.{slot_count};
-ghost use Rattle.g1_core.specs.Table.{target_of};
-ghost use Rattle.g1_core.specs.Run.{stored};
-ghost use Rattle.g1_core.specs.Copying.{copied};
-ghost use Rattle.g1_race.specs.Over.{table_at};
-ghost use Rattle.g1_race.specs.Evacuating.{IsSameRace, SlotsBecome, copied_word, one_word};
+ghost use Rattle.std.specs.Prelude.{◌≡◌, ◌+◌, ◌<◌, ◌≤◌};
+ghost use Rattle.g1_race.specs.{slice_index, slot_count, target_of, stored, copied, table_at};
+ghost use Rattle.g1_race.specs.{IsSameRace, SlotsBecome, copied_word, one_word};
 
 use crate::paused::Paused;
 use crate::paused::holds::Holds;

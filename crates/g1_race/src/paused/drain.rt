@@ -1,19 +1,11 @@
 //! Refinement and drains at a pause.
-ghost use Rattle.std.specs.Prelude.{◌≡◌, ℕ, ◌+◌, ◌*◌, ◌<◌, ◌≤◌, [], ◌∷◌, IfOk, OnErr, length};
-ghost use Rattle.std.specs.Prelude.{map, replicate, vec_len};
-ghost use Rattle.std.specs.List.Sorted.{IsStrictlyIncreasing};
-ghost use Rattle.g1_layout.specs.Shape.{slot_count, card_count};
-ghost use Rattle.g1_core.specs.Run.{IsStep};
-ghost use Rattle.g1_core.specs.Calls.{drain_cards, drain_entry, drain_refined};
-ghost use Rattle.g1_race_words.specs.Rule.{IsOfCrossing, IsWord, slot_card};
-ghost use Rattle.g1_race_words.specs.Steps.{pair_at};
-ghost use Rattle.g1_race.specs.Members.{racer_log};
-ghost use Rattle.g1_race.specs.Over.{table_at};
-ghost use Rattle.g1_race.specs.Refining.{Notes, RefinesCard, AreRefined, AreUnflagged};
-ghost use Rattle.g1_race.specs.Telling.{marked_cards};
-ghost use Rattle.g1_race.specs.Evacuating.{SlotsBecome, same_word, IsRefinedRace, AreAllRefined};
-ghost use Rattle.g1_race.specs.Evacuating.{IsWhole, IsExactAtPause};
-ghost use Rattle.g1_race.specs.Reading.{IsAtPause};
+ghost use Rattle.std.specs.Prelude.{◌≡◌, ◌+◌, ◌*◌, ◌<◌, ◌≤◌, ◌∷◌};
+ghost use Rattle.g1_race.specs.{ℕ, [], IfOk, OnErr, length, map, replicate, vec_len};
+ghost use Rattle.g1_race.specs.{IsStrictlyIncreasing, slot_count, card_count, IsStep, drain_cards};
+ghost use Rattle.g1_race.specs.{drain_entry, drain_refined, IsOfCrossing, IsWord, slot_card};
+ghost use Rattle.g1_race.specs.{pair_at, racer_log, table_at, Notes, RefinesCard, AreRefined};
+ghost use Rattle.g1_race.specs.{AreUnflagged, marked_cards, SlotsBecome, same_word, IsRefinedRace};
+ghost use Rattle.g1_race.specs.{AreAllRefined, IsWhole, IsExactAtPause, IsAtPause};
 
 use crate::bits::bit_of;
 use crate::paused::Paused;

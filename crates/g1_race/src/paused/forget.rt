@@ -1,14 +1,8 @@
 //! A region is freed: its cards are removed from all remembered sets.
-ghost use Rattle.std.specs.Prelude.{◌≡◌, ◌≢◌, ℕ, ◌+◌, ◌*◌, ◌<◌, ◌≤◌, true};
-ghost use mathlib.Core.Option.{some};
-ghost use lib.ListN.{get_elem?};
-ghost use Rattle.g1_layout.specs.Shape.{region_of};
-ghost use Rattle.g1_core.specs.Table.{Crosses};
-ghost use Rattle.g1_race_words.specs.Rule.{IsPair, slot_card, crosses, region_at};
-ghost use Rattle.g1_race.specs.Over.{table_at};
-ghost use Rattle.g1_race.specs.Clearing.{AreUnset};
-ghost use Rattle.g1_race.specs.Evacuating.{IsSameRace, SlotsBecome, same_word, forgotten};
-ghost use Rattle.g1_race.specs.Reading.{IsAtPause};
+ghost use Rattle.std.specs.Prelude.{◌≡◌, ◌≢◌, ◌+◌, ◌*◌, ◌<◌, ◌≤◌};
+ghost use Rattle.g1_race.specs.{ℕ, true, some, get_elem?, region_of, Crosses, IsPair, slot_card};
+ghost use Rattle.g1_race.specs.{crosses, region_at, table_at, AreUnset, IsSameRace, SlotsBecome};
+ghost use Rattle.g1_race.specs.{same_word, forgotten, IsAtPause};
 
 use crate::bits::bit_of;
 use crate::paused::Paused;

@@ -29,7 +29,7 @@ impl Holds for Race {
 }
 
 impl Holds for Arc<Race, Global> {
-    ghost use Rattle.std.specs.Arc.{arc_value};
+    ghost use Rattle.g1_race.specs.Prelude.{arc_value};
 
     ghost held = { arc_value };
 

@@ -1,16 +1,11 @@
 //! The pairs that are recorded at a pause, and the cards that are dirty.
-ghost use Rattle.std.specs.Prelude.{◌≡◌, ◌<◌, ◌≤◌, ◌^◌, ◌↔◌, IsTrue, IfOk, IfSome, ℕ, [], length};
-ghost use Rattle.std.specs.Prelude.{vec_len, vec_capacity};
+ghost use Rattle.std.specs.Prelude.{◌≡◌, ◌<◌, ◌≤◌, ◌^◌, ◌↔◌};
+ghost use Rattle.g1_race.specs.{IsTrue, IfOk, IfSome, ℕ, [], length, vec_len, vec_capacity};
+ghost use Rattle.g1_race.specs.{card_count, IsRecorded, AreMembers, IsStep, members_entry};
+ghost use Rattle.g1_race.specs.{status_entry, HasBit, IsPair, table_at, IsNextPending};
+ghost use Rattle.g1_race.specs.{IsNextMember, table_known, MayRead, IsSameSeat, marked_cards};
+ghost use Rattle.g1_race.specs.{member_cards};
 ghost use Rattle.std.specs.FinSet as set;
-ghost use Rattle.g1_layout.specs.Shape.{card_count};
-ghost use Rattle.g1_core.specs.Table.{IsRecorded, AreMembers};
-ghost use Rattle.g1_core.specs.Run.{IsStep};
-ghost use Rattle.g1_core.specs.Calls.{members_entry, status_entry};
-ghost use Rattle.g1_race_words.specs.Rule.{HasBit, IsPair};
-ghost use Rattle.g1_race.specs.Over.{table_at};
-ghost use Rattle.g1_race.specs.Reading.{IsNextPending, IsNextMember, table_known};
-ghost use Rattle.g1_race.specs.Reading.{MayRead, IsSameSeat};
-ghost use Rattle.g1_race.specs.Telling.{marked_cards, member_cards};
 
 use crate::bits::bit_of;
 use crate::paused::Paused;

@@ -1,8 +1,7 @@
 //! Where the next dirty card is, and the next card of a region's set.
-ghost use Rattle.std.specs.Prelude.{◌≡◌, ◌+◌, ◌*◌, ◌<◌, ◌≤◌, [], length, vec_capacity};
-ghost use Rattle.g1_race.specs.Telling.{IsNext, SkipsNone, is_marked, is_member, marked_cards};
-ghost use Rattle.g1_race.specs.Telling.{member_cards, pair_count};
-ghost use Rattle.g1_race.specs.Reading.{MayRead, IsSameSeat};
+ghost use Rattle.std.specs.Prelude.{◌≡◌, ◌+◌, ◌*◌, ◌<◌, ◌≤◌};
+ghost use Rattle.g1_race.specs.{[], length, vec_capacity, IsNext, SkipsNone, is_marked, is_member};
+ghost use Rattle.g1_race.specs.{marked_cards, member_cards, pair_count, MayRead, IsSameSeat};
 
 use crate::bits::bit_of;
 use crate::paused::access::see;

@@ -1,11 +1,8 @@
 //! How a heap begins: at a pause.
-ghost use Rattle.std.specs.Prelude.{◌≡◌, ◌+◌, ◌≤◌, [], IfOk, replicate, map, vec_len};
-ghost use Rattle.g1_core.specs.Table.{opening};
-ghost use Rattle.g1_race_words.specs.Rule.{IsWholeShape, null_of};
-ghost use Rattle.g1_race.specs.Race.{shape_of};
-ghost use Rattle.g1_race.specs.Over.{table_at, start_at};
-ghost use Rattle.g1_race.specs.Members.{race_layout, race_shape, racer_log, AreFreshRacers};
-ghost use Rattle.g1_race.specs.Members.{AreFreshSweepers, HaveBegun, HaveBegunWith};
+ghost use Rattle.std.specs.Prelude.{◌≡◌, ◌+◌, ◌≤◌};
+ghost use Rattle.g1_race.specs.{[], IfOk, replicate, map, vec_len, opening, IsWholeShape, null_of};
+ghost use Rattle.g1_race.specs.{shape_of, table_at, start_at, race_layout, race_shape, racer_log};
+ghost use Rattle.g1_race.specs.{AreFreshRacers, AreFreshSweepers, HaveBegun, HaveBegunWith};
 
 use crate::paused::Paused;
 use crate::race::{Race, Racer, Sweeper};

@@ -1,10 +1,7 @@
 //! How readers are made at a pause, and handed in again.
-ghost use Rattle.std.specs.Prelude.{◌≡◌, ◌+◌, ◌≤◌, All, vec_len, vec_capacity};
-ghost use Rattle.g1_race_words.specs.Rule.{start_of};
-ghost use Rattle.g1_race_words.specs.Readers.{IsLent};
-ghost use Rattle.g1_race.specs.Members.{race_id, race_layout, race_words};
-ghost use Rattle.g1_race.specs.Over.{table_at};
-ghost use Rattle.g1_race.specs.Reading.{IsReaderOf, Known, known, table_read};
+ghost use Rattle.std.specs.Prelude.{◌≡◌, ◌+◌, ◌≤◌};
+ghost use Rattle.g1_race.specs.{All, vec_len, vec_capacity, start_of, IsLent, race_id, race_layout};
+ghost use Rattle.g1_race.specs.{race_words, table_at, IsReaderOf, Known, known, table_read};
 
 use crate::paused::Paused;
 use crate::paused::holds::Holds;

@@ -1,12 +1,10 @@
 //! What a reader reads at a pause.
-ghost use Rattle.std.specs.Prelude.{◌≡◌, ℕ, ◌<◌, ◌↔◌, IsTrue, IfOk, IfSome};
+ghost use Rattle.std.specs.Prelude.{◌≡◌, ◌<◌, ◌↔◌};
+ghost use Rattle.g1_race.specs.{ℕ, IsTrue, IfOk, IfSome, slot_count, card_count, target_of};
+ghost use Rattle.g1_race.specs.{AreMembers, IsRecorded, IsStep, target_entry, pending_entry};
+ghost use Rattle.g1_race.specs.{members_entry, race_id, race_layout, IsNextMember, IsNextPending};
+ghost use Rattle.g1_race.specs.{reader_race, table_read};
 ghost use Rattle.std.specs.FinSet as set;
-ghost use Rattle.g1_layout.specs.Shape.{slot_count, card_count};
-ghost use Rattle.g1_core.specs.Table.{target_of, AreMembers, IsRecorded};
-ghost use Rattle.g1_core.specs.Run.{IsStep};
-ghost use Rattle.g1_core.specs.Calls.{target_entry, pending_entry, members_entry};
-ghost use Rattle.g1_race.specs.Members.{race_id, race_layout};
-ghost use Rattle.g1_race.specs.Reading.{IsNextMember, IsNextPending, reader_race, table_read};
 
 use crate::paused::access::{is_dirty, target_of};
 use crate::paused::listed::{is_recorded, members_of, next_dirty_from, next_member_from};

@@ -18,10 +18,10 @@ pub struct Reading<R: Holds = Race> {
 }
 
 impl<R: Holds> Model for Reading<R> {
-    ghost use Rattle.std.specs.Prelude.{◌≡◌, ◌+◌, ◌-◌, ◌≤◌, map, vec_len};
+    ghost use Rattle.std.specs.Prelude.{◌≡◌, ◌+◌, ◌-◌, ◌≤◌};
+    ghost use Rattle.g1_race.specs.Prelude.{map, vec_len, IsLent};
     ghost use Rattle.g1_race.specs.Members.{at_pause_of, racer_log};
     ghost use Rattle.g1_race.specs.Reading.{Readable};
-    ghost use Rattle.g1_race_words.specs.Readers.{IsLent};
 
     ghost Value = { Readable };
 
@@ -49,8 +49,7 @@ pub struct Reader {
 }
 
 impl Model for Reader {
-    ghost use Rattle.g1_race_words.specs.Rule.{IsBegun, start_of};
-    ghost use Rattle.g1_race_words.specs.Readers.{IsReader};
+    ghost use Rattle.g1_race.specs.Prelude.{IsBegun, start_of, IsReader};
     ghost use Rattle.g1_race.specs.Reading.{Known};
 
     ghost Value = { Known };

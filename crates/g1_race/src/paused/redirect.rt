@@ -1,21 +1,12 @@
 //! The redirect at a pause: it moves the references into a region to another region, and empties
 //! the region's remembered set.
-ghost use Rattle.std.specs.Prelude.{◌≡◌, ◌≢◌, ℕ, ◌*◌, ◌<◌, ◌≤◌, IfOk, OnErr, true};
-ghost use mathlib.Core.Option.{some};
-ghost use lib.ListN.{get_elem?};
-ghost use Rattle.g1_core.specs.Run.{IsStep};
-ghost use Rattle.g1_core.specs.Calls.{redirect_entry, redirect_refined};
-ghost use Rattle.g1_core.specs.Table.{moved, moved_count};
-ghost use Rattle.g1_core.specs.declared.reply.Redirected.TheVariants.{Moved};
+ghost use Rattle.std.specs.Prelude.{◌≡◌, ◌≢◌, ◌*◌, ◌<◌, ◌≤◌};
+ghost use Rattle.g1_race.specs.{ℕ, IfOk, OnErr, true, some, get_elem?, IsStep, redirect_entry};
+ghost use Rattle.g1_race.specs.{redirect_refined, moved, moved_count, Moved, IsStrictlyIncreasing};
+ghost use Rattle.g1_race.specs.{crosses, mark_word, region_at, table_at, AreMoved, AreMovedAway};
+ghost use Rattle.g1_race.specs.{HasMoved, into_count, word_after, IsRefinedRace, IsSameRace};
+ghost use Rattle.g1_race.specs.{SlotsBecome, AreUnflagged, marked_cards, IsAtPause};
 ghost use Rattle.std.specs.FinSet as set;
-ghost use Rattle.std.specs.List.Sorted.{IsStrictlyIncreasing};
-ghost use Rattle.g1_race_words.specs.Rule.{crosses, mark_word, region_at};
-ghost use Rattle.g1_race.specs.Over.{table_at};
-ghost use Rattle.g1_race.specs.Moving.{AreMoved, AreMovedAway, HasMoved, into_count, word_after};
-ghost use Rattle.g1_race.specs.Evacuating.{IsRefinedRace, IsSameRace, SlotsBecome};
-ghost use Rattle.g1_race.specs.Refining.{AreUnflagged};
-ghost use Rattle.g1_race.specs.Telling.{marked_cards};
-ghost use Rattle.g1_race.specs.Reading.{IsAtPause};
 
 use crate::paused::Paused;
 use crate::paused::access::{put, see};

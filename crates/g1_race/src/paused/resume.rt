@@ -1,15 +1,9 @@
 //! How a race goes on after a pause, or begins from a core.
-ghost use Rattle.std.specs.Prelude.{◌≡◌, ◌+◌, ◌-◌, ◌<◌, ◌≤◌, [], All, IfOk, IfErr, length, map};
-ghost use Rattle.std.specs.Prelude.{vec_len};
-ghost use Rattle.g1_race_words.specs.Rule.{beginning, start_of};
-ghost use Rattle.g1_race_words.specs.Steps.{whole_seat};
-ghost use Rattle.g1_race.specs.Race.{shape_of};
-ghost use Rattle.g1_race.specs.Over.{table_at, start_at};
-ghost use Rattle.g1_race.specs.Drain.{began};
-ghost use Rattle.g1_race.specs.Resumed.{IsSame};
-ghost use Rattle.g1_race.specs.Members.{race_id, race_layout, race_shape, race_words, racer_log};
-ghost use Rattle.g1_race.specs.Members.{AreFreshRacers, AreFreshSweepers, HaveBegunWith};
-ghost use Rattle.g1_race.specs.Members.{IsNewRacer, IsNewSweeper};
+ghost use Rattle.std.specs.Prelude.{◌≡◌, ◌+◌, ◌-◌, ◌<◌, ◌≤◌};
+ghost use Rattle.g1_race.specs.{[], All, IfOk, IfErr, length, map, vec_len, beginning, start_of};
+ghost use Rattle.g1_race.specs.{whole_seat, shape_of, table_at, start_at, began, IsSame, race_id};
+ghost use Rattle.g1_race.specs.{race_layout, race_shape, race_words, racer_log, AreFreshRacers};
+ghost use Rattle.g1_race.specs.{AreFreshSweepers, HaveBegunWith, IsNewRacer, IsNewSweeper};
 
 use crate::paused::Paused;
 use crate::paused::holds::Holds;

@@ -1,7 +1,6 @@
 //! A pause whose race may be shared.
-ghost use Rattle.std.specs.Prelude.{◌≡◌, IfOk};
-ghost use Rattle.std.specs.Arc.{arc_value};
-ghost use Rattle.g1_race.specs.Members.{race_id, race_layout, race_words};
+ghost use Rattle.std.specs.Prelude.{◌≡◌};
+ghost use Rattle.g1_race.specs.{IfOk, arc_value, race_id, race_layout, race_words};
 
 use crate::paused::Paused;
 use crate::race::Race;

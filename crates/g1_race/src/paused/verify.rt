@@ -1,9 +1,8 @@
 //! Checks of a heap at a pause, for a debug build: against what a runtime's memory has, and of the
 //! cards.
-ghost use Rattle.std.specs.Prelude.{◌≡◌, ◌+◌, ◌<◌, ◌≤◌, ◌↔◌, IsTrue, IfSome, length, map};
-ghost use Rattle.g1_layout.specs.Shape.{slot_count};
-ghost use Rattle.g1_core.specs.Verify.{IsFirst, IsMissing, Differs};
-ghost use Rattle.g1_race.specs.Over.{table_at};
+ghost use Rattle.std.specs.Prelude.{◌≡◌, ◌+◌, ◌<◌, ◌≤◌, ◌↔◌};
+ghost use Rattle.g1_race.specs.{IsTrue, IfSome, length, map, slot_count, IsFirst, IsMissing};
+ghost use Rattle.g1_race.specs.{Differs, table_at};
 
 use crate::paused::Paused;
 use crate::paused::copy::slot_behind;

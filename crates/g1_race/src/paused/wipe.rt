@@ -1,12 +1,7 @@
 //! A region is freed: its slots are nulled.
-ghost use Rattle.std.specs.Prelude.{◌≡◌, ◌⊎◌, ℕ, ◌+◌, ◌*◌, ◌<◌, ◌≤◌, None};
-ghost use mathlib.Core.Option.{some};
-ghost use lib.ListN.{get_elem?};
-ghost use Rattle.g1_layout.specs.Shape.{region_of};
-ghost use Rattle.g1_core.specs.Table.{target_of};
-ghost use Rattle.g1_race.specs.Over.{table_at, ended, table_of};
-ghost use Rattle.g1_race.specs.Evacuating.{IsSameRace, SlotsBecome, wiped, wiped_word};
-ghost use Rattle.g1_race.specs.Reading.{IsAtPause};
+ghost use Rattle.std.specs.Prelude.{◌≡◌, ◌⊎◌, ◌+◌, ◌*◌, ◌<◌, ◌≤◌};
+ghost use Rattle.g1_race.specs.{ℕ, None, some, get_elem?, region_of, target_of, table_at, ended};
+ghost use Rattle.g1_race.specs.{table_of, IsSameRace, SlotsBecome, wiped, wiped_word, IsAtPause};
 
 use crate::paused::Paused;
 use crate::paused::access::put;

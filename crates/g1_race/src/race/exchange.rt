@@ -1,15 +1,10 @@
 //! Stores that return what the slot had before, or depend on it.
-ghost use Rattle.std.specs.Prelude.{◌≡◌, ◌<◌, ◌++◌, ◌↔◌, [], ◌∷◌, IsTrue, IfSome, IfOk, IfErr};
-ghost use Rattle.std.specs.Prelude.{if◌then◌else◌};
-ghost use Rattle.arrayvec.specs.ArrayVec.{array_vec_len};
-ghost use Rattle.g1_race_words.specs.Rule.{slot_card, crosses, IsWord};
-ghost use Rattle.g1_race_words.specs.Seats.{IsFound};
-ghost use Rattle.g1_race.specs.Race.{word_of};
-ghost use Rattle.g1_layout.specs.Shape.{slot_count};
-ghost use Rattle.g1_race.specs.Members.{race_id, race_layout, race_shape, racer_race, racer_start};
-ghost use Rattle.g1_race.specs.Members.{racer_view, HasNotStored, HasStored, IsKind, is_logged};
-ghost use Rattle.g1_race.specs.Members.{HasOverwritten, HasDiffered};
-ghost use Rattle.g1_race.specs.Exchanging.{HasStoredWord, HasOtherWord};
+ghost use Rattle.std.specs.Prelude.{◌≡◌, ◌<◌, ◌++◌, ◌↔◌, ◌∷◌, if◌then◌else◌};
+ghost use Rattle.g1_race.specs.{[], IsTrue, IfSome, IfOk, IfErr, array_vec_len, slot_card, crosses};
+ghost use Rattle.g1_race.specs.{IsWord, IsFound, slot_count, word_of, race_id, race_layout};
+ghost use Rattle.g1_race.specs.{race_shape, racer_race, racer_start, racer_view, HasNotStored};
+ghost use Rattle.g1_race.specs.{HasStored, IsKind, is_logged, HasOverwritten, HasDiffered};
+ghost use Rattle.g1_race.specs.{HasStoredWord, HasOtherWord};
 
 use crate::paused::access::crosses;
 use crate::race::barrier::claim;

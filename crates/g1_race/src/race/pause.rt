@@ -1,13 +1,9 @@
 //! How a race comes to a pause, and what holds then.
-ghost use Rattle.g1_core.specs.Table.{IsCovered};
-ghost use Rattle.g1_race.specs.Over.{table_at, ended_of};
-ghost use Rattle.g1_core.specs.Adoption.{IsPairOf};
-ghost use Rattle.std.specs.Prelude.{◌≡◌, ℕ, ◌+◌, ◌<◌, ◌↔◌, [], All, Contains, map};
-ghost use Rattle.std.specs.Prelude.{vec_len};
-ghost use Rattle.g1_race.specs.Race.{IsOver, IsKnown, collected};
-ghost use Rattle.g1_race.specs.Members.{race_id, race_layout, race_shape, race_words, race_begun};
-ghost use Rattle.g1_race.specs.Members.{racer_race, sweeper_race, racer_view, sweeper_view};
-ghost use Rattle.g1_race.specs.Members.{racer_log, RacerOf, SweeperOf};
+ghost use Rattle.std.specs.Prelude.{◌≡◌, ◌+◌, ◌<◌, ◌↔◌};
+ghost use Rattle.g1_race.specs.{IsCovered, IsPairOf, ℕ, [], All, Contains, map, vec_len, table_at};
+ghost use Rattle.g1_race.specs.{ended_of, IsOver, IsKnown, collected, race_id, race_layout};
+ghost use Rattle.g1_race.specs.{race_shape, race_words, race_begun, racer_race, sweeper_race};
+ghost use Rattle.g1_race.specs.{racer_view, sweeper_view, racer_log, RacerOf, SweeperOf};
 
 use crate::paused::Paused;
 use crate::paused::holds::Holds;

@@ -1,10 +1,8 @@
 //! Concurrent refinement, which races with stores.
-ghost use Rattle.std.specs.Prelude.{◌≡◌, ◌+◌, ◌-◌, ◌*◌, ◌<◌, [], ◌∷◌, OnOk, OnErr};
-ghost use Rattle.std.specs.Prelude.{length, if◌then◌else◌};
+ghost use Rattle.std.specs.Prelude.{◌≡◌, ◌+◌, ◌-◌, ◌*◌, ◌<◌, ◌∷◌, if◌then◌else◌};
+ghost use Rattle.g1_race.specs.Prelude.{[], OnOk, OnErr, length, IsPair, IsWord, slot_card};
+ghost use Rattle.g1_race.specs.Prelude.{start_of, pair_at, recorded, slot_count, card_count};
 ghost use Rattle.std.specs.Result.{IsOk};
-ghost use Rattle.g1_race_words.specs.Rule.{IsPair, IsWord, slot_card, start_of};
-ghost use Rattle.g1_race_words.specs.Steps.{pair_at, recorded};
-ghost use Rattle.g1_layout.specs.Shape.{slot_count, card_count};
 ghost use Rattle.g1_race.specs.Members.{race_id, race_layout, sweeper_race, sweeper_start};
 ghost use Rattle.g1_race.specs.Members.{sweeper_view, IsSweeperSeat, Recording, Holding};
 

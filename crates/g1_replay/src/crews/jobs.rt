@@ -1,14 +1,9 @@
 //! The jobs of a crew, and the book that they leave.
-ghost use Rattle.std.specs.Prelude.{◌≡◌, ◌+◌, ◌≤◌, ℕ, [], drop, true, IfErr, IfOk, All, map};
-ghost use Rattle.std.specs.Prelude.{count_by, sum_by, vec_len, vec_capacity, ◌^◌, ◌<◌};
-ghost use Rattle.g1_shared.specs.Callers.{IsCallerOf};
-ghost use Rattle.g1_shared.specs.Counts.{is_store, kept_terms, shared_terms};
-ghost use Rattle.g1_history.specs.History.{terms_of};
-ghost use Rattle.g1_layout.specs.Shape.{slot_count};
-ghost use Rattle.g1_steps.specs.Ask.{StepFits};
-ghost use Rattle.g1_replay.specs.RaceJobs.{AllFrom};
-ghost use Rattle.g1_replay.specs.Scripted.{IsUnstarted};
-ghost use Rattle.g1_replay.specs.Scripts.{first_refusal, HasCome, IsScriptAt};
+ghost use Rattle.std.specs.Prelude.{◌≡◌, ◌+◌, ◌≤◌, ◌^◌, ◌<◌};
+ghost use Rattle.g1_replay.specs.{ℕ, [], drop, true, IfErr, IfOk, All, map, count_by, sum_by};
+ghost use Rattle.g1_replay.specs.{vec_len, vec_capacity, IsCallerOf, is_store, kept_terms};
+ghost use Rattle.g1_replay.specs.{shared_terms, terms_of, slot_count, StepFits, AllFrom};
+ghost use Rattle.g1_replay.specs.{IsUnstarted, first_refusal, HasCome, IsScriptAt};
 
 use crate::scripts::refusal_of;
 use crate::stop::Stop;
@@ -83,11 +78,7 @@ fn callers_of<'a, T, M: Terms, S: Ledger>(
     let mut stores = 0u64;
     let mut refused = None;
     for job in jobs {
-        let Job {
-            desk,
-            script: _,
-            outcome,
-        } = job;
+        let Job { desk, outcome, .. } = job;
         let caller = desk.into_caller();
         stores = stores.saturating_add(caller.stored());
         callers.push_reserved(caller);

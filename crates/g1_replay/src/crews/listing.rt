@@ -1,7 +1,7 @@
 //! The scripts of a crew, kept as its trace is read.
-ghost use Rattle.std.specs.Prelude.{◌≡◌, [], refl, true, Ok, Some, All, IfOk, vec_len};
-ghost use Rattle.g1_layout.specs.Shape.{slot_count};
-ghost use Rattle.g1_steps.specs.Ask.{StepFits};
+ghost use Rattle.std.specs.Prelude.{◌≡◌};
+ghost use Rattle.g1_replay.specs.Prelude.{[], refl, true, Ok, Some, All, IfOk, vec_len, slot_count};
+ghost use Rattle.g1_replay.specs.Prelude.{StepFits};
 ghost use Rattle.g1_replay.specs.Scripted.{no_memory_may};
 ghost use Rattle.g1_replay.specs.Scripts.{AreKept, kept_nothing, kept_then};
 ghost use Rattle.g1_replay.specs.declared.stop.Stop.TheVariants.{NoMemory};

@@ -1,10 +1,8 @@
 //! What a crew prints of its book: how many stores there were, and a drain of each region.
-ghost use Rattle.std.specs.Prelude.{◌≡◌, count_by};
-ghost use Rattle.g1_shared.specs.Counts.{is_store};
-ghost use Rattle.g1_history.specs.History.{IsHistory, layout_in};
-ghost use Rattle.g1_replay.specs.Crew.{CrewRan};
-ghost use Rattle.g1_replay.specs.Laws.{played_in, played_none, played_then};
-ghost use Rattle.g1_replay.specs.Playing.{HasPlayed, IsBookFull, MayStop, WritesSome};
+ghost use Rattle.std.specs.Prelude.{◌≡◌};
+ghost use Rattle.g1_replay.specs.{count_by, is_store, IsHistory, layout_in, CrewRan, played_in};
+ghost use Rattle.g1_replay.specs.{played_none, played_then, HasPlayed, IsBookFull, MayStop};
+ghost use Rattle.g1_replay.specs.{WritesSome};
 
 use crate::calls::play_call;
 use crate::drains::{Drains, put_drains};

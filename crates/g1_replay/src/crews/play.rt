@@ -1,13 +1,9 @@
 //! Reads a trace to its end, makes the calls of each mutator in a thread of its own, and prints the
 //! result.
-ghost use Rattle.std.specs.Prelude.{◌≡◌, true, vec_len, All};
-ghost use Rattle.g1_layout.specs.Shape.{slot_count};
-ghost use Rattle.g1_steps.specs.Ask.{StepFits};
+ghost use Rattle.std.specs.Prelude.{◌≡◌};
+ghost use Rattle.g1_replay.specs.{true, vec_len, All, slot_count, StepFits, Crewed, IsWholeCrew};
+ghost use Rattle.g1_replay.specs.{CrewRan, IsReplayed, dialect_in, WritesSome, IsRefusedTrace};
 ghost use Rattle.g1_trace.specs.declared.mode.Mode.TheVariants.{Crew};
-ghost use Rattle.g1_replay.specs.Crew.{Crewed, IsWholeCrew, CrewRan};
-ghost use Rattle.g1_replay.specs.Output.{IsReplayed, dialect_in};
-ghost use Rattle.g1_replay.specs.Playing.{WritesSome};
-ghost use Rattle.g1_replay.specs.Scripted.{IsRefusedTrace};
 
 use crate::crews::jobs::run_jobs;
 use crate::crews::listing::Scripts;

@@ -1,11 +1,10 @@
 //! One line of a trace at a time, of at most 64 bytes before its line feed.
 
-ghost use Rattle.std.specs.Prelude.{◌≡◌, ℕ, List, [], ◌≤◌, ◌<◌, ◌^◌, ◌+◌, length, Ok};
-ghost use Rattle.std.specs.Prelude.{true, Option, IfErr};
-ghost use Rattle.std.specs.Io.KnownBytes.{Consumes};
-ghost use Rattle.g1_trace.specs.Words.{IsPart};
+ghost use Rattle.std.specs.Prelude.{◌≡◌, ◌≤◌, ◌<◌, ◌^◌, ◌+◌};
+ghost use Rattle.g1_replay.specs.Prelude.{ℕ, List, [], length, Ok, true, Option, IfErr, Consumes};
+ghost use Rattle.g1_replay.specs.Prelude.{IsPart};
 ghost use Rattle.g1_replay.specs.Lines.{GoesIntoLine, HasPart, ReadsPartOfShown, IsSettled};
-ghost use Rattle.g1_replay.specs.Lines.{ReadsPart, Reads, ReadsLine, EndsAtFeed};
+ghost use Rattle.g1_replay.specs.Lines.{ReadsPart, ReadsByte, ReadsLine, EndsAtFeed};
 ghost use Rattle.g1_replay.specs.Reading.{IsReadStop};
 
 use crate::lines::source::READ_LIMIT;
@@ -104,7 +103,7 @@ fn take_part<R: BufRead>(input: &mut R, line: &mut ArrayVec<u8, 64>) -> Part
 
 /// One read of one byte. An error is not tried again.
 fn read_byte<R: Read>(input: &mut R) -> Byte
-    ensures { Reads (R.remaining input.old) (R.remaining input.new) result }
+    ensures { ReadsByte (R.remaining input.old) (R.remaining input.new) result }
 {
     let mut one = [0u8];
     match input.read(&mut one) {
@@ -118,7 +117,8 @@ fn read_byte<R: Read>(input: &mut R) -> Byte
 fn settle_byte(byte: Byte, line: &mut ArrayVec<u8, 64>) -> Result<Option<bool>, Stop>
     requires { length line.old.items ≤ 64 }
     ensures settled { (begun old new : Option (List ℕ)) → Consumes begun old line.old.items
-        → IsPart line.old.items → Reads old new byte → IsSettled begun new result line.new.items }
+        → IsPart line.old.items → ReadsByte old new byte
+        → IsSettled begun new result line.new.items }
     ensures stops { IfErr result IsReadStop }
     ensures short { length line.new.items ≤ 64 }
 {

@@ -1,6 +1,7 @@
 //! A line of a trace that the reader does not show as a whole.
 
-ghost use Rattle.std.specs.Prelude.{◌≤◌, ◌*◌, ◌^◌, [], ℕ, List, Option, Some, IfOk, IfErr};
+ghost use Rattle.std.specs.Prelude.{◌≤◌, ◌*◌, ◌^◌};
+ghost use Rattle.g1_replay.specs.Prelude.{[], ℕ, List, Option, Some, IfOk, IfErr};
 ghost use Rattle.g1_replay.specs.Lines.{HasPart};
 ghost use Rattle.g1_replay.specs.Reading.{Reads, commands_of, next_met, IsNextCommandOf};
 ghost use Rattle.g1_replay.specs.Reading.{IsReadStop};

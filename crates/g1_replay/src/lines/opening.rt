@@ -1,9 +1,9 @@
 //! The lines of a trace up to its header.
 
-ghost use Rattle.std.specs.Prelude.{◌≡◌, [], ◌<◌, Ok, None, IfErr};
+ghost use Rattle.std.specs.Prelude.{◌≡◌, ◌<◌};
+ghost use Rattle.g1_replay.specs.{[], Ok, None, IfErr, Dialect, Reads, more_may_come, opened_by};
+ghost use Rattle.g1_replay.specs.{IsReadStop};
 ghost use Rattle.std.specs.Result.{result_ok};
-ghost use Rattle.g1_trace.specs.declared.dialect.Dialect.{Dialect};
-ghost use Rattle.g1_replay.specs.Reading.{Reads, more_may_come, opened_by, IsReadStop};
 
 use crate::lines::line::next_line;
 use crate::lines::source::Source;

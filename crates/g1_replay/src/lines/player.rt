@@ -1,8 +1,6 @@
 //! What is done with the commands of a trace.
-ghost use Rattle.std.specs.Prelude.{OnOk, IfErr, ◌∷◌, []};
-ghost use Rattle.g1_trace.specs.Grammar.{IsCommandOf};
-ghost use Rattle.g1_replay.specs.Playing.{Does, MayStop};
-ghost use Rattle.g1_replay.specs.Reading.{more_may_come};
+ghost use Rattle.std.specs.Prelude.{◌∷◌};
+ghost use Rattle.g1_replay.specs.{OnOk, IfErr, [], IsCommandOf, Does, MayStop, more_may_come};
 
 use crate::stop::Stop;
 use g1_layout::Layout;
@@ -15,10 +13,8 @@ use std::sync::Wait;
 /// [`play_lines`](crate::lines::playing::play_lines) reads the lines and passes their commands on.
 /// It knows no more of a player than this trait says.
 pub(crate) trait Player {
-    ghost use Rattle.std.specs.Prelude.{ℕ, List, [], ◌++◌};
-    ghost use Rattle.g1_layout.specs.Shape.{Shape};
-    ghost use Rattle.g1_trace.specs.declared.command.Command.{Command};
-    ghost use Rattle.g1_trace.specs.declared.dialect.Dialect.{Dialect};
+    ghost use Rattle.std.specs.Prelude.{◌++◌};
+    ghost use Rattle.g1_replay.specs.Prelude.{ℕ, List, [], Shape, Command, Dialect};
     ghost use Rattle.g1_replay.specs.declared.stop.Stop.{Stop};
 
     /// It takes commands over this heap, in this dialect.

@@ -1,10 +1,7 @@
 //! The lines of a trace behind its header, which are read and played.
-ghost use Rattle.std.specs.Prelude.{◌≡◌, ℕ, List, Option, [], ◌<◌, ◌≤◌, ◌*◌, ◌^◌, ◌⊎◌, Ok, true};
-ghost use Rattle.std.specs.Prelude.{IfErr, OnOk, take, length};
-ghost use Rattle.g1_replay.specs.Lines.{HasPart};
-ghost use Rattle.g1_replay.specs.Output.{end_met};
-ghost use Rattle.g1_replay.specs.Playing.{Follows};
-ghost use Rattle.g1_replay.specs.Reading.{IsReadStop};
+ghost use Rattle.std.specs.Prelude.{◌≡◌, ◌<◌, ◌≤◌, ◌*◌, ◌^◌, ◌⊎◌};
+ghost use Rattle.g1_replay.specs.{ℕ, List, Option, [], Ok, true, IfErr, OnOk, take, length};
+ghost use Rattle.g1_replay.specs.{HasPart, end_met, Follows, IsReadStop};
 
 use crate::lines::line::Part;
 use crate::lines::next::{Next, read_next};

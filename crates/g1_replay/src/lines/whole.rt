@@ -1,13 +1,8 @@
 //! A trace that is read to its end before any of its commands is done.
-ghost use Rattle.std.specs.Prelude.{◌≡◌, ℕ, List, [], Ok, Err, Some, None, false, IfOk};
-ghost use Rattle.std.specs.Prelude.{MatchResult};
-ghost use Rattle.std.specs.Io.KnownBytes.{Appends};
-ghost use Rattle.g1_layout.specs.Shape.{Shape};
-ghost use Rattle.g1_trace.specs.declared.command.Command.{Command};
-ghost use Rattle.g1_replay.specs.Reading.{Reads};
-ghost use Rattle.g1_replay.specs.Scripted.{WasUnread};
+ghost use Rattle.std.specs.Prelude.{◌≡◌};
+ghost use Rattle.g1_replay.specs.{ℕ, List, [], Ok, Err, Some, None, false, IfOk, MatchResult};
+ghost use Rattle.g1_replay.specs.{Appends, Shape, Command, Reads, WasUnread, NoMemory};
 ghost use Rattle.g1_replay.specs.declared.stop.Stop.{Stop as Stops};
-ghost use Rattle.g1_replay.specs.declared.stop.Stop.TheVariants.{NoMemory};
 
 use crate::lines::opening::read_layout;
 use crate::lines::player::Player;

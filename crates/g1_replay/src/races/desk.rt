@@ -1,16 +1,13 @@
 //! A desk at a race: a racer with the end of a queue into which it puts its logs, or a sweeper with
 //! one from which it takes them.
-ghost use Rattle.std.specs.Prelude.{◌≡◌, ◌<◌, ◌≤◌, ℕ, All, Contains, OnOk};
-ghost use Rattle.std.proofs.Props.{props};
-ghost use Rattle.arrayvec.specs.ArrayVec.{array_vec_len};
-ghost use Rattle.g1_layout.specs.Shape.{slot_count, card_count};
-ghost use Rattle.g1_log.specs.Ends.{line_home, put_of, IsSenderOf, IsSameSender};
-ghost use Rattle.g1_race.specs.Members.{race_id, race_layout, racer_race, racer_start, racer_view};
-ghost use Rattle.g1_race.specs.Members.{sweeper_race, sweeper_start, sweeper_view};
-ghost use Rattle.g1_steps.specs.Steps.{PutsBy};
+ghost use Rattle.std.specs.Prelude.{◌≡◌, ◌<◌, ◌≤◌};
+ghost use Rattle.g1_replay.specs.Prelude.{ℕ, All, Contains, OnOk, props, array_vec_len, slot_count};
+ghost use Rattle.g1_replay.specs.Prelude.{card_count, line_home, put_of, IsSenderOf, IsSameSender};
+ghost use Rattle.g1_replay.specs.Prelude.{race_id, race_layout, racer_race, racer_start};
+ghost use Rattle.g1_replay.specs.Prelude.{racer_view, sweeper_race, sweeper_start, sweeper_view};
+ghost use Rattle.g1_replay.specs.Prelude.{PutsBy};
 ghost use Rattle.g1_replay.specs.Members.{is_racer, member_home, member_logged, member_race};
-ghost use Rattle.g1_replay.specs.Members.{MemberDid};
-ghost use Rattle.g1_replay.specs.MembersDid.{member_did_none, member_did_then};
+ghost use Rattle.g1_replay.specs.Members.{MemberDid, member_did_none, member_did_then};
 
 use g1_core::{CardList, Fill, RefineReply, StoreReply};
 use g1_history::Refusal;
@@ -84,15 +81,7 @@ impl<'a, R> RaceDesk<'a, R> {
     pub(crate) fn into_member(self) -> Member
         ensures { result ≡ self.entry.member }
     {
-        let RaceDesk {
-            rt: _,
-            alloc: _,
-            race: _,
-            line: _,
-            fill: _,
-            logged: _,
-            member,
-        } = self;
+        let RaceDesk { member, .. } = self;
         member
     }
 }

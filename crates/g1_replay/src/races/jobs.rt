@@ -1,15 +1,10 @@
 //! The jobs of a race, and the table that they leave.
-ghost use Rattle.std.specs.Prelude.{◌≡◌, ◌≤◌, ◌+◌, ◌<◌, All, IfErr, IfOk, OnOk, None, map, vec_len};
-ghost use Rattle.std.specs.List.{filter_map};
-ghost use Rattle.g1_layout.specs.Shape.{slot_count};
-ghost use Rattle.g1_race.specs.Members.{race_layout};
-ghost use Rattle.g1_steps.specs.Ask.{ScriptFits};
-ghost use Rattle.g1_trace.specs.Grammar.{IsCommandOf};
-ghost use Rattle.g1_replay.specs.Members.{is_racer};
-ghost use Rattle.g1_replay.specs.RaceJobs.{racer_in, sender_in, sweeper_in, taker_in, AllFrom};
-ghost use Rattle.g1_replay.specs.RaceJobs.{IsNewMember, IsRaceJob, IsRaceScript, IsTableLeftBy};
-ghost use Rattle.g1_replay.specs.Scripted.{IsUnstarted};
-ghost use Rattle.g1_replay.specs.Scripts.{first_refusal};
+ghost use Rattle.std.specs.Prelude.{◌≡◌, ◌≤◌, ◌+◌, ◌<◌};
+ghost use Rattle.g1_replay.specs.{All, IfErr, IfOk, OnOk, None, map, vec_len, filter_map};
+ghost use Rattle.g1_replay.specs.{slot_count, race_layout, ScriptFits, IsCommandOf, is_racer};
+ghost use Rattle.g1_replay.specs.{racer_in, sender_in, sweeper_in, taker_in, AllFrom, IsNewMember};
+ghost use Rattle.g1_replay.specs.{IsRaceJob, IsRaceScript, IsTableLeftBy, IsUnstarted};
+ghost use Rattle.g1_replay.specs.{first_refusal};
 
 use crate::races::desk::{Member, RaceDesk};
 use crate::races::members::{Returned, members_of};
@@ -99,11 +94,7 @@ fn returned_by<'a, T>(alloc: Global, jobs: Vec<Job<RaceDesk<'a, T>>>) -> Result<
 {
     let mut returned = Returned::new(alloc);
     for job in jobs {
-        let Job {
-            desk,
-            script: _,
-            outcome,
-        } = job;
+        let Job { desk, outcome, .. } = job;
         let None = refusal_of(outcome) else {
             return Err(NoMemory);
         };

@@ -1,6 +1,6 @@
 //! The commands of a trace, kept in its order.
-ghost use Rattle.std.specs.Prelude.{◌≡◌, [], ◌++◌, Ok, All};
-ghost use Rattle.g1_trace.specs.Grammar.{IsCommandOf};
+ghost use Rattle.std.specs.Prelude.{◌≡◌, ◌++◌};
+ghost use Rattle.g1_replay.specs.Prelude.{[], Ok, All, IsCommandOf};
 ghost use Rattle.g1_replay.specs.Scripted.{listed_none, listed_then, no_memory_may};
 ghost use Rattle.g1_replay.specs.declared.stop.Stop.TheVariants.{NoMemory};
 

@@ -1,11 +1,10 @@
 //! The members of a race: each racer with an end of the queue into which it puts its logs, each
 //! sweeper with one from which it takes them.
-ghost use Rattle.std.specs.Prelude.{◌≡◌, ◌+◌, ◌++◌, [], ◌∷◌, All, IfOk, OnOk, sum_by, vec_len};
-ghost use Rattle.std.specs.List.{filter_map};
-ghost use Rattle.g1_log.specs.Ends.{sender_rights, taker_rights, IsSenderOf, IsTakerOf};
-ghost use Rattle.g1_race_words.specs.Rule.{null_of};
-ghost use Rattle.g1_race.specs.Members.{race_shape, racer_start, sweeper_start, AreFreshRacers};
-ghost use Rattle.g1_race.specs.Members.{AreFreshSweepers, HaveBegun};
+ghost use Rattle.std.specs.Prelude.{◌≡◌, ◌+◌, ◌++◌, ◌∷◌};
+ghost use Rattle.g1_replay.specs.Prelude.{[], All, IfOk, OnOk, sum_by, vec_len, filter_map};
+ghost use Rattle.g1_replay.specs.Prelude.{sender_rights, taker_rights, IsSenderOf, IsTakerOf};
+ghost use Rattle.g1_replay.specs.Prelude.{null_of, race_shape, racer_start, sweeper_start};
+ghost use Rattle.g1_replay.specs.Prelude.{AreFreshRacers, AreFreshSweepers, HaveBegun};
 ghost use Rattle.g1_replay.specs.Members.{member_rights};
 ghost use Rattle.g1_replay.specs.RaceJobs.{racer_in, sender_in, sweeper_in, taker_in, AllFrom};
 ghost use Rattle.g1_replay.specs.RaceJobs.{IsNewMember};

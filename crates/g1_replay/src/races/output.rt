@@ -1,13 +1,9 @@
 //! What a race prints: how many stores were made, and a drain of each region of the core that the
 //! race has become.
-ghost use Rattle.std.specs.Prelude.{◌≡◌, ℕ, count_by};
-ghost use Rattle.g1_core.specs.Calls.{drain_reply};
-ghost use Rattle.g1_race.specs.Over.{Ended, table_of};
-ghost use Rattle.g1_replay.specs.CoreDrains.{core_drained_none, core_drained_then, core_drained_in};
-ghost use Rattle.g1_replay.specs.CoreDrains.{CoreDrained};
-ghost use Rattle.g1_replay.specs.Playing.{WritesSome};
-ghost use Rattle.g1_replay.specs.Race.{is_store_command, RaceRan};
-ghost use Rattle.g1_replay.specs.RaceJobs.{IsTableLeftBy};
+ghost use Rattle.std.specs.Prelude.{◌≡◌};
+ghost use Rattle.g1_replay.specs.{ℕ, count_by, drain_reply, Ended, table_of, core_drained_none};
+ghost use Rattle.g1_replay.specs.{core_drained_then, core_drained_in, CoreDrained, WritesSome};
+ghost use Rattle.g1_replay.specs.{is_store_command, RaceRan, IsTableLeftBy};
 
 use crate::calls::put_call;
 use crate::drains::{Drains, put_drains};

@@ -1,12 +1,8 @@
 //! Reads a trace to its end, makes the stores of each mutator in a race, in a thread of its own,
 //! and prints the result.
-ghost use Rattle.std.specs.Prelude.{All};
-ghost use Rattle.g1_trace.specs.Grammar.{IsCommandOf};
+ghost use Rattle.g1_replay.specs.{All, IsCommandOf, IsReplayed, dialect_in, WritesSome};
+ghost use Rattle.g1_replay.specs.{IsWholeRace, RacedTrace, RaceRan, IsRefusedTrace};
 ghost use Rattle.g1_trace.specs.declared.mode.Mode.TheVariants.{Race};
-ghost use Rattle.g1_replay.specs.Output.{IsReplayed, dialect_in};
-ghost use Rattle.g1_replay.specs.Playing.{WritesSome};
-ghost use Rattle.g1_replay.specs.Race.{IsWholeRace, RacedTrace, RaceRan};
-ghost use Rattle.g1_replay.specs.Scripted.{IsRefusedTrace};
 
 use crate::end::End;
 use crate::lines::source::Source;

@@ -1,9 +1,7 @@
 //! A replay by one thread: the header of its trace, its lines, and the line of its end.
 ghost use Rattle.std.specs.Prelude.{◌≡◌};
-ghost use Rattle.g1_trace.specs.declared.mode.Mode.TheVariants.{Run};
-ghost use Rattle.g1_replay.specs.Playing.{WritesSome};
-ghost use Rattle.g1_replay.specs.Output.{Told, IsEndWritten, IsReplayed, dialect_in, ending_line};
-ghost use Rattle.g1_replay.specs.Output.{IsWholeOutput, IsRefusedOutput, end_or_failed};
+ghost use Rattle.g1_replay.specs.{Run, WritesSome, Told, IsEndWritten, IsReplayed, dialect_in};
+ghost use Rattle.g1_replay.specs.{ending_line, IsWholeOutput, IsRefusedOutput, end_or_failed};
 
 use crate::end::End;
 use crate::lines::opening::read_layout;

@@ -1,8 +1,7 @@
 //! What the commands of a trace are played on.
-ghost use Rattle.std.specs.Prelude.{◌≡◌, ◌≤◌, vec_len, IfOk};
-ghost use Rattle.std.specs.List.{All};
-ghost use Rattle.std.proofs.Props.{props};
-ghost use Rattle.g1_log.specs.Ends.{IsSenderOf, IsTakerOf, capacity_of};
+ghost use Rattle.std.specs.Prelude.{◌≡◌, ◌≤◌};
+ghost use Rattle.g1_replay.specs.Prelude.{vec_len, IfOk, All, props, IsSenderOf, IsTakerOf};
+ghost use Rattle.g1_replay.specs.Prelude.{capacity_of};
 ghost use Rattle.g1_replay.specs.Playing.{IsOpened};
 ghost use Rattle.g1_replay.specs.Still.{IsNewLog};
 

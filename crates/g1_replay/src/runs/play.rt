@@ -1,29 +1,21 @@
 //! The calls of a command, and its output line.
-ghost use Rattle.std.specs.Prelude.{◌≡◌, ◌<◌, ◌≤◌, ◌∷◌, ℕ, [], true, IfOk, IfSome, IfErr, OnOk};
-ghost use Rattle.std.specs.Prelude.{vec_len};
-ghost use Rattle.g1_layout.specs.Shape.{slot_count};
-ghost use Rattle.g1_history.specs.History.{layout_in};
-ghost use Rattle.g1_steps.specs.Rounds.{round_size};
-ghost use Rattle.g1_log.specs.Ends.{capacity_of};
-ghost use Rattle.g1_trace.specs.Grammar.{IsCommandCall, IsCommandOf};
-ghost use Rattle.g1_trace.specs.Text.{store_text, refine_text, work_text};
-ghost use Rattle.g1_replay.specs.Flush.{flush_text};
-ghost use Rattle.g1_replay.specs.Laws.{played_none, played_then};
-ghost use Rattle.g1_replay.specs.Playing.{Does, IsAnswered, IsDone, IsBookFull, IsReady, HasPlayed};
-ghost use Rattle.g1_replay.specs.Playing.{MayStop};
-ghost use Rattle.g1_replay.specs.Reading.{more_may_come};
-ghost use Rattle.g1_replay.specs.Still.{is_pause, pauses, AreStill, FirstEmpties};
+ghost use Rattle.std.specs.Prelude.{◌≡◌, ◌<◌, ◌≤◌, ◌∷◌};
+ghost use Rattle.g1_replay.specs.{ℕ, [], true, IfOk, IfSome, IfErr, OnOk, vec_len, slot_count};
+ghost use Rattle.g1_replay.specs.{layout_in, round_size, capacity_of, IsCommandCall, IsCommandOf};
+ghost use Rattle.g1_replay.specs.{store_text, refine_text, work_text, flush_text, played_none};
+ghost use Rattle.g1_replay.specs.{played_then, Does, IsAnswered, IsDone, IsBookFull, IsReady};
+ghost use Rattle.g1_replay.specs.{HasPlayed, MayStop, more_may_come, is_pause, pauses, AreStill};
+ghost use Rattle.g1_replay.specs.{FirstEmpties};
 
 use crate::calls::play_call;
 use crate::lines::player::Player;
-use crate::runs::flush_output::put_flush_reply;
 use crate::runs::machinery::Machinery;
 use crate::stop::Stop;
 use g1_core::{Call, RefineReply, StoreReply};
 use g1_history::Refusal;
 use g1_layout::{Layout, Slot};
 use g1_steps::{FlushReply, LentBook, refine as refine_next, stand_still, work as work_round};
-use g1_trace::{Command, Dialect, put_refine_reply, put_store_reply, put_work_reply};
+use g1_trace::{Command, Dialect, put_flushed, put_refine_reply, put_store_reply, put_work_reply};
 use std::io::Write;
 use std::sync::Wait;
 
@@ -70,7 +62,7 @@ impl Player for Machinery {
             }
             Command::Flush { mutator } => {
                 let reply = flush(rt, self, mutator);
-                put_flush_reply(output, &reply)?;
+                put_flushed(output, reply.cards, reply.fill, &reply.refined, reply.short)?;
             }
             Command::Refine => {
                 let reply = refine(rt, self)?;

@@ -1,9 +1,7 @@
 //! Drains, clears and redirects under the lock.
-ghost use Rattle.std.specs.Prelude.{◌≢◌, ◌<◌, IfOk};
-ghost use Rattle.g1_core.specs.Calls.{drain_entry, clear_entry, redirect_entry};
-ghost use Rattle.g1_core.specs.Calls.{DoesDrain, DoesClear, DoesRedirect};
-ghost use Rattle.g1_history.specs.History.{Made, AnswersBy, RefusesBy};
-ghost use Rattle.g1_shared.specs.Callers.{CallsOnce};
+ghost use Rattle.std.specs.Prelude.{◌≢◌, ◌<◌};
+ghost use Rattle.g1_shared.specs.{IfOk, drain_entry, clear_entry, redirect_entry, DoesDrain};
+ghost use Rattle.g1_shared.specs.{DoesClear, DoesRedirect, Made, AnswersBy, RefusesBy, CallsOnce};
 
 use crate::caller::Caller;
 use crate::calls::stores::raise_made;

@@ -1,11 +1,9 @@
 //! Queries under the lock, and any call by its value.
-ghost use Rattle.std.specs.Prelude.{◌<◌, IfOk};
-ghost use Rattle.g1_layout.specs.Shape.{slot_count, card_count};
-ghost use Rattle.g1_core.specs.Calls.{target_entry, pending_entry, members_entry, status_entry};
-ghost use Rattle.g1_core.specs.Calls.{DoesTarget, DoesPending, DoesMembers, DoesStatus};
-ghost use Rattle.g1_history.specs.Asked.{IsAsked, MadeAsked};
-ghost use Rattle.g1_history.specs.History.{Made, RefusesBy};
-ghost use Rattle.g1_shared.specs.Callers.{CallsOnce};
+ghost use Rattle.std.specs.Prelude.{◌<◌};
+ghost use Rattle.g1_shared.specs.{IfOk, slot_count, card_count, target_entry, pending_entry};
+ghost use Rattle.g1_shared.specs.{members_entry, status_entry, DoesTarget, DoesPending};
+ghost use Rattle.g1_shared.specs.{DoesMembers, DoesStatus, IsAsked, MadeAsked, Made, RefusesBy};
+ghost use Rattle.g1_shared.specs.{CallsOnce};
 
 use crate::caller::Caller;
 use crate::calls::stores::raise_made;

@@ -1,13 +1,10 @@
 //! Stores and refinement under the lock. Those of a [`Shared`](crate::Shared) are steps of its
 //! callers, which take more than one call.
-ghost use Rattle.std.specs.Prelude.{◌≡◌, ◌+◌, ◌<◌, ◌^◌, IfOk, OnErr, OnOk, IfSome, IsNone};
-ghost use Rattle.std.specs.Prelude.{option_map};
-ghost use Rattle.g1_layout.specs.Shape.{slot_count, card_of};
-ghost use Rattle.g1_core.specs.Calls.{store_entry, refine_entry, IsLent, DoesStore, DoesRefine};
-ghost use Rattle.g1_history.specs.History.{Made, RefusesBy, made_of};
-ghost use Rattle.g1_shared.specs.Answers.{IsKindAt, IsReplyAt};
-ghost use Rattle.g1_shared.specs.Counts.{one_call, one_store};
-ghost use Rattle.g1_shared.specs.Callers.{CallsOnce, HandsOut};
+ghost use Rattle.std.specs.Prelude.{◌≡◌, ◌+◌, ◌<◌, ◌^◌};
+ghost use Rattle.g1_shared.specs.{IfOk, OnErr, OnOk, IfSome, IsNone, option_map, slot_count};
+ghost use Rattle.g1_shared.specs.{card_of, store_entry, refine_entry, IsLent, DoesStore};
+ghost use Rattle.g1_shared.specs.{DoesRefine, Made, RefusesBy, made_of, IsKindAt, IsReplyAt};
+ghost use Rattle.g1_shared.specs.{one_call, one_store, CallsOnce, HandsOut};
 
 use crate::caller::{Caller, CallerCounts};
 use crate::counted::Counted;

@@ -1,14 +1,10 @@
 //! How a book is shared, and how it is given back.
-ghost use Rattle.std.specs.Prelude.{◌≡◌, ℕ, ◌+◌, ◌-◌, ◌<◌, ◌≤◌, [], length, count_by, sum_by};
-ghost use Rattle.std.specs.Prelude.{slice_index_or, IfOk, IfErr, IfSome, IsSome, vec_len};
-ghost use Rattle.std.specs.Prelude.{vec_capacity};
-ghost use Rattle.std.specs.List.{All};
-ghost use Rattle.std.specs.Vec.Iter.{into_iter_items, into_iter_len};
-ghost use Rattle.g1_log.specs.Ends.{capacity_of, IsNewTaker};
-ghost use Rattle.g1_shared.specs.Callers.{CallerState, IsNewCaller};
-ghost use Rattle.g1_shared.specs.Counts.{AreNone, LeadsTo, kept_terms, shared_terms};
-ghost use Rattle.g1_history.specs.History.{made_of, stored_of, terms_of, table_in};
-ghost use Rattle.g1_steps.specs.Opening.{IsNewMutator, AreNewMutators};
+ghost use Rattle.std.specs.Prelude.{◌≡◌, ◌+◌, ◌-◌, ◌<◌, ◌≤◌};
+ghost use Rattle.g1_shared.specs.{ℕ, [], length, count_by, sum_by, slice_index_or, IfOk, IfErr};
+ghost use Rattle.g1_shared.specs.{IfSome, IsSome, vec_len, vec_capacity, All, into_iter_items};
+ghost use Rattle.g1_shared.specs.{into_iter_len, capacity_of, IsNewTaker, made_of, stored_of};
+ghost use Rattle.g1_shared.specs.{terms_of, table_in, IsNewMutator, AreNewMutators, CallerState};
+ghost use Rattle.g1_shared.specs.{IsNewCaller, AreNone, LeadsTo, kept_terms, shared_terms};
 
 use crate::caller::{Caller, CallerCounts};
 use crate::counted::Counted;

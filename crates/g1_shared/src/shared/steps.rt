@@ -1,17 +1,12 @@
 //! The steps of a caller over the locked book, and the pause.
-ghost use Rattle.std.specs.Prelude.{◌≡◌, ℕ, ◌+◌, ◌*◌, ◌<◌, ◌≤◌, ◌↔◌, ◌++◌, ◌∷◌, [], length, IfOk};
-ghost use Rattle.std.specs.Prelude.{OnErr, OnOk, IfSome, IsNone, All, slice_index_or, true, false};
-ghost use Rattle.g1_layout.specs.Shape.{slot_count, card_of};
+ghost use Rattle.std.specs.Prelude.{◌≡◌, ◌+◌, ◌*◌, ◌<◌, ◌≤◌, ◌↔◌, ◌++◌, ◌∷◌};
+ghost use Rattle.g1_shared.specs.{ℕ, [], length, IfOk, OnErr, OnOk, IfSome, IsNone, All};
+ghost use Rattle.g1_shared.specs.{slice_index_or, true, false, slot_count, card_of, capacity_of};
+ghost use Rattle.g1_shared.specs.{taken_of, IsTakerOf, IsSameTaker, GainsAtMost, Empties};
+ghost use Rattle.g1_shared.specs.{MayRefuse, IsRound, round_size, StoresBy, CountsDid, IsKindAt};
+ghost use Rattle.g1_shared.specs.{CallerState, caller_mark, IsCallerOf, caller_log, taken_list};
+ghost use Rattle.g1_shared.specs.{IsFlushAt, IsRefinementAt, IsRoundAt, IsCallerAtPause};
 ghost use Rattle.g1_log.specs.declared.parcel.Parcel.{Parcel as P};
-ghost use Rattle.g1_log.specs.Ends.{capacity_of, taken_of, IsTakerOf, IsSameTaker};
-ghost use Rattle.g1_steps.specs.Steps.{GainsAtMost, Empties, MayRefuse};
-ghost use Rattle.g1_steps.specs.Rounds.{IsRound, round_size};
-ghost use Rattle.g1_shared.specs.Stores.{StoresBy};
-ghost use Rattle.g1_shared.specs.Counts.{CountsDid};
-ghost use Rattle.g1_shared.specs.Answers.{IsKindAt};
-ghost use Rattle.g1_shared.specs.Callers.{CallerState, caller_mark, IsCallerOf, caller_log};
-ghost use Rattle.g1_shared.specs.Callers.{taken_list, IsFlushAt, IsRefinementAt};
-ghost use Rattle.g1_shared.specs.Callers.{IsRoundAt, IsCallerAtPause};
 
 use crate::caller::{Caller, CallerCounts};
 use crate::ledgers::Terms;

@@ -1,6 +1,7 @@
 //! What workers do, and where they make their calls.
-ghost use Rattle.std.specs.Prelude.{◌≡◌, ℕ, ◌<◌, [], ◌∷◌, ◌++◌, List, Bool, true, IfSome, IfOk};
-ghost use Rattle.std.specs.Prelude.{IfErr, OnErr, OnOk, Option};
+ghost use Rattle.std.specs.Prelude.{◌≡◌, ◌<◌, ◌∷◌, ◌++◌};
+ghost use Rattle.g1_steps.specs.Prelude.{ℕ, [], List, Bool, true, IfSome, IfOk, IfErr, OnErr, OnOk};
+ghost use Rattle.g1_steps.specs.Prelude.{Option};
 ghost use Rattle.g1_core.specs.declared.reply.StoreReply.{StoreReply as Stored};
 ghost use Rattle.g1_core.specs.declared.reply.RefineReply.{RefineReply as Worked};
 ghost use Rattle.g1_history.specs.declared.refusal.Refusal.{Refusal as Why};

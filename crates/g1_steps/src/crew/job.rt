@@ -1,7 +1,7 @@
 //! A crew: workers in threads of their own.
-ghost use Rattle.std.specs.Prelude.{◌≡◌, ℕ, ◌<◌, ◌≤◌, [], map, IfOk, IfErr, All, vec_len};
-ghost use Rattle.std.specs.Prelude.{vec_capacity};
-ghost use Rattle.std.specs.List.{AllZip};
+ghost use Rattle.std.specs.Prelude.{◌≡◌, ◌<◌, ◌≤◌};
+ghost use Rattle.g1_steps.specs.Prelude.{ℕ, [], map, IfOk, IfErr, All, vec_len, vec_capacity};
+ghost use Rattle.g1_steps.specs.Prelude.{AllZip};
 ghost use Rattle.g1_steps.specs.Ask.{asks_in, ScriptFits};
 ghost use Rattle.g1_steps.specs.Ran.{Ran};
 

@@ -1,7 +1,6 @@
 //! A desk that shares what it works on with no other desk.
-ghost use Rattle.std.specs.Prelude.{◌≡◌, ◌++◌, ◌∷◌, Some, [], refl};
-ghost use Rattle.std.proofs.Common.{◌∙◌};
-ghost use Rattle.g1_layout.specs.Shape.{slot_count, card_of};
+ghost use Rattle.std.specs.Prelude.{◌≡◌, ◌++◌, ◌∷◌};
+ghost use Rattle.g1_steps.specs.Prelude.{Some, [], refl, ◌∙◌, slot_count, card_of};
 ghost use Rattle.g1_steps.specs.Steps.{IsStored, IsFlushed};
 ghost use Rattle.g1_steps.specs.Rounds.{IsRoundFrom};
 ghost use Rattle.g1_steps.specs.Marks.{mutator_mark, taker_mark};

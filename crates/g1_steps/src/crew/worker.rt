@@ -1,7 +1,7 @@
 //! Workers at a desk.
-ghost use Rattle.std.specs.Prelude.{◌≡◌, ◌<◌, [], ◌∷◌, replicate, OnErr, OnOk, All};
-ghost use Rattle.g1_steps.specs.Ask.{AskWork, ask_of, asks_of, StepFits};
-ghost use Rattle.g1_steps.specs.Ran.{HasAsked};
+ghost use Rattle.std.specs.Prelude.{◌≡◌, ◌<◌, ◌∷◌};
+ghost use Rattle.g1_steps.specs.{[], replicate, OnErr, OnOk, All, AskWork, ask_of, asks_of};
+ghost use Rattle.g1_steps.specs.{StepFits, HasAsked};
 
 use crate::crew::desk::{Desk, Outcome, Step};
 use g1_history::Refusal;

@@ -1,8 +1,8 @@
 //! The ends of one caller at the queue of completed buffers, which know that they are that queue's.
-ghost use Rattle.std.specs.Prelude.{◌≡◌, ◌<◌, true, IfSome};
+ghost use Rattle.std.specs.Prelude.{◌≡◌, ◌<◌};
+ghost use Rattle.g1_steps.specs.Prelude.{true, IfSome, slot_count, card_of, IsSenderOf, IsTakerOf};
+ghost use Rattle.g1_steps.specs.Prelude.{IsSameTaker, taken_of, capacity_of};
 ghost use Rattle.std.proofs.Props.{props};
-ghost use Rattle.g1_layout.specs.Shape.{slot_count, card_of};
-ghost use Rattle.g1_log.specs.Ends.{IsSenderOf, IsTakerOf, IsSameTaker, taken_of, capacity_of};
 
 use crate::calls::Calls;
 use crate::steps::{FlushReply, Mutator, empty_line, refine, work};

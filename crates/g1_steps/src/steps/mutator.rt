@@ -1,8 +1,8 @@
 //! What a mutator does: stores, whose filled log goes into the queue of completed buffers, and
 //! flushes.
-ghost use Rattle.std.specs.Prelude.{◌≡◌, ◌≢◌, ◌<◌, [], true, IfSome, IsNone, IsSome};
-ghost use Rattle.g1_layout.specs.Shape.{slot_count, card_of};
-ghost use Rattle.g1_log.specs.Ends.{IsSenderOf, put_of, IsSameSender};
+ghost use Rattle.std.specs.Prelude.{◌≡◌, ◌≢◌, ◌<◌};
+ghost use Rattle.g1_steps.specs.Prelude.{[], true, IfSome, IsNone, IsSome, slot_count, card_of};
+ghost use Rattle.g1_steps.specs.Prelude.{IsSenderOf, put_of, IsSameSender};
 ghost use Rattle.g1_steps.specs.Steps.{IsPassed, PutsBy, MayRefuse, nothing_flushed};
 
 use crate::calls::Calls;

@@ -10,7 +10,7 @@ pub struct BufferPlace {
 }
 
 impl Model for BufferPlace {
-    ghost use Rattle.std.specs.Prelude.{IsNone};
+    ghost use Rattle.g1_steps.specs.Prelude.{IsNone};
 
     ghost Value = { Unit {0} };
 

@@ -1,8 +1,9 @@
 //! What a refinement thread does: it takes completed buffers from the queue and refines them, one
 //! or a round of them.
-ghost use Rattle.std.specs.Prelude.{◌≡◌, ◌<◌, ◌≤◌, ◌+◌, ◌^◌, ◌++◌, ◌∷◌, [], true, false, length};
-ghost use Rattle.std.specs.Prelude.{vec_len, vec_capacity, IfOk, IfErr, OnErr, OnOk};
-ghost use Rattle.g1_log.specs.Ends.{IsTakerOf, IsSameTaker, taken_of, capacity_of};
+ghost use Rattle.std.specs.Prelude.{◌≡◌, ◌<◌, ◌≤◌, ◌+◌, ◌^◌, ◌++◌, ◌∷◌};
+ghost use Rattle.g1_steps.specs.Prelude.{[], true, false, length, vec_len, vec_capacity, IfOk};
+ghost use Rattle.g1_steps.specs.Prelude.{IfErr, OnErr, OnOk, IsTakerOf, IsSameTaker, taken_of};
+ghost use Rattle.g1_steps.specs.Prelude.{capacity_of};
 ghost use Rattle.g1_steps.specs.Steps.{IsRefineStep, IsOfCalls};
 ghost use Rattle.g1_steps.specs.Rounds.{round_size, IsRefused, IsRound, IsWorkStep, IsNextOf};
 ghost use Rattle.g1_steps.specs.Rounds.{so_far, progress};

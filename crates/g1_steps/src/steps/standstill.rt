@@ -1,9 +1,8 @@
 //! What a pause does once the mutators are stopped: it empties their logs and the queue of
 //! completed buffers.
-ghost use Rattle.std.specs.Prelude.{◌≡◌, ℕ, ◌<◌, ◌++◌, ◌∷◌, [], length, slice_index_or};
-ghost use Rattle.std.specs.Prelude.{MatchOption};
-ghost use Rattle.g1_log.specs.Ends.{IsTakerOf, IsSameTaker, taken_of, capacity_of, WasEmpty};
-ghost use Rattle.g1_steps.specs.Steps.{Empties, IsStopped};
+ghost use Rattle.std.specs.Prelude.{◌≡◌, ◌<◌, ◌++◌, ◌∷◌};
+ghost use Rattle.g1_steps.specs.{ℕ, [], length, slice_index_or, MatchOption, IsTakerOf};
+ghost use Rattle.g1_steps.specs.{IsSameTaker, taken_of, capacity_of, WasEmpty, Empties, IsStopped};
 ghost use Rattle.g1_steps.specs.declared.steps.mutator.Mutator.{Mutator as M};
 
 use crate::steps::Mutator;

@@ -1,8 +1,7 @@
 //! The lines of a fault and of the other ends (docs/traces.md, Faults, Ends).
-ghost use Rattle.g1_trace.specs.Bytes.{Puts};
-ghost use Rattle.g1_trace.specs.Text.{fault_line, fault_text, no_memory_line, book_full_line};
-ghost use Rattle.g1_trace.specs.Text.{no_thread_line, read_failed_line};
 ghost use Rattle.std.specs.Prelude.{◌≡◌};
+ghost use Rattle.g1_trace.specs.{Puts, fault_line, fault_text, no_memory_line, book_full_line};
+ghost use Rattle.g1_trace.specs.{no_thread_line, read_failed_line};
 
 use crate::fault::TraceFault;
 use crate::output::{WriteFailed, put, put_between};

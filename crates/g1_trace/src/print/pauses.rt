@@ -1,7 +1,6 @@
 //! The lines of a clear and a redirect.
-ghost use Rattle.g1_trace.specs.Bytes.{Puts};
-ghost use Rattle.g1_trace.specs.Text.{clear_text, redirected_line, with_number};
-ghost use Rattle.std.specs.Prelude.{codes, ◌++◌};
+ghost use Rattle.std.specs.Prelude.{◌++◌};
+ghost use Rattle.g1_trace.specs.{Puts, clear_text, redirected_line, with_number, codes};
 
 use crate::output::{WriteFailed, put, put_between};
 use g1_core::ClearReply;

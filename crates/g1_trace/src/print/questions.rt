@@ -1,7 +1,6 @@
 //! The lines of the questions whose replies are numbers.
-ghost use Rattle.g1_trace.specs.Bytes.{Puts};
-ghost use Rattle.g1_trace.specs.Text.{target_text, status_text, with_number};
-ghost use Rattle.std.specs.Prelude.{codes, ◌++◌};
+ghost use Rattle.std.specs.Prelude.{◌++◌};
+ghost use Rattle.g1_trace.specs.{Puts, target_text, status_text, with_number, codes};
 
 use crate::output::{WriteFailed, counted_before, ending_at_end, put};
 use g1_core::Status;

@@ -1,7 +1,7 @@
 //! The lines of a refinement and of a round.
-ghost use Rattle.g1_trace.specs.Bytes.{Puts};
-ghost use Rattle.g1_trace.specs.Text.{refine_text, work_text, turned_text, with_number, ending};
-ghost use Rattle.std.specs.Prelude.{◌≡◌, ◌+◌, ◌≤◌, codes, ◌++◌, length, drop};
+ghost use Rattle.std.specs.Prelude.{◌≡◌, ◌+◌, ◌≤◌, ◌++◌};
+ghost use Rattle.g1_trace.specs.{Puts, refine_text, work_text, turned_text, with_number, ending};
+ghost use Rattle.g1_trace.specs.{codes, length, drop};
 
 use crate::output::{WriteFailed, counted_before, ending_at_end, put};
 use g1_core::RefineReply;

@@ -1,8 +1,7 @@
 //! The lines of a store and of a flush.
-ghost use Rattle.g1_trace.specs.Bytes.{Puts};
-ghost use Rattle.g1_trace.specs.Text.{store_text, flushed_line, stored_line, stores_text};
-ghost use Rattle.g1_trace.specs.Text.{with_number, ending};
-ghost use Rattle.std.specs.Prelude.{◌++◌, codes, length};
+ghost use Rattle.std.specs.Prelude.{◌++◌};
+ghost use Rattle.g1_trace.specs.{Puts, store_text, flushed_line, stored_line, stores_text};
+ghost use Rattle.g1_trace.specs.{with_number, ending, codes, length};
 
 use crate::output::{WriteFailed, counted_before, ending_at_end, put, put_between, put_either};
 use g1_core::{CardList, Fill, StoreReply};

@@ -1,12 +1,7 @@
-use Rattle.std.proofs.Common.{◌≡◌, ◌<◌, ◌≤◌, ◌+◌, inl, inr, ℕ, List, [], ◌∷◌, ◌++◌, length, Option, Some, None, refl, sym, ◌∙◌, subst, arith, take, take_all}
-use Rattle.std.specs.Prelude.{All, Contains, IfNone, slice_get}
-use Rattle.std.specs.Option.{SomeIff}
-use Rattle.std.proofs.lemmas.Bool.{cases_lt}
-use Rattle.std.proofs.lemmas.List.Elements.{All-push, Contains-append_left, Contains-append_right}
-use Rattle.std.proofs.lemmas.Option.{slice_get_read}
-use Rattle.g1_layout.specs.Shape.{card_count}
-use Rattle.g1_core.proofs.MarkLemmas.{itself}
-use Rattle.g1_core.proofs.WalkLemmas.{take_next}
+use Rattle.std.specs.Prelude.{◌≡◌, ◌<◌, ◌≤◌, ◌+◌, ◌∷◌, ◌++◌}
+use Rattle.g1_core.specs.{inl, inr, ℕ, List, [], length, Option, Some, None, refl, sym, ◌∙◌, subst, arith, take, All, Contains, IfNone, slice_get, SomeIff, cases_lt, All-push, Contains-append_left, Contains-append_right, slice_get_read, card_count}
+use Rattle.std.proofs.Common.{take_all}
+use Rattle.g1_core.proofs.{itself, take_next}
 use Rattle.g1_core.proofs.clearing.first_of.Goals as goal
 
 pub loop-card-preserved : goal.loop-card-preserved

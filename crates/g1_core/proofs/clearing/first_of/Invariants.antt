@@ -1,6 +1,5 @@
-use Rattle.std.proofs.Common.{◌≡◌, ◌⊎◌, ◌≤◌, take}
-use Rattle.std.specs.Prelude.{All, Contains}
-use Rattle.g1_layout.specs.Shape.{card_count}
+use Rattle.std.specs.Prelude.{◌≡◌, ◌⊎◌, ◌≤◌}
+use Rattle.g1_core.specs.{take, All, Contains, card_count}
 use Rattle.g1_core.proofs.clearing.first_of.Given as goal
 
 abbrev pub invariant-loop-card : goal.invariant-loop-card

@@ -1,12 +1,7 @@
-use Rattle.std.proofs.Common.{◌≡◌, ◌<◌, inl, inr, List, ℕ, ◌*◌, ◌+◌, [], ◌∷◌, Some, None, length, refl, ap, subst, sym, ◌∙◌, arith, take_all}
-use Rattle.std.specs.Prelude.{not, slice_get}
-use Rattle.std.proofs.lemmas.Bool.{cases_eq, eqb-false, ne_eqb, not-true, true≢false}
-use Rattle.std.proofs.lemmas.Option.{slice_get_read}
-use Rattle.g1_layout.specs.Shape.{Shape, card_count}
-use Rattle.g1_heap.specs.Cells.{Cells}
-use Rattle.g1_core.specs.Machine.{table_from}
-use Rattle.g1_core.specs.Clearing.{IsLeastOn, AreRead}
-use Rattle.g1_core.proofs.LeastSlotLemmas.{IsLeastFrom, from_all, next_past, next_none, next_known, next_some, read_other, read_skipped, read_but_one, read_layout, before_but}
+use Rattle.std.specs.Prelude.{◌≡◌, ◌<◌, ◌*◌, ◌+◌, ◌∷◌}
+use Rattle.g1_core.specs.{inl, inr, List, ℕ, [], Some, None, length, refl, ap, subst, sym, ◌∙◌, arith, not, slice_get, cases_eq, eqb-false, ne_eqb, not-true, true≢false, slice_get_read, Shape, card_count, Cells, table_from, IsLeastOn, AreRead}
+use Rattle.std.proofs.Common.{take_all}
+use Rattle.g1_core.proofs.{IsLeastFrom, from_all, next_past, next_none, next_known, next_some, read_other, read_skipped, read_but_one, read_layout, before_but}
 use Rattle.g1_core.proofs.clearing.least_after.Goals as goal
 use Rattle.g1_core.proofs.clearing.least_after.Goals.{then-ne+then-number-past+in-Some, then-ne+then-number-past+in_default, else-ne, else-ne-via-then-ne+else-number-past, else-ne-via-else-ne}
 
@@ -62,6 +57,3 @@ entering_on-requires-clause-card c =
     let here : c.card-item.result < card_count c.args.heap.now.layout = subst (λ (n : ℕ). n < card_count c.args.heap.now.layout) (sym c.card-item.is)
     (c.requires.cards c.loop-card.card-index c.card-item.result c.loop-card-test.true) in
     subst (λ (l : Shape). c.card-item.result < card_count l) (read_layout c.args.heap.now c.loop-card.heap _ (c.loop-card.invariant.read c.requires.first)) here
-
-pub entering_on-requires-clause-region : goal.entering_on-requires-clause-region
-entering_on-requires-clause-region c = subst (λ (l : Shape). c.args.region < l.regions) (read_layout c.args.heap.now c.loop-card.heap _ (c.loop-card.invariant.read c.requires.first)) c.requires.region

@@ -1,9 +1,6 @@
-use Rattle.std.proofs.Common.{◌*◌, take}
-use Rattle.std.specs.Prelude.{Contains}
-use Rattle.g1_layout.specs.Sets.{PairSet}
-use Rattle.g1_core.specs.Machine.{table_from}
-use Rattle.g1_core.specs.Clearing.{AreRead}
-use Rattle.g1_core.proofs.LeastSlotLemmas.{IsLeastFrom, before_but}
+use Rattle.std.specs.Prelude.{◌*◌}
+use Rattle.g1_core.specs.{take, Contains, PairSet, table_from, AreRead}
+use Rattle.g1_core.proofs.{IsLeastFrom, before_but}
 use Rattle.g1_core.proofs.clearing.least_after.Given as goal
 
 abbrev pub invariant-loop-card : goal.invariant-loop-card

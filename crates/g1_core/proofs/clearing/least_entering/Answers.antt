@@ -1,8 +1,7 @@
-use Rattle.std.proofs.Common.{ℕ, List, [], ◌∷◌, Some, None, sym, subst}
+use Rattle.std.specs.Prelude.{◌∷◌}
+use Rattle.g1_core.specs.{ℕ, List, [], Some, None, sym, subst, table_from, IsLeastOn}
 use Rattle.g1_core.specs.Table.{Table}
-use Rattle.g1_core.specs.Machine.{table_from}
-use Rattle.g1_core.specs.Clearing.{IsLeastOn}
-use Rattle.g1_core.proofs.LeastSlotLemmas.{least_first, read_table}
+use Rattle.g1_core.proofs.{least_first, read_table}
 use Rattle.g1_core.proofs.clearing.least_entering.Goals as goal
 
 pub returns-in-Some-clause-least : goal.returns-in-Some-clause-least

@@ -1,7 +1,5 @@
-use Rattle.std.proofs.Common.{◌≡◌, ◌≤◌, ◌-◌, ◌*◌, ◌^◌, ◌++◌}
-use Rattle.std.specs.List.{range_with_len}
-use Rattle.g1_core.specs.Clearing.{AreRead}
-use Rattle.g1_core.specs.Redirect.{changes_of}
+use Rattle.std.specs.Prelude.{◌≡◌, ◌≤◌, ◌-◌, ◌*◌, ◌^◌, ◌++◌}
+use Rattle.g1_core.specs.{range_with_len, AreRead, changes_of}
 use Rattle.g1_core.proofs.redirection.add_changes_on.Given as goal
 
 abbrev pub invariant-loop-next : goal.invariant-loop-next

@@ -1,11 +1,7 @@
-use Rattle.std.proofs.Common.{◌≡◌, ◌<◌, ◌≤◌, ◌+◌, ℕ, List, length, ap, sym, ◌∙◌, subst, arith, take_all, vec_items}
-use Rattle.std.specs.Prelude.{All}
-use Rattle.std.proofs.lemmas.List.Elements.{All-push}
-use Rattle.g1_layout.specs.Shape.{Shape, card_count}
-use Rattle.g1_sets.specs.Pairs.{list_at}
-use Rattle.g1_core.specs.Redirect.{changes_of, slots_of, slots_on, AreGaining}
-use Rattle.g1_core.proofs.LeastSlotLemmas.{read_next, read_all, read_one_more, read_layout}
-use Rattle.g1_core.proofs.WalkLemmas.{references_next, card_changes, gains_next, gains_none, lies_outside, lies_inside, member_below}
+use Rattle.std.specs.Prelude.{◌≡◌, ◌<◌, ◌≤◌, ◌+◌}
+use Rattle.g1_core.specs.{ℕ, List, length, ap, sym, ◌∙◌, subst, arith, vec_items, All, All-push, card_count, list_at, changes_of, slots_of, slots_on, AreGaining}
+use Rattle.std.proofs.Common.{take_all}
+use Rattle.g1_core.proofs.{read_next, read_all, read_one_more, read_layout, references_next, card_changes, gains_next, gains_none, lies_outside, lies_inside, member_below}
 use Rattle.g1_core.proofs.redirection.changes_into.Goals as goal
 use Rattle.g1_core.proofs.redirection.changes_into.Goals.{then-len-before+then-ne+in_ok-push, else-len-before, else-len-before-via-then-len-before+else-ne, else-len-before-via-else-len-before}
 
@@ -64,25 +60,6 @@ pub returns-in_err-push-clause-heap : goal.returns-in_err-push-clause-heap
 returns-in_err-push-clause-heap c = read_one_more c.args.heap.now c.loop-index.heap c.add_changes_on.new.heap c.loop-index.index (length (list_at c.args.sets.now.lists c.args.from)) c.loop-index.invariant.read
     c.in_ok-add_changes_on.ensures.heap (subst (λ (many : ℕ). c.loop-index.index < many) c.len-members.ensures.len c.loop-index-test.true)
 
--- what is asked of the sets, the heap and the layout
-pub len-members-requires : goal.len-members-requires
-len-members-requires c = subst (λ (l : Shape). c.args.from < l.regions) (sym c.requires.layouts) c.requires.from
-
-pub at-card-requires-clause-region : goal.at-card-requires-clause-region
-at-card-requires-clause-region c = subst (λ (l : Shape). c.args.from < l.regions) (sym c.requires.layouts) c.requires.from
-
-pub at-card-requires-clause-index : goal.at-card-requires-clause-index
-at-card-requires-clause-index c = subst (λ (many : ℕ). c.loop-index.index < many) c.len-members.ensures.len c.loop-index-test.true
-
 pub add_changes_on-requires-clause-card : goal.add_changes_on-requires-clause-card
 add_changes_on-requires-clause-card c = member_below c.args.sets.now c.loop-index.heap.layout c.args.from c.loop-index.index c.at-card.result c.len-members.ensures.tied
     (c.requires.layouts ∙ read_layout c.args.heap.now c.loop-index.heap _ c.loop-index.invariant.read) c.at-card.ensures
-
-pub add_changes_on-requires-clause-from : goal.add_changes_on-requires-clause-from
-add_changes_on-requires-clause-from c = subst (λ (l : Shape). c.args.from < l.regions) (read_layout c.args.heap.now c.loop-index.heap _ c.loop-index.invariant.read) c.requires.from
-
-pub add_changes_on-requires-clause-to : goal.add_changes_on-requires-clause-to
-add_changes_on-requires-clause-to c = subst (λ (l : Shape). c.args.to < l.regions) (read_layout c.args.heap.now c.loop-index.heap _ c.loop-index.invariant.read) c.requires.to
-
-pub region_of_card-requires : goal.region_of_card-requires
-region_of_card-requires c = member_below c.args.sets.now c.layout-layout.result c.args.from c.loop-index.index c.at-card.result c.len-members.ensures.tied (c.requires.layouts ∙ sym c.layout-layout.ensures.layout) c.at-card.ensures

@@ -1,9 +1,5 @@
-use Rattle.std.proofs.Common.{◌≡◌, ◌<◌, ◌*◌, take}
-use Rattle.std.specs.Prelude.{All}
-use Rattle.g1_layout.specs.Shape.{card_count}
-use Rattle.g1_sets.specs.Pairs.{list_at}
-use Rattle.g1_core.specs.Clearing.{AreRead}
-use Rattle.g1_core.specs.Redirect.{changes_of, slots_on, AreGaining}
+use Rattle.std.specs.Prelude.{◌≡◌, ◌<◌, ◌*◌}
+use Rattle.g1_core.specs.{take, All, card_count, list_at, AreRead, changes_of, slots_on, AreGaining}
 use Rattle.g1_core.proofs.redirection.changes_into.Given as goal
 
 abbrev pub invariant-loop-index : goal.invariant-loop-index

@@ -1,6 +1,5 @@
-use Rattle.std.proofs.Common.{◌≡◌, take}
-use Rattle.g1_heap.specs.Cells.{Cells}
-use Rattle.g1_core.specs.Redirect.{changed}
+use Rattle.std.specs.Prelude.{◌≡◌}
+use Rattle.g1_core.specs.{take, Cells, changed}
 use Rattle.g1_core.proofs.redirection.make_changes.Given as goal
 
 abbrev pub invariant-loop-change : goal.invariant-loop-change

@@ -1,10 +1,6 @@
 -- A handle is put back as it was found.
-use Rattle.std.proofs.Common.{◌≡◌, ◌<◌, None, length, sym, ◌∙◌, subst, arith}
-use Rattle.std.proofs.lemmas.List.{length-set}
-use Rattle.std.proofs.lemmas.List.Elements.{All-map, AllWithin-more_set, All-from_all_within, AllWithin-upto}
-use Rattle.std.proofs.Math.Seq.{map-set_same}
-use Rattle.std.specs.Prelude.{IsTrue}
-use Rattle.g1_handles.specs.Racing.{AreClosed}
+use Rattle.std.specs.Prelude.{◌≡◌, ◌<◌}
+use Rattle.g1_handles.specs.{None, length, sym, ◌∙◌, subst, arith, length-set, All-map, AllWithin-more_set, All-from_all_within, AllWithin-upto, map-set_same, IsTrue, AreClosed}
 use Rattle.g1_handles.proofs.Rows.{at_handle}
 use Rattle.g1_handles.proofs.any_handle.are_closed.Goals as goal
 

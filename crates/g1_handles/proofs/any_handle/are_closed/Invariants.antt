@@ -1,6 +1,6 @@
 -- The handles hold what they held, and the first i are closed.
-use Rattle.std.proofs.Common.{◌≡◌, None, length, map}
-use Rattle.std.specs.List.{AllWithin}
+use Rattle.std.specs.Prelude.{◌≡◌}
+use Rattle.g1_handles.specs.{None, length, map, AllWithin}
 use Rattle.g1_handles.proofs.any_handle.are_closed.Given as goal
 
 abbrev pub invariant-loop-i : goal.invariant-loop-i

@@ -1,5 +1,5 @@
 -- The call was made on what the handle held, which it holds again.
-use Rattle.std.proofs.Common.{refl}
+use Rattle.g1_handles.specs.{refl}
 use Rattle.g1_handles.proofs.VisitLemmas.{visited}
 use Rattle.g1_handles.proofs.any_handle.visit.Goals as goal
 

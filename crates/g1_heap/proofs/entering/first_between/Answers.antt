@@ -1,6 +1,6 @@
-use Rattle.std.proofs.Common.{◌≡◌, inl, inr, arith, get_or}
-use Rattle.std.proofs.lemmas.Bool.{cases_lt}
-use Rattle.g1_heap.proofs.RowLemmas.{word_of_group}
+use Rattle.std.specs.Prelude.{◌≡◌}
+use Rattle.g1_heap.specs.{inl, inr, arith, get_or, cases_lt}
+use Rattle.g1_heap.proofs.{word_of_group}
 use Rattle.g1_heap.proofs.entering.first_between.Goals as goal
 
 pub loop-at-preserved-then-not-has_reference : goal.loop-at-preserved-then-not-has_reference

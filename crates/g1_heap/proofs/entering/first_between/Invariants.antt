@@ -1,4 +1,5 @@
-use Rattle.std.proofs.Common.{◌≤◌, ◌<◌, ◌+◌, ◌-◌, ℕ, length, get_or}
+use Rattle.std.specs.Prelude.{◌≤◌, ◌<◌, ◌+◌, ◌-◌}
+use Rattle.g1_heap.specs.{ℕ, length, get_or}
 use Rattle.g1_heap.proofs.entering.first_between.Given as goal
 
 abbrev pub invariant-loop-at : goal.invariant-loop-at

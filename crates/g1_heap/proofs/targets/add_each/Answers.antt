@@ -1,10 +1,6 @@
-use Rattle.std.proofs.Common.{◌≡◌, ◌∙◌, ◌+◌, ◌-◌, ◌<◌, arith, ap, length, get_or, take, drop, subst, sym, ℕ}
-use Rattle.std.proofs.lemmas.Bool.{true≢false}
-use Rattle.std.proofs.lemmas.List.{get_or-take, get_or-drop, length-take, length-drop}
-use Rattle.arrayvec.specs.ArrayVec.{ArrayVec, array_vec_len}
-use Rattle.g1_heap.specs.Listing.{IsListedUpTo}
-use Rattle.g1_heap.specs.Stored.{ref_of}
-use Rattle.g1_heap.proofs.CellLemmas.{ref_of-slot}
+use Rattle.std.specs.Prelude.{◌≡◌, ◌+◌, ◌-◌, ◌<◌}
+use Rattle.g1_heap.specs.{◌∙◌, arith, ap, length, get_or, take, drop, subst, sym, ℕ, true≢false, get_or-take, get_or-drop, length-take, length-drop, ArrayVec, array_vec_len, IsListedUpTo, ref_of}
+use Rattle.g1_heap.proofs.{ref_of-slot}
 use Rattle.g1_heap.proofs.ListingLemmas.{listed_null, listed_known, listed_fresh, listed_as}
 use Rattle.g1_heap.proofs.targets.add_each.Goals as goal
 use Rattle.g1_heap.proofs.targets.add_each.Goals.{in-Some+then-not-contains, in-Some+else-not-contains, in_default}

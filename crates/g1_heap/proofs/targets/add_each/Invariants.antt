@@ -1,6 +1,5 @@
-use Rattle.std.proofs.Common.{◌≤◌, ◌+◌, length}
-use Rattle.g1_layout.specs.declared.region_set.RegionSet.{RegionSet}
-use Rattle.g1_heap.specs.Listing.{IsListedUpTo}
+use Rattle.std.specs.Prelude.{◌≤◌, ◌+◌}
+use Rattle.g1_heap.specs.{length, RegionSet, IsListedUpTo}
 use Rattle.g1_heap.proofs.targets.add_each.Given as goal
 
 abbrev pub invariant-loop-word : goal.invariant-loop-word

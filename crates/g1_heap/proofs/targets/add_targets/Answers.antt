@@ -1,10 +1,7 @@
-use Rattle.std.proofs.Common.{◌≡◌, ◌∙◌, ◌+◌, ◌-◌, ◌*◌, ◌/◌, arith, ap, length, get_or, take, drop, refl, subst, ℕ}
-use Rattle.arrayvec.specs.ArrayVec.{ArrayVec, array_vec_len}
-use Rattle.g1_layout.proofs.ShapeLemmas.{slot_count_limit}
-use Rattle.g1_heap.specs.Listing.{IsListedUpTo}
-use Rattle.g1_heap.proofs.CellLemmas.{ref_of-null}
+use Rattle.std.specs.Prelude.{◌≡◌, ◌+◌, ◌-◌, ◌*◌, ◌/◌}
+use Rattle.g1_heap.specs.{◌∙◌, arith, ap, length, get_or, take, drop, refl, subst, ℕ, ArrayVec, array_vec_len, slot_count_limit, IsListedUpTo}
+use Rattle.g1_heap.proofs.{ref_of-null, word_of_group}
 use Rattle.g1_heap.proofs.ListingLemmas.{listed_none, listed_nulls, listed_as}
-use Rattle.g1_heap.proofs.RowLemmas.{word_of_group}
 use Rattle.g1_heap.proofs.TargetLemmas.{listed_all}
 use Rattle.g1_heap.proofs.targets.add_targets.Goals as goal
 use Rattle.g1_heap.proofs.targets.add_targets.Goals.{then-has_reference, else-has_reference}

@@ -1,5 +1,5 @@
-use Rattle.std.proofs.Common.{◌≤◌, ◌*◌, length}
-use Rattle.g1_heap.specs.Listing.{IsListedUpTo}
+use Rattle.std.specs.Prelude.{◌≤◌, ◌*◌}
+use Rattle.g1_heap.specs.{length, IsListedUpTo}
 use Rattle.g1_heap.proofs.targets.add_targets.Given as goal
 
 abbrev pub invariant-loop-group : goal.invariant-loop-group

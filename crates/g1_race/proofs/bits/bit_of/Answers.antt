@@ -1,4 +1,4 @@
-use Rattle.g1_race_words.proofs.Flags.{bit_below}
+use Rattle.g1_race.specs.{bit_below}
 use Rattle.g1_race.proofs.bits.bit_of.Goals as goal
 
 pub returns-clause-within : goal.returns-clause-within

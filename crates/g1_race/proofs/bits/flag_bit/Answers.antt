@@ -1,4 +1,4 @@
-use Rattle.g1_race_words.proofs.Flags.{flag_place, flag_word}
+use Rattle.g1_race.specs.{flag_place, flag_word}
 use Rattle.g1_race.proofs.bits.flag_bit.Goals as goal
 
 pub returns-clause-word : goal.returns-clause-word

@@ -1,4 +1,4 @@
-use Rattle.g1_race_words.proofs.StepKinds.{runs_are_of_five}
+use Rattle.g1_race.specs.{runs_are_of_five}
 use Rattle.g1_race.proofs.laws.runs_are_of_five_kinds.Goals as goal
 
 pub returns : goal.returns

@@ -1,6 +1,4 @@
-use Rattle.std.proofs.Common.{ap, arith}
-use Rattle.g1_race_words.specs.declared.view.Shape.{Shape}
-use Rattle.g1_race_words.proofs.PairBits.{card_below}
+use Rattle.g1_race.specs.{ap, arith, Shape, card_below}
 use Rattle.g1_race.proofs.word.pair_of.Goals as goal
 
 pub returns-clause-within : goal.returns-clause-within

@@ -2,12 +2,11 @@
 use Rattle.atomic_table.proofs.Names.{◌≡◌, ℕ, ◌+◌, List, [], ◌∷◌, sym, refl, ap, a_type, dcons, dnil, named, Val, vptr, inst_fn, SProp, Lft, Fml, ftrue, fsep, flft, sem, emp, ent, sep, ‵, raw, ◌⊛◌, given, at_ret, ◌$◌, ◌∵◌, !, qed, by, move, keep, done, split, join, fsplit, fjoin, learn, rewrite, arith, use0, use1, feq_i, stop, load, addr, of_opd, first, blocks, exec, returns, enter, alloc_all, pass_all, free_all, look_at, get, through, sets, sets_last, env, tables, yes, RattleType, owns, types_at, plain, Ptr, block_ptr, ptr_val, nothing, param, bounded, Stays, stay_dropped, walk_of, Goes-dropped, fact, fact_i, fact_use, block_of, count_of, at_block, Coded, guard_i, RefOf, RawPtr, shr_vals, shr_Tells, unhide, hidden_shr, lent_out, Tuple}
 use types.Run.{look}
 use denote.Opens.{hide, shr_dup}
-use denote.RawPtr.{ptr_row_laws}
+use Rattle.g1_race_words.specs.{ptr_row_laws, TableId, Placed, common}
 use Rattle.std.proofs.Words.{pointer_in, pointer_out}
 use Rattle.atomic_table.proofs.Walks.{proved, leaves}
 use Rattle.core.proofs.atomic.Steps.{tail}
 use Rattle.core.specs.contracts.marker.PhantomData as marker
-use Rattle.atomic_table.specs.Seated.{TableId, Placed, age, common}
 use Rattle.atomic_table.specs.contracts.shared.Shared as table
 use Rattle.atomic_table.proofs.Fields.{HandData}
 use Rattle.atomic_table.proofs.Moves.{placed}

@@ -1,7 +1,5 @@
-use Rattle.std.proofs.Common.{ap, Err}
-use Rattle.std.proofs.lemmas.Result.{err_from_is_err_and}
-use Rattle.g1_trace.specs.declared.command.Command.TheVariants.{Call}
-use Rattle.g1_replay.proofs.AnswerLemmas.{call_says, call_refused, does_answer, does_front, does_refused}
+use Rattle.g1_replay.specs.{ap, Err, err_from_is_err_and, Call}
+use Rattle.g1_replay.proofs.{call_says, call_refused, does_answer, does_front, does_refused}
 use Rattle.g1_replay.proofs.calls.play_call.Goals as goal
 
 pub returns-in_err-reply-clause-played : goal.returns-in_err-reply-clause-played

@@ -1,7 +1,5 @@
-use Rattle.std.proofs.Common.{◌≡◌, ◌∙◌, ℕ, arith, subst}
-use Rattle.std.specs.Prelude.{Ok}
-use Rattle.std.proofs.lemmas.Result.{err_from_is_err_and}
-use Rattle.g1_replay.specs.Drains.{HasDrained}
+use Rattle.std.specs.Prelude.{◌≡◌}
+use Rattle.g1_replay.specs.{◌∙◌, ℕ, arith, subst, Ok, err_from_is_err_and, HasDrained}
 use Rattle.g1_replay.proofs.DrainLemmas.{drained_all, drained_more, drained_none, drained_stopped}
 use Rattle.g1_replay.proofs.drains.put_drains.Goals as goal
 

@@ -1,4 +1,4 @@
-use Rattle.std.proofs.Common.{◌≡◌, ◌≤◌}
+use Rattle.std.specs.Prelude.{◌≡◌, ◌≤◌}
 use Rattle.g1_replay.proofs.DrainLemmas.{Drained}
 use Rattle.g1_replay.proofs.drains.put_drains.Given as goal
 

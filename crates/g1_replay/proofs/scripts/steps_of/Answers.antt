@@ -1,7 +1,6 @@
-use Rattle.std.proofs.Common.{List, [], ◌∷◌, ◌++◌, ap, sym, ◌∙◌}
-use Rattle.g1_steps.specs.declared.crew.desk.Step.{Step}
-use Rattle.g1_replay.specs.Scripts.{step_for}
-use Rattle.g1_replay.proofs.ScriptLemmas.{step_more, no_step_more}
+use Rattle.std.specs.Prelude.{◌∷◌, ◌++◌}
+use Rattle.g1_replay.specs.{List, [], ap, sym, ◌∙◌, Step, step_for}
+use Rattle.g1_replay.proofs.{step_more, no_step_more}
 use Rattle.g1_replay.proofs.scripts.steps_of.Goals as goal
 
 pub loop-command-preserved-in_default : goal.loop-command-preserved-in_default

@@ -1,6 +1,5 @@
-use Rattle.std.proofs.Common.{◌≡◌, take}
-use Rattle.std.specs.List.{filter_map}
-use Rattle.g1_replay.specs.Scripts.{step_for}
+use Rattle.std.specs.Prelude.{◌≡◌}
+use Rattle.g1_replay.specs.{take, filter_map, step_for}
 use Rattle.g1_replay.proofs.scripts.steps_of.Given as goal
 
 -- the steps of the commands so far

@@ -1,6 +1,4 @@
-use Rattle.std.proofs.Common.{◌∙◌, ap, sym, take, arith}
-use Rattle.std.proofs.lemmas.List.Sums.{fold_more}
-use Rattle.g1_sets.specs.Pairs.{with_card, with_cards}
+use Rattle.g1_sets.specs.{◌∙◌, ap, sym, take, arith, fold_more, with_card, with_cards}
 use Rattle.g1_sets.proofs.members.insert_cards.Goals as goal
 
 pub loop-card-preserved : goal.loop-card-preserved

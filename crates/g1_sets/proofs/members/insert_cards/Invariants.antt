@@ -1,6 +1,5 @@
-use Rattle.std.proofs.Common.{◌≡◌, ◌≤◌, ◌+◌, take, length}
-use Rattle.indexmap.specs.IndexSet.{spare}
-use Rattle.g1_sets.specs.Pairs.{with_cards}
+use Rattle.std.specs.Prelude.{◌≡◌, ◌≤◌, ◌+◌}
+use Rattle.g1_sets.specs.{take, length, spare, with_cards}
 use Rattle.g1_sets.proofs.members.insert_cards.Given as goal
 
 abbrev pub invariant-loop-card : goal.invariant-loop-card

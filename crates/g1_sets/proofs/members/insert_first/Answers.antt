@@ -1,12 +1,7 @@
-use Rattle.std.proofs.Common.{◌<◌, ◌∷◌, [], refl, subst, sym, length, arith}
-use Rattle.indexmap.specs.IndexSet.{spare}
-use Rattle.g1_layout.specs.Regions.{Gains}
-use Rattle.g1_sets.specs.Members.{lists_of, rooms_of, HaveRoom}
-use Rattle.g1_sets.specs.Rows.{IsRowOf}
+use Rattle.std.specs.Prelude.{◌<◌, ◌∷◌}
+use Rattle.g1_sets.specs.{[], refl, subst, sym, length, arith, spare, Gains, lists_of, rooms_of, HaveRoom, IsRowOf}
 use Rattle.g1_sets.proofs.ListLemmas.{joins_none}
-use Rattle.g1_sets.proofs.RoomLemmas.{room_kept}
-use Rattle.g1_sets.proofs.RowLemmas.{row_joined}
-use Rattle.g1_sets.proofs.SetLemmas.{joins_next, inserted, rooms_set, in_lists, lists_kept, on_err}
+use Rattle.g1_sets.proofs.{room_kept, row_joined, joins_next, inserted, rooms_set, in_lists, lists_kept, on_err}
 use Rattle.g1_sets.proofs.members.insert_first.Goals as goal
 
 pub returns-in_err-insert_growing-clause-err : goal.returns-in_err-insert_growing-clause-err

@@ -1,14 +1,6 @@
-use Rattle.std.proofs.Common.{◌+◌, length, subst, sym, take}
-use Rattle.std.specs.Prelude.{slice_set}
-use Rattle.g1_layout.specs.declared.region_set.RegionSet.{RegionSet}
-use Rattle.g1_layout.specs.Regions.{Gains}
-use Rattle.indexmap.specs.IndexSet.{spare}
-use Rattle.g1_sets.specs.Members.{lists_of, rooms_of, HaveRoom}
-use Rattle.g1_sets.specs.Pairs.{Joins}
-use Rattle.g1_sets.specs.Rows.{IsRowOf}
-use Rattle.g1_sets.proofs.RoomLemmas.{room_kept}
-use Rattle.g1_sets.proofs.RowLemmas.{row_joined}
-use Rattle.g1_sets.proofs.SetLemmas.{within, joins_next, joins_there, inserted, rooms_set, in_lists}
+use Rattle.std.specs.Prelude.{◌+◌}
+use Rattle.g1_sets.specs.{length, subst, sym, take, slice_set, RegionSet, Gains, spare, lists_of, rooms_of, HaveRoom, Joins, IsRowOf}
+use Rattle.g1_sets.proofs.{room_kept, row_joined, within, joins_next, joins_there, inserted, rooms_set, in_lists}
 use Rattle.g1_sets.proofs.members.insert_into.Goals as goal
 use Rattle.g1_sets.proofs.members.insert_into.Goals.{then-not-contains, else-not-contains}
 

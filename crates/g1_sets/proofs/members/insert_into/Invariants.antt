@@ -1,7 +1,4 @@
-use Rattle.std.proofs.Common.{take}
-use Rattle.g1_sets.specs.Members.{lists_of, rooms_of, HaveRoom}
-use Rattle.g1_sets.specs.Pairs.{Joins}
-use Rattle.g1_sets.specs.Rows.{IsRowOf}
+use Rattle.g1_sets.specs.{take, lists_of, rooms_of, HaveRoom, Joins, IsRowOf}
 use Rattle.g1_sets.proofs.members.insert_into.Given as goal
 
 abbrev pub invariant-loop-region : goal.invariant-loop-region

@@ -1,8 +1,6 @@
-use Rattle.std.proofs.Common.{◌<◌, ◌≤◌, ◌∙◌, ap, sym, subst, length}
-use Rattle.std.specs.Prelude.{slice_index, slice_set}
-use Rattle.g1_sets.specs.Pairs.{list_at, with_cards}
-use Rattle.g1_sets.specs.Members.{lists_of, rooms_of}
-use Rattle.g1_sets.proofs.SetLemmas.{lists_set, list_is, room_is}
+use Rattle.std.specs.Prelude.{◌<◌, ◌≤◌}
+use Rattle.g1_sets.specs.{◌∙◌, ap, sym, subst, length, slice_index, slice_set, list_at, with_cards, lists_of, rooms_of}
+use Rattle.g1_sets.proofs.{lists_set, list_is, room_is}
 use Rattle.g1_sets.proofs.members.insert_many.Goals as goal
 
 pub insert_cards-requires : goal.insert_cards-requires

@@ -1,7 +1,5 @@
-use Rattle.std.proofs.Common.{◌≡◌, ◌∙◌, ◌<◌, ◌∷◌, [], suc, subst, sym, length, arith}
-use Rattle.std.specs.Prelude.{All}
-use Rattle.g1_sets.specs.Members.{lists_of}
-use Rattle.g1_sets.specs.Pairs.{Joins}
+use Rattle.std.specs.Prelude.{◌≡◌, ◌<◌, ◌∷◌}
+use Rattle.g1_sets.specs.{◌∙◌, [], suc, subst, sym, length, arith, All, lists_of, Joins}
 use Rattle.g1_sets.proofs.ListLemmas.{joins_first}
 use Rattle.g1_sets.proofs.members.join.Goals as goal
 

@@ -1,9 +1,6 @@
-use Rattle.std.proofs.Common.{◌≡◌, ◌<◌, ◌≤◌, ◌∙◌, ap, sym, subst, length}
-use Rattle.std.specs.Prelude.{slice_index, slice_set}
-use Rattle.std.proofs.lemmas.List.{get_or-set_same}
-use Rattle.indexmap.specs.IndexSet.{spare}
-use Rattle.g1_sets.specs.Members.{rooms_of}
-use Rattle.g1_sets.proofs.SetLemmas.{lists_kept, rooms_set, in_rooms}
+use Rattle.std.specs.Prelude.{◌≡◌, ◌<◌, ◌≤◌}
+use Rattle.g1_sets.specs.{◌∙◌, ap, sym, subst, length, slice_index, slice_set, get_or-set_same, spare, rooms_of}
+use Rattle.g1_sets.proofs.{lists_kept, rooms_set, in_rooms}
 use Rattle.g1_sets.proofs.members.make_room_for.Goals as goal
 
 pub returns-in_err-reserve-clause-cards : goal.returns-in_err-reserve-clause-cards

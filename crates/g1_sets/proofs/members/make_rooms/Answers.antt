@@ -1,7 +1,6 @@
-use Rattle.std.proofs.Common.{◌≡◌, ◌+◌, inl, length, ◌∙◌, subst, sym, take, take_all}
-use Rattle.g1_sets.specs.Members.{lists_of, rooms_of, HaveRoom}
-use Rattle.g1_sets.proofs.RoomLemmas.{room_more}
-use Rattle.g1_sets.proofs.SetLemmas.{within, lists_kept, rooms_more}
+use Rattle.std.specs.Prelude.{◌≡◌, ◌+◌}
+use Rattle.g1_sets.specs.{inl, length, ◌∙◌, subst, sym, take, take_all, lists_of, rooms_of, HaveRoom}
+use Rattle.g1_sets.proofs.{room_more, within, lists_kept, rooms_more}
 use Rattle.g1_sets.proofs.members.make_rooms.Goals as goal
 use Rattle.g1_sets.proofs.members.make_rooms.Goals.{then-not-contains+in_ok-make_room, else-not-contains}
 

@@ -1,5 +1,5 @@
-use Rattle.std.proofs.Common.{◌≡◌, take}
-use Rattle.g1_sets.specs.Members.{lists_of, rooms_of, HaveRoom}
+use Rattle.std.specs.Prelude.{◌≡◌}
+use Rattle.g1_sets.specs.{take, lists_of, rooms_of, HaveRoom}
 use Rattle.g1_sets.proofs.members.make_rooms.Given as goal
 
 abbrev pub invariant-loop-region : goal.invariant-loop-region

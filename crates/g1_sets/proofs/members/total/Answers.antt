@@ -1,5 +1,5 @@
-use Rattle.std.proofs.Common.{arith}
-use Rattle.g1_sets.proofs.SetLemmas.{counted, counted_le}
+use Rattle.g1_sets.specs.{arith}
+use Rattle.g1_sets.proofs.{counted, counted_le}
 use Rattle.g1_sets.proofs.members.total.Goals as goal
 
 pub overflow_add-total : goal.overflow_add-total

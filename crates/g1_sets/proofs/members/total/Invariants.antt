@@ -1,6 +1,5 @@
-use Rattle.std.proofs.Common.{◌≡◌, take, length}
-use Rattle.std.specs.Prelude.{sum_by}
-use Rattle.g1_sets.specs.Members.{lists_of}
+use Rattle.std.specs.Prelude.{◌≡◌}
+use Rattle.g1_sets.specs.{take, length, sum_by, lists_of}
 use Rattle.g1_sets.proofs.members.total.Given as goal
 
 abbrev pub invariant-loop-members : goal.invariant-loop-members

@@ -1,5 +1,4 @@
-use Rattle.std.proofs.Common.{take}
-use Rattle.g1_sets.specs.Rows.{RowsGain}
+use Rattle.g1_sets.specs.{take, RowsGain}
 use Rattle.g1_sets.proofs.rows.add_region.Given as goal
 
 abbrev pub invariant-loop-card : goal.invariant-loop-card

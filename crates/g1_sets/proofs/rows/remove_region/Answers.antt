@@ -1,8 +1,5 @@
-use Rattle.std.proofs.Common.{length, subst, sym, take, take_all, ℕ}
-use Rattle.std.specs.Prelude.{slice_set}
-use Rattle.g1_sets.specs.Rows.{RowsLose}
-use Rattle.g1_sets.proofs.RowLemmas.{lose_none, lose_more}
-use Rattle.g1_sets.proofs.SetLemmas.{taken, within}
+use Rattle.g1_sets.specs.{length, subst, sym, take, take_all, ℕ, slice_set, RowsLose}
+use Rattle.g1_sets.proofs.{lose_none, lose_more, taken, within}
 use Rattle.g1_sets.proofs.rows.remove_region.Goals as goal
 
 pub loop-card-init : goal.loop-card-init

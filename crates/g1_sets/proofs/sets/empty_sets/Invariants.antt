@@ -1,6 +1,5 @@
-use Rattle.std.proofs.Common.{◌≡◌, []}
-use Rattle.std.specs.Prelude.{replicate}
-use Rattle.g1_sets.specs.Members.{lists_of}
+use Rattle.std.specs.Prelude.{◌≡◌}
+use Rattle.g1_sets.specs.{[], replicate, lists_of}
 use Rattle.g1_sets.proofs.sets.empty_sets.Given as goal
 
 abbrev pub invariant-loop-region : goal.invariant-loop-region

@@ -1,6 +1,5 @@
-use Rattle.std.proofs.Common.{◌≡◌, ◌+◌, length, vec_len, arith, rules, subst, sym, ◌∙◌}
-use Rattle.std.specs.Vec.Iter.{into_iter_items}
-use Rattle.g1_log.specs.Ends.{IsNewSender, AreNewSenders}
+use Rattle.std.specs.Prelude.{◌≡◌, ◌+◌}
+use Rattle.g1_steps.specs.{length, vec_len, arith, rules, subst, sym, ◌∙◌, into_iter_items, IsNewSender, AreNewSenders}
 use Rattle.g1_steps.proofs.OpeningLemmas.{mutators_more}
 use Rattle.g1_steps.proofs.opening.mutators_of.Goals as goal
 

@@ -1,7 +1,5 @@
-use Rattle.std.proofs.Common.{◌≡◌, ◌+◌, ◌≤◌, vec_len, vec_capacity}
-use Rattle.std.specs.Vec.Iter.{into_iter_items, into_iter_len}
-use Rattle.g1_log.specs.Ends.{AreNewSenders}
-use Rattle.g1_steps.specs.Opening.{AreNewMutators}
+use Rattle.std.specs.Prelude.{◌≡◌, ◌+◌, ◌≤◌}
+use Rattle.g1_steps.specs.{vec_len, vec_capacity, into_iter_items, into_iter_len, AreNewSenders, AreNewMutators}
 use Rattle.g1_steps.proofs.opening.mutators_of.Given as goal
 
 abbrev pub invariant-loop-sender : goal.invariant-loop-sender

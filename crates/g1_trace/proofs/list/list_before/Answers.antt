@@ -1,6 +1,6 @@
-use Rattle.std.proofs.Common.{◌≡◌, ◌<◌, ◌≤◌, ◌+◌, ◌-◌, ◌^◌, ◌++◌, ℕ, length, drop, decimal, ap, ◌∙◌, sym, append_assoc, length-set, rules, arith}
-use Rattle.g1_trace.specs.Text.{list_text}
-use Rattle.g1_trace.proofs.ListLemmas.{ten_digits, one_in_front}
+use Rattle.std.specs.Prelude.{◌≡◌, ◌<◌, ◌≤◌, ◌+◌, ◌-◌, ◌^◌, ◌++◌}
+use Rattle.g1_trace.specs.{ℕ, length, drop, decimal, ap, ◌∙◌, sym, append_assoc, length-set, rules, arith, list_text}
+use Rattle.g1_trace.proofs.{ten_digits, one_in_front}
 use Rattle.g1_trace.proofs.list.list_before.Goals as goal
 
 pub write_digits-start-requires : goal.write_digits-start-requires

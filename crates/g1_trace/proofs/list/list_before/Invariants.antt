@@ -1,5 +1,5 @@
-use Rattle.std.proofs.Common.{◌≡◌, ◌≤◌, ◌+◌, ◌*◌, ◌++◌, length, drop}
-use Rattle.g1_trace.specs.Text.{list_text}
+use Rattle.std.specs.Prelude.{◌≡◌, ◌≤◌, ◌+◌, ◌*◌, ◌++◌}
+use Rattle.g1_trace.specs.{length, drop, list_text}
 use Rattle.g1_trace.proofs.list.list_before.Given as goal
 
 -- the text of the cards from `left` on stands in front of what stood there, with room before it for the others

@@ -1,6 +1,6 @@
-use Rattle.std.proofs.Common.{◌≡◌, codes, rules}
-use Rattle.g1_trace.specs.Text.{list_text}
-use Rattle.g1_trace.proofs.PutLemmas.{puts_failed, first_of_three, second_of_three, three_parts}
+use Rattle.std.specs.Prelude.{◌≡◌}
+use Rattle.g1_trace.specs.{codes, rules, list_text}
+use Rattle.g1_trace.proofs.{puts_failed, first_of_three, second_of_three, three_parts}
 use Rattle.g1_trace.proofs.list.put_cards.Goals as goal
 
 pub returns-in_err-put : goal.returns-in_err-put

@@ -1,10 +1,6 @@
-use Rattle.std.proofs.Common.{◌≡◌, ◌++◌, List, ℕ, append_assoc, ap, sym, subst, ◌∙◌}
-use Rattle.std.specs.Io.KnownBytes.{Appends}
-use Rattle.g1_trace.specs.Bytes.{AppendsFront}
-use Rattle.g1_trace.specs.Text.{list_text}
-use Rattle.std.proofs.KnownBytes.{Appends-trans}
-use Rattle.g1_trace.proofs.PutLemmas.{puts_failed, front_more, front_then}
-use Rattle.g1_trace.proofs.ListLemmas.{list_apart, list_parts, cut_apart}
+use Rattle.std.specs.Prelude.{◌≡◌, ◌++◌}
+use Rattle.g1_trace.specs.{List, ℕ, append_assoc, ap, sym, subst, ◌∙◌, Appends, AppendsFront, list_text, Appends-trans}
+use Rattle.g1_trace.proofs.{puts_failed, front_more, front_then, list_apart, list_parts, cut_apart}
 use Rattle.g1_trace.proofs.list.put_list.Goals as goal
 
 pub returns-in_err-put_block : goal.returns-in_err-put_block

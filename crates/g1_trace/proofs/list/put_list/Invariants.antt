@@ -1,6 +1,5 @@
-use Rattle.std.proofs.Common.{◌≡◌, ℕ, List, ◌++◌, length}
-use Rattle.std.specs.Io.KnownBytes.{Appends}
-use Rattle.g1_trace.specs.Text.{list_text}
+use Rattle.std.specs.Prelude.{◌≡◌, ◌++◌}
+use Rattle.g1_trace.specs.{ℕ, List, length, Appends, list_text}
 use Rattle.g1_trace.proofs.list.put_list.Given as goal
 
 -- the text of the cards so far, and what is left

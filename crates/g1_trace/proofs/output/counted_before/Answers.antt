@@ -1,5 +1,6 @@
-use Rattle.std.proofs.Common.{◌≤◌, length, decimal, arith}
-use Rattle.g1_trace.proofs.ListLemmas.{twenty_digits}
+use Rattle.std.specs.Prelude.{◌≤◌}
+use Rattle.g1_trace.specs.{length, decimal, arith}
+use Rattle.g1_trace.proofs.{twenty_digits}
 use Rattle.g1_trace.proofs.output.counted_before.Goals as goal
 
 pub write_digits-digits-requires : goal.write_digits-digits-requires

@@ -1,6 +1,6 @@
-use Rattle.std.proofs.Common.{◌++◌, take, [], ◌∙◌, ap, sym, append-nil}
-use Rattle.std.proofs.KnownBytes.{Appends-trans}
-use Rattle.g1_trace.proofs.PutLemmas.{cut_at, puts_failed}
+use Rattle.std.specs.Prelude.{◌++◌}
+use Rattle.g1_trace.specs.{take, [], ◌∙◌, ap, sym, append-nil, Appends-trans}
+use Rattle.g1_trace.proofs.{cut_at, puts_failed}
 use Rattle.g1_trace.proofs.output.put.Goals as goal
 
 pub loop-rest-preserved : goal.loop-rest-preserved

@@ -1,5 +1,5 @@
-use Rattle.std.proofs.Common.{◌≡◌, ℕ, List, ◌++◌, length}
-use Rattle.std.specs.Io.KnownBytes.{Appends}
+use Rattle.std.specs.Prelude.{◌≡◌, ◌++◌}
+use Rattle.g1_trace.specs.{ℕ, List, length, Appends}
 use Rattle.g1_trace.proofs.output.put.Given as goal
 
 -- what was written so far and what is left are all bytes

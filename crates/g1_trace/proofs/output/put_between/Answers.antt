@@ -1,5 +1,5 @@
-use Rattle.std.proofs.Common.{decimal}
-use Rattle.g1_trace.proofs.PutLemmas.{puts_failed, first_of_three, second_of_three, three_parts}
+use Rattle.g1_trace.specs.{decimal}
+use Rattle.g1_trace.proofs.{puts_failed, first_of_three, second_of_three, three_parts}
 use Rattle.g1_trace.proofs.output.put_between.Goals as goal
 
 pub returns-in_err-put : goal.returns-in_err-put

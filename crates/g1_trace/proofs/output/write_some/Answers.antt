@@ -1,4 +1,4 @@
-use Rattle.g1_trace.proofs.PutLemmas.{keeps_appends}
+use Rattle.g1_trace.proofs.{keeps_appends}
 use Rattle.g1_trace.proofs.output.write_some.Goals as goal
 
 pub returns-in-Err-clause-failed : goal.returns-in-Err-clause-failed

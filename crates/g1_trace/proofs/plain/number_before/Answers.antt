@@ -1,5 +1,7 @@
-use Rattle.std.proofs.Common.{◌≡◌, ◌<◌, length, take, length-take-le, slice_index_or, arith, rules}
-use Rattle.g1_trace.proofs.PlainLemmas.{number_apart}
+use Rattle.std.specs.Prelude.{◌≡◌, ◌<◌}
+use Rattle.g1_trace.specs.{length, take, slice_index_or, arith, rules}
+use Rattle.std.proofs.Common.{length-take-le}
+use Rattle.g1_trace.proofs.{number_apart}
 use Rattle.g1_trace.proofs.plain.number_before.Goals as goal
 
 pub returns-clause-number : goal.returns-clause-number

@@ -1,6 +1,6 @@
-use Rattle.std.proofs.Common.{◌≡◌, ◌≤◌, ◌+◌, length, codes, true, arith, refl, rules, sym, ◌∙◌}
-use Rattle.std.specs.Str.{bytes_eq}
-use Rattle.g1_trace.proofs.PlainLemmas.{ok_of, store_line}
+use Rattle.std.specs.Prelude.{◌≡◌, ◌≤◌, ◌+◌}
+use Rattle.g1_trace.specs.{length, codes, true, arith, refl, rules, sym, ◌∙◌, bytes_eq}
+use Rattle.g1_trace.proofs.{ok_of, store_line}
 use Rattle.g1_trace.proofs.plain.read_store.Goals as goal
 
 pub returns-clause-line : goal.returns-clause-line

@@ -1,5 +1,5 @@
-use Rattle.std.proofs.Common.{sym}
-use Rattle.g1_trace.proofs.PlainLemmas.{target_null}
+use Rattle.g1_trace.specs.{sym}
+use Rattle.g1_trace.proofs.{target_null}
 use Rattle.g1_trace.proofs.plain.target_before.Goals as goal
 
 pub returns-then-is-clause-target : goal.returns-then-is-clause-target

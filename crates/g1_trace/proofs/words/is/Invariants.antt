@@ -1,5 +1,5 @@
-use Rattle.std.proofs.Common.{◌≡◌, drop}
-use Rattle.std.specs.Str.{bytes_eq}
+use Rattle.std.specs.Prelude.{◌≡◌}
+use Rattle.g1_trace.specs.{drop, bytes_eq}
 use Rattle.g1_trace.proofs.words.is.Given as goal
 
 -- what is left decides

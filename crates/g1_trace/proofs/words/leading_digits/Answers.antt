@@ -1,5 +1,6 @@
-use Rattle.std.proofs.Common.{arith, ◌≢◌, slice_index_or, sym}
-use Rattle.g1_trace.proofs.WordLemmas.{word_more, digit_more, value_more}
+use Rattle.std.specs.Prelude.{◌≢◌}
+use Rattle.g1_trace.specs.{arith, slice_index_or, sym}
+use Rattle.g1_trace.proofs.{word_more, digit_more, value_more}
 use Rattle.g1_trace.proofs.words.leading_digits.Goals as goal
 
 pub loop-i-preserved : goal.loop-i-preserved

@@ -1,6 +1,5 @@
-use Rattle.std.proofs.Common.{◌≡◌, ◌≤◌, ◌<◌, ◌^◌, [], take, drop}
-use Rattle.std.specs.Prelude.{Ok}
-use Rattle.g1_trace.specs.Words.{words_from, read_digits}
+use Rattle.std.specs.Prelude.{◌≡◌, ◌≤◌, ◌<◌, ◌^◌}
+use Rattle.g1_trace.specs.{[], take, drop, Ok, words_from, read_digits}
 use Rattle.g1_trace.proofs.words.leading_digits.Given as goal
 
 -- the digits so far belong to the first word

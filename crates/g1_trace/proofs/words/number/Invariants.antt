@@ -1,5 +1,5 @@
-use Rattle.std.proofs.Common.{◌≡◌, ◌<◌, ◌^◌, drop}
-use Rattle.g1_trace.specs.Words.{read_digits}
+use Rattle.std.specs.Prelude.{◌≡◌, ◌<◌, ◌^◌}
+use Rattle.g1_trace.specs.{drop, read_digits}
 use Rattle.g1_trace.proofs.words.number.Given as goal
 
 -- what is left, read after the digits so far, is the whole

@@ -1,4 +1,4 @@
-use Rattle.g1_trace.proofs.WordLemmas.{space_more}
+use Rattle.g1_trace.proofs.{space_more}
 use Rattle.g1_trace.proofs.words.spaces.Goals as goal
 
 pub loop-i-preserved : goal.loop-i-preserved

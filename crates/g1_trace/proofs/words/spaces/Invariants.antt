@@ -1,5 +1,5 @@
-use Rattle.std.proofs.Common.{◌≡◌, [], drop}
-use Rattle.g1_trace.specs.Words.{words_from}
+use Rattle.std.specs.Prelude.{◌≡◌}
+use Rattle.g1_trace.specs.{[], drop, words_from}
 use Rattle.g1_trace.proofs.words.spaces.Given as goal
 
 -- spaces so far

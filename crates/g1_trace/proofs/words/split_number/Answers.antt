@@ -1,4 +1,4 @@
-use Rattle.g1_trace.proofs.WordLemmas.{counted_word}
+use Rattle.g1_trace.proofs.{counted_word}
 use Rattle.g1_trace.proofs.words.split_number.Goals as goal
 
 pub returns-then-is_end-clause-some : goal.returns-then-is_end-clause-some

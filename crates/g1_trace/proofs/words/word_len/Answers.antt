@@ -1,4 +1,4 @@
-use Rattle.g1_trace.proofs.WordLemmas.{word_more}
+use Rattle.g1_trace.proofs.{word_more}
 use Rattle.g1_trace.proofs.words.word_len.Goals as goal
 
 pub loop-i-preserved : goal.loop-i-preserved

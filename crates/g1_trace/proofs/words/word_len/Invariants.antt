@@ -1,5 +1,5 @@
-use Rattle.std.proofs.Common.{◌≡◌, [], take, drop}
-use Rattle.g1_trace.specs.Words.{words_from}
+use Rattle.std.specs.Prelude.{◌≡◌}
+use Rattle.g1_trace.specs.{[], take, drop, words_from}
 use Rattle.g1_trace.proofs.words.word_len.Given as goal
 
 -- what has come belongs to the first word

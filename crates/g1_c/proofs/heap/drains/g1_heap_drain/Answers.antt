@@ -1,5 +1,5 @@
 -- Nothing changes where the call is refused.
-use Rattle.g1_handles.proofs.CalledLemmas.{called_same}
+use Rattle.g1_c.specs.{called_same}
 use Rattle.g1_c.proofs.heap.drains.g1_heap_drain.Goals as goal
 
 pub returns-in-Err-clause-refused : goal.returns-in-Err-clause-refused

@@ -1,6 +1,5 @@
 -- Nothing changes where the call is refused.
-use Rattle.std.proofs.Common.{rules}
-use Rattle.g1_handles.proofs.CalledLemmas.{called_same}
+use Rattle.g1_c.specs.{rules, called_same}
 use Rattle.g1_c.proofs.heap.evacuation.g1_heap_clear.Goals as goal
 
 pub returns-in-Err-clause-refused : goal.returns-in-Err-clause-refused

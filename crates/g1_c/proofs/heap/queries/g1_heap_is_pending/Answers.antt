@@ -1,16 +1,6 @@
--- Each clause is that of the call on the heap at its pause.
-use Rattle.std.proofs.Common.{rules, refl}
-use Rattle.g1_c.proofs.Calls.{heap_made, heap_refused, heap_same, tells}
+use Rattle.g1_c.specs.{rules}
+use Rattle.g1_c.proofs.{heap_answers}
 use Rattle.g1_c.proofs.heap.queries.g1_heap_is_pending.Goals as goal
 
-pub returns-in-Err-clause-told : goal.returns-in-Err-clause-told
-returns-in-Err-clause-told c = tells _ _ _ _ _ _ _ c.word.ensures.number refl (heap_refused _ _ _ _ _ _ c.in-Err.ensures (λ _ _ c. search rules)) (heap_same _ _ _ _ _ c.in-Err.ensures (λ _ _ c. search rules))
-
-pub returns-in-Err-clause-same : goal.returns-in-Err-clause-same
-returns-in-Err-clause-same c = heap_same _ _ _ _ _ c.in-Err.ensures (λ _ _ c. search rules)
-
-pub returns-in-Ok-clause-pending : goal.returns-in-Ok-clause-pending
-returns-in-Ok-clause-pending c done = heap_made _ _ _ _ _ _ c.in-Ok.ensures (λ _ _ c. search rules)
-
-pub returns-in-Ok-clause-same : goal.returns-in-Ok-clause-same
-returns-in-Ok-clause-same c = heap_same _ _ _ _ _ c.in-Ok.ensures (λ _ _ c. search rules)
+pub returns-clause-told : goal.returns-clause-told
+returns-clause-told c = heap_answers _ _ _ _ _ _ _ _ _ _ c.replace_with-answer.ensures c.tell_whether.ensures.told (λ _ _ _ c. search rules) (λ _ _ _ c. search rules) (λ _ _ _ c. search rules)

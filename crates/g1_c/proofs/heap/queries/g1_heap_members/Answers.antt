@@ -1,6 +1,5 @@
 -- Nothing changes.
-use Rattle.std.proofs.Common.{refl}
-use Rattle.g1_handles.proofs.CalledLemmas.{called_same}
+use Rattle.g1_c.specs.{refl, called_same}
 use Rattle.g1_c.proofs.heap.queries.g1_heap_members.Goals as goal
 
 pub returns-in-Err-clause-same : goal.returns-in-Err-clause-same

@@ -1,6 +1,6 @@
 -- Each clause is that of the call on the heap at its pause.
-use Rattle.std.proofs.Common.{rules, refl}
-use Rattle.g1_c.proofs.Calls.{heap_made, heap_refused, heap_same, tells}
+use Rattle.g1_c.specs.{rules, refl}
+use Rattle.g1_c.proofs.{heap_made, heap_refused, heap_same, tells}
 use Rattle.g1_c.proofs.heap.stores.g1_heap_store.Goals as goal
 
 pub returns-in-Err-clause-told : goal.returns-in-Err-clause-told

@@ -1,17 +1,6 @@
--- Each clause is that of the call on what the handle held.
-use Rattle.std.proofs.Common.{rules, refl}
-use Rattle.g1_handles.specs.Readers.{reading_in}
-use Rattle.g1_c.proofs.Calls.{role_refused, role_same, role_seen, tells}
+use Rattle.g1_c.specs.{rules, reading_in}
+use Rattle.g1_c.proofs.{role_answers}
 use Rattle.g1_c.proofs.member.reader_queries.g1_reader_next_member.Goals as goal
 
-pub returns-in-Err-clause-told : goal.returns-in-Err-clause-told
-returns-in-Err-clause-told c = tells _ _ _ _ _ _ _ c.word.ensures.number refl (role_refused reading_in _ _ _ _ _ _ c.in-Err.ensures (λ _ _ c. search rules)) (role_same _ _ _ _ _ c.in-Err.ensures (λ _ _ c. search rules))
-
-pub returns-in-Err-clause-same : goal.returns-in-Err-clause-same
-returns-in-Err-clause-same c = role_same _ _ _ _ _ c.in-Err.ensures (λ _ _ c. search rules)
-
-pub returns-in-Ok-clause-next : goal.returns-in-Ok-clause-next
-returns-in-Ok-clause-next c done = role_seen reading_in _ _ _ _ _ _ c.in-Ok.ensures (λ _ _ c. search rules)
-
-pub returns-in-Ok-clause-same : goal.returns-in-Ok-clause-same
-returns-in-Ok-clause-same c = role_same _ _ _ _ _ c.in-Ok.ensures (λ _ _ c. search rules)
+pub returns : goal.returns
+returns c = record { told = role_answers reading_in _ _ _ _ _ _ _ _ _ _ c.replace_with-answer.ensures c.tell.ensures (λ _ _ _ c. search rules) (λ _ _ _ c. search rules) (λ _ _ _ c. search rules) }

@@ -1,7 +1,6 @@
 -- Each clause is that of the call on what the handle held.
-use Rattle.std.proofs.Common.{rules}
-use Rattle.g1_handles.specs.Racing.{sweeping_in}
-use Rattle.g1_c.proofs.Calls.{role_made, role_refused, role_same, taken_1, tells}
+use Rattle.g1_c.specs.{rules, sweeping_in}
+use Rattle.g1_c.proofs.{role_made, role_refused, role_same, taken_1, tells}
 use Rattle.g1_c.proofs.member.refine.g1_race_refine.Goals as goal
 
 pub returns-in-Err-clause-taken : goal.returns-in-Err-clause-taken

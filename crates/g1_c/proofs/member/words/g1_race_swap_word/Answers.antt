@@ -1,7 +1,6 @@
 -- Each clause is that of the call on what the handle held.
-use Rattle.std.proofs.Common.{rules, refl}
-use Rattle.g1_handles.specs.Racing.{racing_in}
-use Rattle.g1_c.proofs.Calls.{of_kind, role_made, role_refused, role_same, taken_1, tells}
+use Rattle.g1_c.specs.{rules, refl, racing_in}
+use Rattle.g1_c.proofs.{of_kind, role_made, role_refused, role_same, taken_1, tells}
 use Rattle.g1_c.proofs.member.words.g1_race_swap_word.Goals as goal
 
 pub returns-in-Err-clause-taken : goal.returns-in-Err-clause-taken

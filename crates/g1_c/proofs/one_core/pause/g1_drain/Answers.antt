@@ -1,7 +1,5 @@
 -- The arrays have room for the lists.
-use Rattle.std.proofs.Common.{rules, length}
-use Rattle.g1_handles.specs.Replies.{FitIn}
-use Rattle.g1_handles.proofs.VisitLemmas.{visit_so}
+use Rattle.g1_c.specs.{rules, length, FitIn, visit_so}
 use Rattle.g1_c.proofs.one_core.pause.g1_drain.Goals as goal
 
 pub write_list-requires : goal.write_list-requires

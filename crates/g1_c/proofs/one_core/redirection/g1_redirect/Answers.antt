@@ -1,7 +1,5 @@
 -- The array has room for the list.
-use Rattle.std.proofs.Common.{rules, length}
-use Rattle.g1_handles.specs.Replies.{FitIn}
-use Rattle.g1_handles.proofs.VisitLemmas.{visit_so}
+use Rattle.g1_c.specs.{rules, length, FitIn, visit_so}
 use Rattle.g1_c.proofs.one_core.redirection.g1_redirect.Goals as goal
 
 pub write_list-requires : goal.write_list-requires

@@ -1,8 +1,6 @@
 -- The reply is what the words and the array tell.
-use Rattle.std.proofs.Common.{rules, subst, ◌∙◌}
+use Rattle.g1_c.specs.{rules, subst, ◌∙◌, Between, RefinesTo}
 use Rattle.g1_core.specs.declared.reply.RefineReply.{RefineReply}
-use Rattle.g1_handles.specs.Codes.{Between}
-use Rattle.g1_handles.specs.Replies.{RefinesTo}
 use Rattle.g1_c.proofs.one_core.refinement.g1_refine.Goals as goal
 
 pub returns-in-Ok-clause-refined : goal.returns-in-Ok-clause-refined

@@ -1,15 +1,9 @@
-use Rattle.std.proofs.Common.{ap, ◌∙◌, ◌≡◌, ◌<◌, subst, sym, List, ℕ, length, eqb-true}
-use Rattle.std.specs.Prelude.{All}
+use Rattle.std.specs.Prelude.{◌≡◌}
+use Rattle.g1_core.specs.{ap, ◌∙◌, sym, List, ℕ, length, of_card}
+use Rattle.std.proofs.Common.{eqb-true}
 use Rattle.std.specs.FinSet as set
-use Rattle.g1_layout.specs.Shape.{Shape}
-use Rattle.g1_sets.specs.Pairs.{of_card}
 use Rattle.g1_core.proofs.GainLemmas.{gained_is, gained_nothing}
 use Rattle.g1_core.proofs.heap_and_sets.HeapAndSets.record.Goals as goal
-
-pub record-requires-clause-regions : goal.record-requires-clause-regions
-record-requires-clause-regions c =
-    subst (λ (rs : List ℕ). All (λ region. region < c.args.self.now.sets.layout.regions) rs) (sym c.as_slice-2.ensures.value)
-    (subst (λ (l : Shape). All (λ region. region < l.regions) c.list_targets.new.targets.items) (sym c.requires.layouts) c.list_targets.ensures.within)
 
 pub returns-then-is_empty-clause-pairs : goal.returns-then-is_empty-clause-pairs
 returns-then-is_empty-clause-pairs c =

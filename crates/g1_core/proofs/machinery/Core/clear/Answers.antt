@@ -1,7 +1,5 @@
-use Rattle.std.proofs.Common.{subst}
-use Rattle.g1_core.specs.Machine.{Machine, IsLater}
-use Rattle.g1_core.specs.Run.{IsStep}
-use Rattle.g1_core.specs.Calls.{clear_entry, DoesClear}
+use Rattle.g1_core.specs.{subst, IsLater, IsStep, clear_entry, DoesClear}
+use Rattle.g1_core.specs.Machine.{Machine}
 use Rattle.g1_core.specs.declared.reply.ClearReply.TheVariants as clear_reply
 use Rattle.g1_core.proofs.ClearLemmas.{IsClearedTo, pending_at, entered_at, granted_at}
 use Rattle.g1_core.proofs.machinery.Core.clear.Goals as goal

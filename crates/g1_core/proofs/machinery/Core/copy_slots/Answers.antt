@@ -1,10 +1,6 @@
-use Rattle.std.proofs.Common.{◌≡◌, ◌+◌, ◌-◌, ℕ, Bool, true, false, leb, ap, ◌∙◌, subst, arith}
-use Rattle.std.proofs.lemmas.Bool.{leb-false, leb-true}
-use Rattle.g1_layout.specs.Shape.{slot_count}
-use Rattle.g1_heap.specs.Cells.{reads_after}
-use Rattle.g1_core.specs.Table.{Table, target_of}
-use Rattle.g1_core.specs.Run.{stored}
-use Rattle.g1_core.specs.Copying.{copied}
+use Rattle.std.specs.Prelude.{◌≡◌, ◌+◌, ◌-◌}
+use Rattle.g1_core.specs.{ℕ, Bool, true, false, leb, ap, ◌∙◌, subst, arith, leb-false, leb-true, slot_count, reads_after, target_of, stored, copied}
+use Rattle.g1_core.specs.Table.{Table}
 use Rattle.g1_core.proofs.CopyLemmas.{copied_on, first_of, later_then, table_down, table_up}
 use Rattle.g1_core.proofs.machinery.Core.copy_slots.Goals.{else-upwards, then-upwards}
 use Rattle.g1_core.proofs.machinery.Core.copy_slots.Goals as goal

@@ -1,7 +1,5 @@
-use Rattle.std.proofs.Common.{◌≡◌, ◌+◌}
-use Rattle.g1_heap.specs.Cells.{reads_after}
-use Rattle.g1_core.specs.Copying.{copied}
-use Rattle.g1_core.specs.Machine.{IsLater}
+use Rattle.std.specs.Prelude.{◌≡◌, ◌+◌}
+use Rattle.g1_core.specs.{reads_after, copied, IsLater}
 use Rattle.g1_core.proofs.CopyLemmas.{first_of}
 use Rattle.g1_core.proofs.machinery.Core.copy_slots.Given as goal
 

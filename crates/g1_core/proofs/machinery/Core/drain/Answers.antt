@@ -1,9 +1,8 @@
-use Rattle.std.proofs.Common.{◌<◌, ap, subst, sym, ◌∙◌, arith}
-use Rattle.std.specs.Prelude.{All}
-use Rattle.g1_layout.specs.Shape.{card_count}
+use Rattle.std.specs.Prelude.{◌<◌}
+use Rattle.g1_core.specs.{ap, subst, ◌∙◌, arith, All, card_count}
 use Rattle.g1_core.specs.Table.{Table}
 use Rattle.g1_core.specs.Machine.{Machine}
-use Rattle.g1_core.proofs.ReadLemmas.{reads_grow}
+use Rattle.g1_core.proofs.{reads_grow}
 use Rattle.g1_core.proofs.DrainLemmas.{short_drain, short_drain_step, drained_short, whole_drain, whole_drain_step}
 use Rattle.g1_core.proofs.machinery.Core.drain.Goals as goal
 
@@ -63,6 +62,3 @@ returns-clause-did c = record {
 pub returns-clause-step : goal.returns-clause-step
 returns-clause-step c = whole_drain_step c.args.self.now c.args.region c.requires c.drain_pending.new.refined.items c.of-refined-2.result c.of-refined-2.ensures c.drain_pending.new.self c.in-Ok.ensures.ok
     c.reset_counts.new.self c.reset_counts.ensures c.in-Ok-members.cards c.in-Ok-members.ensures.did.members
-
-pub members-requires : goal.members-requires
-members-requires c = subst (λ (t : Table). c.args.region < t.layout.regions) (sym c.in-Ok.ensures.ok.drains.table) c.requires

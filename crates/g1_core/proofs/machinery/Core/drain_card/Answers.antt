@@ -1,10 +1,8 @@
-use Rattle.std.proofs.Common.{◌≡◌, sym, subst, true}
-use Rattle.g1_core.specs.Machine.{Machine, machine_from}
-use Rattle.g1_core.specs.Turns.{is_dirty}
-use Rattle.g1_core.specs.Pause.{IsCardDrained, IsCardRead}
+use Rattle.std.specs.Prelude.{◌≡◌}
+use Rattle.g1_core.specs.{sym, subst, true, machine_from, is_dirty, IsCardDrained}
+use Rattle.g1_core.specs.Machine.{Machine}
 use Rattle.g1_core.proofs.PartLemmas.{mark_dirty}
-use Rattle.g1_core.proofs.DrainCardLemmas.{IsDrainedTo, card_drained, dirty_inside, read_core, card_read}
-use Rattle.g1_core.proofs.ReferenceLemmas.{err_holds}
+use Rattle.g1_core.proofs.DrainCardLemmas.{IsDrainedTo, card_drained, dirty_inside}
 use Rattle.g1_core.proofs.machinery.Core.drain_card.Goals as goal
 
 pub refine-requires-clause-card : goal.refine-requires-clause-card
@@ -28,13 +26,3 @@ returns-clause-ok c =
     c.in_ok-refine.ensures.cleaned c.in_ok-refine.ensures.pairs c.in_ok-refine.ensures.layout c.in_ok-refine.ensures.less
     (mark_dirty c.self.inside.memory.heap c.self.inside.memory.sets.pairs c.self.inside.hot c.self.inside.memory.pending c.self.invariant.parts c.args.card (subst (λ (m : Machine). is_dirty m.state c.args.card ≡ true) (sym c.self.view_is) c.requires)) in
     subst (λ (m : Machine). IsCardDrained m c.args.card m.state.ring (machine_from c.refine.new.self.heap c.refine.new.self.sets.pairs c.self.inside.hot c.self.inside.config)) c.self.view_is t.drained
-
--- a refused record has only read the card
-pub invariant_of-self : goal.invariant_of-self
-invariant_of-self c = read_core c.self.inside.memory.heap c.self.inside.memory.sets c.self.inside.hot c.self.inside.memory.pending c.self.inside.config c.self.invariant c.refine.new.self.heap c.refine.new.self.sets c.refine.new.self.pending
-    c.in_err-refine.ensures.err.1 c.in_err-refine.ensures.err.0 c.in_err-refine.ensures.err.2
-
-pub returns-in_err-refine-clause-err : goal.returns-in_err-refine-clause-err
-returns-in_err-refine-clause-err c = err_holds c.from_residual.result (subst (λ (m : Machine). IsCardRead m (machine_from c.refine.new.self.heap c.refine.new.self.sets.pairs c.self.inside.hot c.self.inside.config)) c.self.view_is
-    (card_read c.self.inside.memory.heap c.self.inside.memory.sets c.self.inside.hot c.self.inside.memory.pending c.self.inside.config c.self.invariant c.refine.new.self.heap c.refine.new.self.sets c.refine.new.self.pending
-    c.in_err-refine.ensures.err.1 c.in_err-refine.ensures.err.0 c.in_err-refine.ensures.err.2))

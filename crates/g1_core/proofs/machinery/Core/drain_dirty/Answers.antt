@@ -1,6 +1,5 @@
-use Rattle.std.proofs.Common.{◌≡◌, ◌+◌, ℕ, ap, arith, subst, sym}
-use Rattle.g1_layout.specs.Shape.{Shape, card_count}
-use Rattle.g1_core.specs.Pause.{IsDirtyDrained}
+use Rattle.std.specs.Prelude.{◌≡◌, ◌+◌}
+use Rattle.g1_core.specs.{ℕ, ap, arith, subst, sym, Shape, card_count, IsDirtyDrained}
 use Rattle.g1_core.specs.Table.{Table}
 use Rattle.g1_core.proofs.DrainLoopLemmas.{dirty_none, dirty_more, dirty_all}
 use Rattle.g1_core.proofs.machinery.Core.drain_dirty.Goals as goal

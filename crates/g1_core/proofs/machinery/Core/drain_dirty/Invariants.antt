@@ -1,7 +1,6 @@
-use Rattle.std.proofs.Common.{◌≤◌, ◌+◌, ◌-◌, vec_len, vec_capacity}
+use Rattle.std.specs.Prelude.{◌≤◌, ◌+◌, ◌-◌}
+use Rattle.g1_core.specs.{vec_len, vec_capacity, card_count, IsDirtyDrained}
 use Rattle.std.specs.FinSet as set
-use Rattle.g1_layout.specs.Shape.{card_count}
-use Rattle.g1_core.specs.Pause.{IsDirtyDrained}
 use Rattle.g1_core.proofs.machinery.Core.drain_dirty.Given as goal
 
 abbrev pub invariant-loop-card : goal.invariant-loop-card

@@ -1,9 +1,6 @@
-use Rattle.std.proofs.Common.{sym, subst}
-use Rattle.g1_hot.specs.Ring.{popped}
-use Rattle.g1_core.specs.Machine.{Machine, machine_from}
-use Rattle.g1_core.specs.Pause.{IsCardDrained, IsCardRead}
-use Rattle.g1_core.proofs.DrainCardLemmas.{IsDrainedTo, oldest_drained, oldest_some, read_core, card_read}
-use Rattle.g1_core.proofs.ReferenceLemmas.{err_holds}
+use Rattle.g1_core.specs.{sym, subst, popped, machine_from, IsCardDrained}
+use Rattle.g1_core.specs.Machine.{Machine}
+use Rattle.g1_core.proofs.DrainCardLemmas.{IsDrainedTo, oldest_drained, oldest_some}
 use Rattle.g1_core.proofs.machinery.Core.drain_oldest.Goals as goal
 
 pub refine-requires-clause-some : goal.refine-requires-clause-some
@@ -24,13 +21,3 @@ returns-clause-ok c =
     let ring = c.pop_oldest.ensures.ring in
     subst (λ r. IsCardDrained c.args.self.now c.in-Some.card (popped c.args.self.now.state.ring) (machine_from c.refine.new.self.heap c.refine.new.self.sets.pairs r c.self.inside.config)) (sym ring)
     (subst (λ (m : Machine). IsCardDrained m c.in-Some.card (popped m.state.ring) (machine_from c.refine.new.self.heap c.refine.new.self.sets.pairs (popped c.self.inside.hot) c.self.inside.config)) c.self.view_is t.drained)
-
--- a refused record has only read the card
-pub invariant_of-self : goal.invariant_of-self
-invariant_of-self c = read_core c.self.inside.memory.heap c.self.inside.memory.sets c.self.inside.hot c.self.inside.memory.pending c.self.inside.config c.self.invariant c.refine.new.self.heap c.refine.new.self.sets c.refine.new.self.pending
-    c.in_err-refine.ensures.err.1 c.in_err-refine.ensures.err.0 c.in_err-refine.ensures.err.2
-
-pub returns-in_err-refine-clause-err : goal.returns-in_err-refine-clause-err
-returns-in_err-refine-clause-err c = err_holds c.from_residual.result (subst (λ (m : Machine). IsCardRead m (machine_from c.refine.new.self.heap c.refine.new.self.sets.pairs c.self.inside.hot c.self.inside.config)) c.self.view_is
-    (card_read c.self.inside.memory.heap c.self.inside.memory.sets c.self.inside.hot c.self.inside.memory.pending c.self.inside.config c.self.invariant c.refine.new.self.heap c.refine.new.self.sets c.refine.new.self.pending
-    c.in_err-refine.ensures.err.1 c.in_err-refine.ensures.err.0 c.in_err-refine.ensures.err.2))

@@ -1,6 +1,5 @@
-use Rattle.std.proofs.Common.{refl}
-use Rattle.g1_core.proofs.DrainLemmas.{short_ring, short_dirty, all_drained}
-use Rattle.g1_core.proofs.ReferenceLemmas.{err_holds}
+use Rattle.g1_core.specs.{refl}
+use Rattle.g1_core.proofs.DrainLemmas.{short_dirty, all_drained}
 use Rattle.g1_core.proofs.machinery.Core.drain_pending.Goals as goal
 
 pub returns-in_default-clause-err : goal.returns-in_default-clause-err
@@ -9,6 +8,3 @@ returns-in_default-clause-err c = short_dirty c.args.self.now c.drain_ring.new.s
 pub returns-clause-ok : goal.returns-clause-ok
 returns-clause-ok c = all_drained c.args.self.now c.drain_ring.new.self c.drain_ring.new.refined.items _ c.in_ok-drain_ring.ensures.ok c.in_ok-drain_ring.ensures.whole c.drain_dirty.new.self c.drain_dirty.new.refined.items
     c.in-Ok.ensures.ok.0 c.in-Ok.ensures.ok.1 refl c.in-Ok.ensures.whole
-
-pub returns-in_err-drain_ring-clause-err : goal.returns-in_err-drain_ring-clause-err
-returns-in_err-drain_ring-clause-err c = err_holds c.from_residual.result (short_ring c.args.self.now c.drain_ring.new.self c.drain_ring.new.refined.items c.in_err-drain_ring.ensures.err)

@@ -1,4 +1,4 @@
-use Rattle.std.proofs.Common.{ap, arith, length, sym}
+use Rattle.g1_core.specs.{ap, arith, length, sym}
 use Rattle.g1_core.proofs.DrainLoopLemmas.{ring_none, ring_more}
 use Rattle.g1_core.proofs.machinery.Core.drain_ring.Goals as goal
 

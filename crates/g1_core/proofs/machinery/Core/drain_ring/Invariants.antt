@@ -1,6 +1,6 @@
-use Rattle.std.proofs.Common.{◌≤◌, ◌+◌, length, vec_len, vec_capacity}
+use Rattle.std.specs.Prelude.{◌≤◌, ◌+◌}
+use Rattle.g1_core.specs.{length, vec_len, vec_capacity, IsRingDrained}
 use Rattle.std.specs.FinSet as set
-use Rattle.g1_core.specs.Pause.{IsRingDrained}
 use Rattle.g1_core.proofs.machinery.Core.drain_ring.Given as goal
 
 abbrev pub invariant-loop-self : goal.invariant-loop-self

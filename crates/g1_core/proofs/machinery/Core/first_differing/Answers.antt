@@ -1,6 +1,5 @@
-use Rattle.std.proofs.Common.{map, ap, below_more, arith}
-use Rattle.g1_core.specs.Machine.{Machine, State}
-use Rattle.g1_core.specs.Verify.{Differs}
+use Rattle.g1_core.specs.{map, ap, below_more, arith, State, Differs}
+use Rattle.g1_core.specs.Machine.{Machine}
 use Rattle.g1_core.proofs.VerifyLemmas.{first_none, first_found, slot_same, slot_differs, read_more}
 use Rattle.g1_core.proofs.machinery.Core.first_differing.Goals as goal
 

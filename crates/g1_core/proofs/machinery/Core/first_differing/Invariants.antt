@@ -1,6 +1,5 @@
-use Rattle.std.proofs.Common.{◌+◌, ◌<◌, ℕ, map}
-use Rattle.g1_core.specs.Machine.{IsOnlyRead}
-use Rattle.g1_core.specs.Verify.{Differs}
+use Rattle.std.specs.Prelude.{◌+◌, ◌<◌}
+use Rattle.g1_core.specs.{ℕ, map, IsOnlyRead, Differs}
 use Rattle.g1_core.proofs.machinery.Core.first_differing.Given as goal
 
 abbrev pub invariant-loop-i : goal.invariant-loop-i

@@ -1,6 +1,5 @@
-use Rattle.std.proofs.Common.{◌+◌, ◌<◌, ℕ}
-use Rattle.g1_core.specs.Machine.{IsOnlyRead}
-use Rattle.g1_core.specs.Verify.{IsMissing}
+use Rattle.std.specs.Prelude.{◌+◌, ◌<◌}
+use Rattle.g1_core.specs.{ℕ, IsOnlyRead, IsMissing}
 use Rattle.g1_core.proofs.machinery.Core.first_missing.Given as goal
 
 abbrev pub invariant-loop-i : goal.invariant-loop-i

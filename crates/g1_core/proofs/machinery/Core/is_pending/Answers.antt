@@ -1,9 +1,7 @@
-use Rattle.std.proofs.Common.{refl, ap, sym, ◌∙◌, true, false}
+use Rattle.g1_core.specs.{refl, ap, sym, ◌∙◌, true, false}
 use Rattle.std.specs.FinSet as set
 use Rattle.g1_core.specs.Machine.{Machine}
-use Rattle.g1_core.proofs.MarkLemmas.{held_clean, dirty_clean, to_pending}
-use Rattle.g1_core.proofs.StoreLemmas.{clean_mark}
-use Rattle.g1_core.proofs.QueryLemmas.{pending_step}
+use Rattle.g1_core.proofs.{held_clean, dirty_clean, to_pending, clean_mark, pending_step}
 use Rattle.g1_core.proofs.machinery.Core.is_pending.Goals as goal
 
 pub returns-in-Clean-clause-did : goal.returns-in-Clean-clause-did

@@ -1,9 +1,5 @@
-use Rattle.std.proofs.Common.{◌<◌, sym, refl, ap, ◌∙◌, subst, inl, inr, true, false}
-use Rattle.g1_layout.specs.Shape.{Shape, slot_count, card_count}
-use Rattle.g1_heap.specs.declared.mark.Mark.TheVariants.{Clean, Dirty, Held}
-use Rattle.g1_core.specs.Machine.{Machine}
-use Rattle.g1_core.proofs.MarkLemmas.{held_clean, dirty_clean}
-use Rattle.g1_core.proofs.StoreLemmas.{kind_at}
+use Rattle.g1_core.specs.{sym, refl, inl, inr, true, false, Clean, Dirty, Held}
+use Rattle.g1_core.proofs.{held_clean, dirty_clean, kind_at}
 use Rattle.g1_core.proofs.machinery.Core.kind.Goals as goal
 
 pub returns-in-Clean-clause-kind : goal.returns-in-Clean-clause-kind
@@ -17,13 +13,3 @@ returns-in-Dirty-clause-kind c = sym (kind_at c.self.inside.memory.heap c.self.i
 pub returns-in-Held-clause-kind : goal.returns-in-Held-clause-kind
 returns-in-Held-clause-kind c = sym (kind_at c.self.inside.memory.heap c.self.inside.memory.sets.pairs c.self.inside.hot c.self.inside.config c.args.self.now c.self.view_is c.layout-layout.result c.args.slot c.in-Some.place _ _ c.card_of-card.result _ Held true
     c.layout-layout.ensures.layout c.in-Some.is c.if-eq.ensures c.region_of.ensures.quotient c.region_of-2.ensures.quotient c.card_of-card.ensures.quotient c.in-Held.ensures (λ e. absurd (held_clean Held refl e)) (λ ne. refl) (inr (held_clean Held refl)))
-
--- what is asked of the layout, which is the machine's
-pub region_of-requires : goal.region_of-requires
-region_of-requires c = subst (λ (l : Shape). c.args.slot < slot_count l) (sym (c.layout-layout.ensures.layout ∙ ap (λ (m : Machine). m.state.table.layout) c.self.view_is)) c.requires.slot
-
-pub card_of-card-requires : goal.card_of-card-requires
-card_of-card-requires c = subst (λ (l : Shape). c.args.slot < slot_count l) (sym (c.layout-layout.ensures.layout ∙ ap (λ (m : Machine). m.state.table.layout) c.self.view_is)) c.requires.slot
-
-pub mark-requires : goal.mark-requires
-mark-requires c = subst (λ (l : Shape). c.card_of-card.result < card_count l) c.layout-layout.ensures.layout c.card_of-card.ensures.within

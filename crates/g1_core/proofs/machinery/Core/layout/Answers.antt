@@ -1,4 +1,4 @@
-use Rattle.g1_core.proofs.SoundLemmas.{seen_sound}
+use Rattle.g1_core.proofs.{seen_sound}
 use Rattle.g1_core.proofs.machinery.Core.layout.Goals as goal
 
 pub returns-clause-sound : goal.returns-clause-sound

@@ -1,8 +1,6 @@
-use Rattle.std.proofs.Common.{refl, subst, sym, List, ℕ}
-use Rattle.g1_core.specs.Table.{AreMembers}
+use Rattle.g1_core.specs.{refl, subst, sym, List, ℕ, AreMembers}
 use Rattle.g1_core.specs.Machine.{Machine}
-use Rattle.g1_core.proofs.QueryLemmas.{members_step, members_inside}
-use Rattle.g1_core.proofs.SoundLemmas.{seen_sound}
+use Rattle.g1_core.proofs.{members_step, members_inside, seen_sound}
 use Rattle.g1_core.proofs.machinery.Core.members.Goals as goal
 
 -- the list is that of the region

@@ -1,10 +1,7 @@
-use Rattle.std.proofs.Common.{◌∙◌, arith}
+use Rattle.g1_core.specs.{◌∙◌, arith}
 use Rattle.g1_core.proofs.RedirectLemmas.{IsMovedTo, members_core, members_read, reference_slots, reference_places, few_references, moved_at}
-use Rattle.g1_core.proofs.ReferenceLemmas.{err_holds}
+use Rattle.g1_core.proofs.{err_holds}
 use Rattle.g1_core.proofs.machinery.Core.move_references.Goals as goal
-
-pub invariant_of-self : goal.invariant_of-self
-invariant_of-self c = members_core c.self.inside.memory.heap c.self.inside.memory.sets c.self.inside.hot c.self.inside.memory.pending c.self.inside.config c.args.self.now c.self.invariant c.self.view_is c.args.from c.args.to c.requires.to c.requires.apart c.requires.nothing c.changes_into.new.heap c.in_err-changes.ensures.tied c.in_err-changes.ensures.heap c.self.inside.memory.sets (λ i. c.self.inside.memory.sets)
 
 pub returns-in_err-changes-clause-err : goal.returns-in_err-changes-clause-err
 returns-in_err-changes-clause-err c = err_holds c.from_residual.result (members_read c.self.inside.memory.heap c.self.inside.memory.sets c.self.inside.hot c.self.inside.memory.pending c.self.inside.config c.args.self.now c.self.invariant c.self.view_is c.args.from c.args.to c.requires.to c.requires.apart c.requires.nothing c.changes_into.new.heap c.in_err-changes.ensures.tied c.in_err-changes.ensures.heap c.self.inside.memory.sets (λ i. c.self.inside.memory.sets))

@@ -1,5 +1,5 @@
-use Rattle.std.proofs.Common.{arith}
-use Rattle.g1_core.proofs.OpeningLemmas.{made_core, made_machine}
+use Rattle.g1_core.specs.{arith}
+use Rattle.g1_core.proofs.{made_core, made_machine}
 use Rattle.g1_core.proofs.machinery.Core.new.Goals as goal
 
 pub invariant_of-result : goal.invariant_of-result

@@ -1,31 +1,13 @@
-use Rattle.std.proofs.Common.{◌≤◌, ap, refl, arith}
+use Rattle.std.specs.Prelude.{◌≤◌}
+use Rattle.g1_core.specs.{ap, arith, IsShortRedirect, IsWholeRedirect}
 use Rattle.g1_core.specs.Table.{Table}
 use Rattle.g1_core.specs.Machine.{Machine}
-use Rattle.g1_core.specs.Redirect.{IsShortRedirect, IsWholeRedirect}
-use Rattle.g1_core.proofs.ReadLemmas.{reads_grow}
-use Rattle.g1_core.proofs.RedirectLemmas.{short_drained_at, short_drained_step, regions_after, short_read_at, short_read_step, whole_at, whole_at_step}
+use Rattle.g1_core.proofs.{reads_grow}
+use Rattle.g1_core.proofs.RedirectLemmas.{short_drained_at, short_drained_step, short_read_at, whole_at, whole_at_step}
 use Rattle.g1_core.proofs.machinery.Core.redirect.Goals as goal
-
-pub returns-in_default-clause-did : goal.returns-in_default-clause-did
-returns-in_default-clause-did c = short_drained_at c.args.self.now c.args.from c.args.to c.requires.from c.requires.to c.requires.apart c.drain_pending.new.refined.items c.of-refined.result c.of-refined.ensures c.drain_pending.new.self c.in_default.ensures.err
 
 pub returns-in_default-clause-step : goal.returns-in_default-clause-step
 returns-in_default-clause-step c = short_drained_step c.args.self.now c.args.from c.args.to c.requires.from c.requires.to c.requires.apart c.drain_pending.new.refined.items c.of-refined.result c.of-refined.ensures c.drain_pending.new.self c.in_default.ensures.err
-
-pub move_references-requires-clause-from : goal.move_references-requires-clause-from
-move_references-requires-clause-from c = regions_after c.args.self.now c.args.from c.args.to c.requires.from c.requires.to c.requires.apart c.drain_pending.new.refined.items c.drain_pending.new.refined.items refl c.drain_pending.new.self c.drain_pending.new.self c.in-Ok.ensures.ok c.args.from c.requires.from
-
-pub move_references-requires-clause-to : goal.move_references-requires-clause-to
-move_references-requires-clause-to c = regions_after c.args.self.now c.args.from c.args.to c.requires.from c.requires.to c.requires.apart c.drain_pending.new.refined.items c.drain_pending.new.refined.items refl c.drain_pending.new.self c.drain_pending.new.self c.in-Ok.ensures.ok c.args.to c.requires.to
-
-pub move_references-requires-clause-nothing : goal.move_references-requires-clause-nothing
-move_references-requires-clause-nothing c = c.in-Ok.ensures.ok.nothing
-
-pub returns-in_default-move_references-clause-did : goal.returns-in_default-move_references-clause-did
-returns-in_default-move_references-clause-did c = short_read_at c.args.self.now c.args.from c.args.to c.requires.from c.requires.to c.requires.apart c.drain_pending.new.refined.items c.of-refined-in_default-move_references.result c.of-refined-in_default-move_references.ensures c.move_references.new.self c.drain_pending.new.self c.in-Ok.ensures.ok c.in_default-move_references.ensures.err
-
-pub returns-in_default-move_references-clause-step : goal.returns-in_default-move_references-clause-step
-returns-in_default-move_references-clause-step c = short_read_step c.args.self.now c.args.from c.args.to c.requires.from c.requires.to c.requires.apart c.drain_pending.new.refined.items c.of-refined-in_default-move_references.result c.of-refined-in_default-move_references.ensures c.move_references.new.self c.drain_pending.new.self c.in-Ok.ensures.ok c.in_default-move_references.ensures.err
 
 pub returns-clause-did : goal.returns-clause-did
 returns-clause-did c = whole_at c.args.self.now c.args.from c.args.to c.requires.from c.requires.to c.requires.apart c.drain_pending.new.refined.items c.of-refined-2.result c.of-refined-2.ensures c.reset_counts.new.self c.drain_pending.new.self c.in-Ok.ensures.ok c.move_references.new.self c.in-Ok-move_references.slots c.in-Ok-move_references.ensures.moved c.reset_counts.ensures

@@ -1,12 +1,9 @@
-use Rattle.std.proofs.Common.{refl, sym, subst, ap, arith}
-use Rattle.g1_core.specs.Machine.{Machine, IsPlaced}
-use Rattle.g1_core.specs.Calls.{refine_entry}
+use Rattle.g1_core.specs.{refl, sym, subst, ap, arith, IsPlaced, refine_entry}
+use Rattle.g1_core.specs.Machine.{Machine}
 use Rattle.g1_core.proofs.PartLemmas.{parts_placed}
-use Rattle.g1_core.proofs.OpeningLemmas.{idle_step}
+use Rattle.g1_core.proofs.{idle_step, reads_grow, none_read, same_later, seen_sound, step_later}
 use Rattle.g1_core.proofs.TurnLemmas.{turned_step}
 use Rattle.g1_core.proofs.LengthLemmas.{idle_does, turned_does}
-use Rattle.g1_core.proofs.ReadLemmas.{reads_grow, none_read}
-use Rattle.g1_core.proofs.SoundLemmas.{same_later, seen_sound, step_later}
 use Rattle.g1_core.proofs.machinery.Core.refine.Goals as goal
 
 pub returns-in_default-clause-step : goal.returns-in_default-clause-step

@@ -1,9 +1,8 @@
-use Rattle.std.proofs.Common.{◌≡◌, refl, ap, ◌∙◌, sym, subst}
+use Rattle.std.specs.Prelude.{◌≡◌}
+use Rattle.g1_core.specs.{refl, ap, ◌∙◌, sym, subst, Shape, HasOnlyOutside}
 use Rattle.std.specs.FinSet as set
-use Rattle.g1_layout.specs.Shape.{Shape}
-use Rattle.g1_sets.specs.Pairs.{HasOnlyOutside}
 use Rattle.g1_core.specs.Machine.{Machine}
-use Rattle.g1_core.proofs.QueryLemmas.{status_step}
+use Rattle.g1_core.proofs.{status_step}
 use Rattle.g1_core.proofs.machinery.Core.status.Goals as goal
 
 -- each recorded card lies outside its region, so that all pairs are counted

@@ -1,6 +1,6 @@
-use Rattle.std.proofs.Common.{ap, ◌∙◌}
+use Rattle.g1_core.specs.{ap, ◌∙◌}
 use Rattle.g1_core.specs.Machine.{Machine}
-use Rattle.g1_core.proofs.StoreLemmas.{stored_step}
+use Rattle.g1_core.proofs.{stored_step}
 use Rattle.g1_core.proofs.machinery.Core.store.Goals as goal
 
 pub returns-in_default-clause-step : goal.returns-in_default-clause-step

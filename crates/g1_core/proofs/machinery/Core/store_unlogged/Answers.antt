@@ -1,13 +1,7 @@
-use Rattle.std.proofs.Common.{◌≡◌, ◌<◌, ℕ, Option, Some, ap, refl, sym, subst, ◌∙◌, ◌+◌, arith}
-use Rattle.std.specs.Prelude.{IfSome, IsNone}
-use Rattle.g1_layout.specs.Shape.{Shape, card_count, card_of}
-use Rattle.g1_layout.specs.declared.kind.Kind.TheVariants.{Logged}
-use Rattle.g1_heap.specs.declared.mark.Mark.TheVariants.{Dirty}
-use Rattle.g1_heap.specs.Cells.{Cells, with_mark}
+use Rattle.std.specs.Prelude.{◌≡◌, ◌<◌, ◌+◌}
+use Rattle.g1_core.specs.{ℕ, Option, Some, ap, refl, sym, subst, ◌∙◌, arith, IfSome, IsNone, card_count, card_of, Logged, Dirty, Cells, with_mark, unfilled}
 use Rattle.g1_core.specs.Machine.{Machine}
-use Rattle.g1_core.specs.Barrier.{unfilled}
-use Rattle.g1_core.proofs.StoreLemmas.{logged_at, plain_at, IsStored, few_cards, stored_step}
-use Rattle.g1_core.proofs.SoundLemmas.{stored_later}
+use Rattle.g1_core.proofs.{logged_at, plain_at, IsStored, few_cards, stored_step, stored_later}
 use Rattle.g1_core.proofs.machinery.Core.store_unlogged.Goals as goal
 
 pub overflow_add-self : goal.overflow_add-self
@@ -19,9 +13,6 @@ returns-clause-some c = subst (λ (o : Option ℕ). IfSome o (λ card. (c.kind-k
 
 below : (o : Option ℕ) (card most : ℕ) → o ≡ Some card → IfSome o (λ card. card < most) → card < most
 below o card most is within = subst (λ (o : Option ℕ). IfSome o (λ card. card < most)) is within
-
-pub set_mark-requires : goal.set_mark-requires
-set_mark-requires c = subst (λ (l : Shape). c.in-Some.card < card_count l) (sym (ap (λ (h : Cells). h.layout) c.set.ensures ∙ ap (λ (m : Machine). m.state.table.layout) c.self.view_is)) (below c.kind-kind.result.1 c.in-Some.card (card_count c.args.self.now.state.table.layout) c.in-Some.is c.kind-kind.ensures.within)
 
 -- what a store leaves that is logged
 logged : (c : goal.After-self-1) → IsStored c.set_mark.new.self c.self.inside.memory.sets c.self.inside.hot (c.self.inside.memory.pending + 1) c.self.inside.config c.args.self.now c.args.slot c.args.target

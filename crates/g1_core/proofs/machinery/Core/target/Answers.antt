@@ -1,14 +1,8 @@
-use Rattle.std.proofs.Common.{◌≡◌, ◌<◌, ℕ, Option, ap, subst, sym, ◌∙◌}
-use Rattle.std.specs.Prelude.{IfSome}
-use Rattle.g1_layout.specs.Shape.{slot_count}
-use Rattle.g1_heap.specs.Cells.{Cells, reads_after}
-use Rattle.g1_core.specs.Table.{Table, target_of}
-use Rattle.g1_core.specs.Machine.{Machine, table_from, state_from, machine_from}
-use Rattle.g1_core.specs.Run.{IsStep}
-use Rattle.g1_core.specs.Calls.{target_entry}
-use Rattle.g1_core.proofs.QueryLemmas.{target_step, target_inside}
-use Rattle.g1_core.proofs.ReadLemmas.{reads_grow}
-use Rattle.g1_core.proofs.SoundLemmas.{same_later, seen_sound}
+use Rattle.std.specs.Prelude.{◌≡◌}
+use Rattle.g1_core.specs.{ap, subst, sym, ◌∙◌, Cells, reads_after, target_of, table_from, state_from, machine_from, IsStep, target_entry}
+use Rattle.g1_core.specs.Table.{Table}
+use Rattle.g1_core.specs.Machine.{Machine}
+use Rattle.g1_core.proofs.{target_step, reads_grow, same_later, seen_sound}
 use Rattle.g1_core.proofs.machinery.Core.target.Goals as goal
 
 pub returns-clause-step : goal.returns-clause-step
@@ -22,14 +16,3 @@ returns-clause-later c = same_later c.args.self.now (machine_from c.get.new.self
     (ap (λ (h : Cells). state_from h c.self.inside.memory.sets.pairs c.self.inside.hot) c.get.ensures.reads ∙ ap (λ (m : Machine). m.state) c.self.view_is) (ap (λ (m : Machine). m.settings) c.self.view_is)
     (seen_sound c.self.inside.memory.heap c.self.inside.memory.sets c.self.inside.hot c.self.inside.memory.pending c.self.invariant c.self.inside.config c.args.self.now c.self.view_is)
     (reads_grow c.args.self.now.reads 1 c.get.new.self.reads c.reads-reads.ensures.bound (ap (λ (h : Cells). h.reads) c.get.ensures.reads ∙ ap (λ (m : Machine). reads_after m.reads 1) c.self.view_is))
-
-pub returns-clause-did : goal.returns-clause-did
-returns-clause-did c =
-    let is : c.get.result ≡ target_of c.args.self.now.state.table c.args.slot = c.get.ensures.target ∙ ap (λ (m : Machine). target_of m.state.table c.args.slot) c.self.view_is in
-    record {
-      answer = is;
-      within = subst (λ (o : Option ℕ). IfSome o (λ place. place < slot_count c.args.self.now.state.table.layout)) (sym is) (target_inside c.args.self.now.state c.args.slot
-          (seen_sound c.self.inside.memory.heap c.self.inside.memory.sets c.self.inside.hot c.self.inside.memory.pending c.self.invariant c.self.inside.config c.args.self.now c.self.view_is) c.requires);
-      machine = ap (λ (h : Cells). machine_from h c.self.inside.memory.sets.pairs c.self.inside.hot c.self.inside.config) c.get.ensures.reads
-          ∙ ap (λ (m : Machine). record { state = m.state; settings = m.settings; reads = reads_after m.reads 1 }) c.self.view_is;
-    }

@@ -1,17 +1,8 @@
-use Rattle.std.proofs.Common.{◌<◌, ℕ, length, ap, subst, ◌∙◌, sym, refl, Some}
-use Rattle.std.proofs.lemmas.Bool.{true≢false}
-use Rattle.g1_layout.specs.Shape.{card_count}
-use Rattle.g1_hot.specs.declared.offer.Offer.{Offer}
-use Rattle.g1_hot.specs.declared.offer.Offer.TheVariants.{Out}
-use Rattle.g1_heap.specs.declared.mark.Mark.TheVariants.{Held}
-use Rattle.g1_heap.specs.Cells.{Cells, with_mark, reads_after}
+use Rattle.g1_core.specs.{length, ap, ◌∙◌, sym, refl, Some, true≢false, Offer, Out, Held, Cells, with_mark, reads_after, refined_by}
 use Rattle.g1_core.specs.Machine.{Machine}
-use Rattle.g1_core.specs.Turns.{refined_by}
 use Rattle.g1_core.proofs.RefinedLemmas.{refined_none}
-use Rattle.g1_core.proofs.RefineLemmas.{none_offered, dirty_pending, apart, out_within, turned_cold, turned_kept, turned_out, IsTurnedTo}
+use Rattle.g1_core.proofs.{none_offered, dirty_pending, turned_cold, turned_kept, turned_out, IsTurnedTo, err_holds, none_read, one_read}
 use Rattle.g1_core.proofs.DrainCardLemmas.{read_core, card_read}
-use Rattle.g1_core.proofs.ReferenceLemmas.{err_holds}
-use Rattle.g1_core.proofs.ReadLemmas.{none_read, one_read}
 use Rattle.g1_core.proofs.machinery.Core.turn.Goals as goal
 
 pub returns-then-not-dirty-clause-offer : goal.returns-then-not-dirty-clause-offer
@@ -66,9 +57,6 @@ returns-in-Out-clause-offer c = (out c).offer
 pub returns-in-Out-clause-state : goal.returns-in-Out-clause-state
 returns-in-Out-clause-state c = (out c).state
 
-pub returns-then-not-dirty-clause-reads : goal.returns-then-not-dirty-clause-reads
-returns-then-not-dirty-clause-reads c = none_read c.args.self.now.reads c.args.self.now.state.table.layout.slots 0 c.reads-reads.ensures.bound refl
-
 pub returns-in-Cold-clause-reads : goal.returns-in-Cold-clause-reads
 returns-in-Cold-clause-reads c =
     ap (λ (h : Cells). h.reads) c.in_ok-refine-in-Cold.ensures.cleaned ∙ ap (λ (m : Machine). reads_after m.reads m.state.table.layout.slots) c.self.view_is
@@ -109,36 +97,5 @@ pub returns-in_err-refine-in-Out-clause-tried : goal.returns-in_err-refine-in-Ou
 returns-in_err-refine-in-Out-clause-tried c = err_holds c.from_residual-in_err-refine-in-Out.result ((card_read c.self.inside.memory.heap c.self.inside.memory.sets c.self.inside.hot c.self.inside.memory.pending c.self.inside.config c.self.invariant c.refine-in-Out.new.self.heap c.refine-in-Out.new.self.sets c.refine-in-Out.new.self.pending
     c.in_err-refine-in-Out.ensures.err.1 c.in_err-refine-in-Out.ensures.err.0 c.in_err-refine-in-Out.ensures.err.2).reads ∙ ap (λ (m : Machine). reads_after m.reads m.state.table.layout.slots) c.self.view_is)
 
--- the card is one of the heap, and does not stand in the ring
-pub would-offer-requires : goal.would-offer-requires
-would-offer-requires c = subst (λ (n : ℕ). c.args.card < n) (sym c.self.invariant.parts.counts) (c.is_dirty-dirty.ensures.within c.if-not-dirty.false)
-
 pub refine-requires-clause-card : goal.refine-requires-clause-card
 refine-requires-clause-card c = c.is_dirty-dirty.ensures.within c.if-not-dirty.false
-
-pub refine-requires-in-Out-clause-card : goal.refine-requires-in-Out-clause-card
-refine-requires-in-Out-clause-card c = out_within c.self.inside.memory.heap c.self.inside.memory.sets c.self.inside.hot c.self.inside.memory.pending c.self.inside.config c.args.self.now c.self.invariant c.self.view_is c.args.card (c.is_dirty-dirty.ensures.dirty.0 c.if-not-dirty.false) c.in-Out.oldest (sym c.would-offer.ensures.answer ∙ c.in-Out.is)
-
-pub set_mark-requires : goal.set_mark-requires
-set_mark-requires c = c.is_dirty-dirty.ensures.within c.if-not-dirty.false
-
-pub set_mark-requires-in-Out : goal.set_mark-requires-in-Out
-set_mark-requires-in-Out c = subst (λ (h : Cells). c.args.card < card_count h.layout) (sym c.in_ok-refine-in-Out.ensures.cleaned) (c.is_dirty-dirty.ensures.within c.if-not-dirty.false)
-
-pub offer-requires-clause-within : goal.offer-requires-clause-within
-offer-requires-clause-within c = subst (λ (n : ℕ). c.args.card < n) (sym c.self.invariant.parts.counts) (c.is_dirty-dirty.ensures.within c.if-not-dirty.false)
-
-pub offer-requires-clause-absent : goal.offer-requires-clause-absent
-offer-requires-clause-absent c = apart c.self.inside.memory.heap c.self.inside.memory.sets c.self.inside.hot c.self.inside.memory.pending c.self.inside.config c.args.self.now c.self.invariant c.self.view_is c.args.card (c.is_dirty-dirty.ensures.dirty.0 c.if-not-dirty.false)
-
-pub offer-requires-in-Kept-clause-within : goal.offer-requires-in-Kept-clause-within
-offer-requires-in-Kept-clause-within c = subst (λ (n : ℕ). c.args.card < n) (sym c.self.invariant.parts.counts) (c.is_dirty-dirty.ensures.within c.if-not-dirty.false)
-
-pub offer-requires-in-Kept-clause-absent : goal.offer-requires-in-Kept-clause-absent
-offer-requires-in-Kept-clause-absent c = apart c.self.inside.memory.heap c.self.inside.memory.sets c.self.inside.hot c.self.inside.memory.pending c.self.inside.config c.args.self.now c.self.invariant c.self.view_is c.args.card (c.is_dirty-dirty.ensures.dirty.0 c.if-not-dirty.false)
-
-pub offer-requires-in-Out-clause-within : goal.offer-requires-in-Out-clause-within
-offer-requires-in-Out-clause-within c = subst (λ (n : ℕ). c.args.card < n) (sym c.self.invariant.parts.counts) (c.is_dirty-dirty.ensures.within c.if-not-dirty.false)
-
-pub offer-requires-in-Out-clause-absent : goal.offer-requires-in-Out-clause-absent
-offer-requires-in-Out-clause-absent c = apart c.self.inside.memory.heap c.self.inside.memory.sets c.self.inside.hot c.self.inside.memory.pending c.self.inside.config c.args.self.now c.self.invariant c.self.view_is c.args.card (c.is_dirty-dirty.ensures.dirty.0 c.if-not-dirty.false)

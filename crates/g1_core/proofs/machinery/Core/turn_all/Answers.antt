@@ -1,24 +1,7 @@
-use Rattle.std.proofs.Common.{rules, ◌≡◌, ◌+◌, ℕ, List, length, ap, refl, ◌∙◌, arith}
-use Rattle.std.specs.Prelude.{Bool, true, false, if◌then◌else◌}
-use Rattle.std.proofs.lemmas.Grind.{common_steps}
-use Rattle.std.proofs.lemmas.List.{length-append}
-use Rattle.g1_layout.specs.Shape.{Shape}
-use Rattle.g1_core.specs.Machine.{State}
-use Rattle.g1_core.proofs.ReadLemmas.{none_read, one_read, more_read}
-use Rattle.g1_core.proofs.RefineLemmas.{turns_more}
+use Rattle.std.specs.Prelude.{◌≡◌, ◌+◌, if◌then◌else◌}
+use Rattle.g1_core.specs.{ℕ, List, length, ap, refl, ◌∙◌, arith, Bool, true, length-append, Shape, State}
+use Rattle.g1_core.proofs.{one_read, more_read, turns_more}
 use Rattle.g1_core.proofs.machinery.Core.turn_all.Goals as goal
-
-pub loop-card-init : goal.loop-card-init
-loop-card-init c = record {
-  round = search rules;
-  refined = grind (arith, common_steps);
-  room = grind (arith, common_steps);
-  hot = grind (arith, common_steps);
-  skipped = grind (arith, common_steps);
-  settings = refl;
-  layout = refl;
-  reads = none_read _ _ _ c.reads-reads.ensures.bound (ap (λ (cards : List ℕ). length cards) c.in_ok-turns.ensures.refined);
-}
 
 pub loop-card-preserved : goal.loop-card-preserved
 loop-card-preserved c =
@@ -51,15 +34,4 @@ returns-in_default-clause-reads c =
       each = omega (arith, many);
       most = omega (arith, many, one);
       reads = more_read _ _ _ _ _ _ _ _ was.reads (c.in_default.ensures.tried ∙ one_read _ _ 1 refl) (ap (λ (l : Shape). l.slots) was.layout) refl;
-    }
-
-pub returns-clause-reads : goal.returns-clause-reads
-returns-clause-reads c =
-    let many : length c.reply-2.result.refined ≡ length c.loop-card.turns.refined.items = ap (λ (cards : List ℕ). length cards) c.reply-2.ensures.refined in
-    let none : extra c.reply-2.result.short ≡ extra false = ap extra c.reply-2.ensures.short in
-    record {
-      tried = length c.loop-card.turns.refined.items;
-      each = omega (arith, many);
-      most = omega (arith, many, none);
-      reads = c.loop-card.invariant.reads;
     }

@@ -1,7 +1,6 @@
-use Rattle.std.proofs.Common.{◌≡◌, ◌≤◌, ◌*◌, length, take, vec_len}
-use Rattle.g1_heap.specs.Cells.{reads_after}
-use Rattle.g1_core.specs.Turns.{turns, start}
-use Rattle.g1_core.proofs.RefineLemmas.{round_at}
+use Rattle.std.specs.Prelude.{◌≡◌, ◌≤◌, ◌*◌}
+use Rattle.g1_core.specs.{length, take, vec_len, reads_after, turns, start}
+use Rattle.g1_core.proofs.{round_at}
 use Rattle.g1_core.proofs.machinery.Core.turn_all.Given as goal
 
 abbrev pub invariant-loop-card : goal.invariant-loop-card

@@ -1,7 +1,6 @@
 -- The call keeps what the boxes and the share are tied to.
-use Rattle.std.proofs.Common.{refl, sym, ap, ◌∙◌}
+use Rattle.g1_handles.specs.{refl, sym, ap, ◌∙◌, IsKept}
 use Rattle.g1_race_words.specs.declared.view.Shape.{Shape}
-use Rattle.g1_handles.specs.AtPause.{IsKept}
 use Rattle.g1_handles.proofs.heap.at_pause.call_on.Goals as goal
 
 pub invariant_of-at : goal.invariant_of-at

@@ -1,10 +1,5 @@
 -- The words stand for the heap's reply.
-use Rattle.std.proofs.Common.{ℕ, sym, subst}
-use Rattle.std.specs.Prelude.{◌≢◌}
-use Rattle.g1_core.specs.declared.reply.ClearReply.{ClearReply}
-use Rattle.g1_core.specs.declared.reply.ClearReply.TheVariants.{Cleared}
-use Rattle.g1_handles.specs.AtPause.{ClearsAt}
-use Rattle.g1_handles.proofs.ClearLemmas.{not_cleared}
+use Rattle.g1_handles.specs.{ℕ, sym, subst, ClearReply, ClearsAt}
 use Rattle.g1_handles.proofs.heap.evacuation.clear_at.Goals as goal
 
 pub returns-clause-cleared : goal.returns-clause-cleared
@@ -12,8 +7,3 @@ returns-clause-cleared c =
     subst (λ (reply : ClearReply). ClearsAt c.args.heap.now c.args.region reply c.clear.new.self) (sym c.words_of.ensures.reply)
     (subst (λ (region : ℕ). ClearsAt c.args.heap.now region c.clear.result c.clear.new.self) c.in-Some.ensures.1
     (record { race = c.clear.ensures.race; words = c.clear.ensures.words; step = c.clear.ensures.step; refused = c.clear.ensures.refused }))
-
-pub returns-clause-left : goal.returns-clause-left
-returns-clause-left c = λ some.
-    let refused : c.clear.result ≢ Cleared = subst (λ (reply : ClearReply). reply ≢ Cleared) c.words_of.ensures.reply (not_cleared c.words_of.result.0 c.words_of.result.1 some) in
-    c.clear.ensures.refused refused

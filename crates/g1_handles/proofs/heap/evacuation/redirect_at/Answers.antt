@@ -1,7 +1,5 @@
 -- The regions of these numbers.
-use Rattle.std.proofs.Common.{ℕ, subst}
-use Rattle.g1_race.specs.Over.{Pause}
-use Rattle.g1_handles.specs.AtPause.{Redirects}
+use Rattle.g1_handles.specs.{ℕ, subst, Pause, Redirects}
 use Rattle.g1_handles.proofs.heap.evacuation.redirect_at.Goals as goal
 
 pub returns-clause-redirected : goal.returns-clause-redirected

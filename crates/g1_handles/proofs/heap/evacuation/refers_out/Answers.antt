@@ -1,10 +1,6 @@
 -- The slot at i lies in the region.
-use Rattle.std.proofs.Common.{◌≡◌, ◌+◌, ◌*◌, ◌<◌, Some, ap, sym, ◌∙◌, subst}
-use Rattle.std.proofs.lemmas.Bool.{not-true, eqb-false}
-use Rattle.g1_layout.specs.Shape.{Shape, region_of}
-use Rattle.g1_layout.proofs.ShapeLemmas.{region_of-offset}
-use Rattle.g1_core.specs.Table.{target_of}
-use Rattle.g1_race.specs.Over.{Pause, table_at}
+use Rattle.std.specs.Prelude.{◌≡◌, ◌+◌, ◌*◌, ◌<◌}
+use Rattle.g1_handles.specs.{Some, ap, sym, ◌∙◌, subst, not-true, eqb-false, Shape, region_of, region_of-offset, target_of, Pause, table_at}
 use Rattle.g1_handles.proofs.heap.evacuation.refers_out.Goals as goal
 
 pub returns-then-ne-clause-some : goal.returns-then-ne-clause-some

@@ -1,8 +1,6 @@
 -- The first i slots of the region do not refer out of it.
-use Rattle.std.proofs.Common.{◌≡◌, ◌≢◌, ◌<◌, ◌≤◌, ◌+◌, ℕ}
-use Rattle.g1_layout.specs.Shape.{region_of}
-use Rattle.g1_core.specs.Table.{Crosses}
-use Rattle.g1_race.specs.Over.{table_at}
+use Rattle.std.specs.Prelude.{◌≡◌, ◌≢◌, ◌<◌, ◌≤◌, ◌+◌}
+use Rattle.g1_handles.specs.{ℕ, region_of, Crosses, table_at}
 use Rattle.g1_handles.proofs.heap.evacuation.refers_out.Given as goal
 
 abbrev pub invariant-loop-i : goal.invariant-loop-i

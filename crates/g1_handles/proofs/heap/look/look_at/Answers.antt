@@ -1,10 +1,6 @@
 -- A handle is put back as it was found.
-use Rattle.std.proofs.Common.{◌<◌, All, length, slice_index_or, sym, ◌∙◌, subst, arith}
-use Rattle.std.proofs.lemmas.List.{length-set}
-use Rattle.std.proofs.lemmas.List.Elements.{All-map, AllWithin-more_set, All-from_all_within, AllWithin-upto}
-use Rattle.std.proofs.Math.Seq.{map-set_same}
-use Rattle.std.specs.Prelude.{OnOk}
-use Rattle.g1_handles.specs.Racing.{IsAmong}
+use Rattle.std.specs.Prelude.{◌<◌}
+use Rattle.g1_handles.specs.{All, length, slice_index_or, sym, ◌∙◌, subst, arith, length-set, All-map, AllWithin-more_set, All-from_all_within, AllWithin-upto, map-set_same, OnOk, IsAmong}
 use Rattle.g1_handles.proofs.heap.look.look_at.Goals as goal
 
 pub returns-in_err-look_in-clause-same : goal.returns-in_err-look_in-clause-same

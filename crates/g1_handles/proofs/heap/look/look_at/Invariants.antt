@@ -1,7 +1,6 @@
 -- The handles hold what they held, and the first i are as they are to be.
-use Rattle.std.proofs.Common.{◌≡◌, length, map}
-use Rattle.std.specs.List.{AllWithin}
-use Rattle.g1_handles.specs.Racing.{IsAmong}
+use Rattle.std.specs.Prelude.{◌≡◌}
+use Rattle.g1_handles.specs.{length, map, AllWithin, IsAmong}
 use Rattle.g1_handles.proofs.heap.look.look_at.Given as goal
 
 abbrev pub invariant-loop-i : goal.invariant-loop-i

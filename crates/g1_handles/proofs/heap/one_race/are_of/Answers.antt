@@ -1,7 +1,5 @@
 -- A handle is put back as it was found.
-use Rattle.std.proofs.Common.{◌∙◌}
-use Rattle.std.proofs.lemmas.List.{length-set}
-use Rattle.std.proofs.Math.Seq.{map-set_same}
+use Rattle.g1_handles.specs.{◌∙◌, length-set, map-set_same}
 use Rattle.g1_handles.proofs.heap.one_race.are_of.Goals as goal
 
 pub returns-in_default : goal.returns-in_default

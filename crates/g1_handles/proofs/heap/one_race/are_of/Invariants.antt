@@ -1,5 +1,6 @@
 -- The handles hold what they held.
-use Rattle.std.proofs.Common.{◌≡◌, length, map}
+use Rattle.std.specs.Prelude.{◌≡◌}
+use Rattle.g1_handles.specs.{length, map}
 use Rattle.g1_handles.proofs.heap.one_race.are_of.Given as goal
 
 abbrev pub invariant-loop-i : goal.invariant-loop-i

@@ -1,11 +1,6 @@
 -- The members of a new heap are those that have just been made to wait.
-use Rattle.std.proofs.Common.{◌≡◌, Some, Box, sym, subst}
-use Rattle.std.specs.Global.{Global}
-use Rattle.std.proofs.lemmas.List.Elements.{All-map}
-use Rattle.g1_handles.specs.declared.heap.racing_heap.RacingHeap.{RacingHeap}
-use Rattle.g1_handles.specs.Own.{RacerMember, SweeperMember}
-use Rattle.g1_handles.specs.Life.{HasCountedNothing}
-use Rattle.g1_handles.specs.Counting.{no_counts}
+use Rattle.std.specs.Prelude.{◌≡◌}
+use Rattle.g1_handles.specs.{Some, Box, sym, subst, Global, All-map, RacingHeap, RacerMember, SweeperMember, HasCountedNothing, no_counts}
 use Rattle.g1_handles.proofs.heap.open.new_heap.Goals as goal
 
 pub returns-clause-counts : goal.returns-clause-counts

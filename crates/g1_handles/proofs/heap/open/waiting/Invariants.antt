@@ -1,7 +1,6 @@
 -- The members that are in the list are of the race, and have the numbers of their places.
-use Rattle.std.proofs.Common.{◌≡◌, ◌<◌, ℕ, All, slice_index_or, vec_len}
-use Rattle.std.specs.Arc.{arc_value}
-use Rattle.g1_handles.specs.Counting.{no_counts}
+use Rattle.std.specs.Prelude.{◌≡◌, ◌<◌}
+use Rattle.g1_handles.specs.{ℕ, All, slice_index_or, vec_len, arc_value, no_counts}
 use Rattle.g1_handles.proofs.heap.open.waiting.Given as goal
 
 abbrev pub invariant-loop-number : goal.invariant-loop-number

@@ -1,14 +1,7 @@
 -- The next handle gives its role, and its box waits.
-use Rattle.std.proofs.Common.{◌≡◌, ◌<◌, Some, None, Box, All, length, slice_index_or, sym, ap, ◌∙◌, subst, arith}
-use Rattle.std.specs.Prelude.{IsSome}
-use Rattle.std.specs.Global.{Global}
-use Rattle.std.specs.Arc.{arc_value}
-use Rattle.std.proofs.lemmas.List.{length-set, get_or-set_other}
-use Rattle.std.proofs.lemmas.List.Elements.{All-push, All-map, AllWithin-more_set, All-from_all_within, AllWithin-upto}
-use Rattle.g1_race.specs.Members.{race_id}
-use Rattle.g1_handles.specs.declared.member.Member.{Member}
-use Rattle.g1_handles.specs.Racing.{counts_of, role_in, IsOf}
-use Rattle.g1_handles.proofs.MemberLemmas.{role_is_of, none_is_some}
+use Rattle.std.specs.Prelude.{◌≡◌, ◌<◌}
+use Rattle.g1_handles.specs.{Some, None, Box, All, length, slice_index_or, sym, ap, ◌∙◌, subst, arith, IsSome, Global, arc_value, length-set, get_or-set_other, All-push, All-map, AllWithin-more_set, All-from_all_within, AllWithin-upto, race_id, Member, counts_of, role_in, IsOf}
+use Rattle.g1_handles.proofs.{role_is_of, none_is_some}
 use Rattle.g1_handles.proofs.Rows.{at_handle, view_next}
 use Rattle.g1_handles.proofs.heap.pause.gather.Goals as goal
 

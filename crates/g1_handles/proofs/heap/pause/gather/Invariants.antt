@@ -1,12 +1,6 @@
 -- The first i handles are closed and have given what they had, and the others are as they were.
-use Rattle.std.proofs.Common.{◌≡◌, ◌≤◌, ℕ, All, Some, None, length, map, take, slice_index_or, vec_len}
-use Rattle.std.specs.Prelude.{vec_capacity}
-use Rattle.std.specs.List.{AllWithin}
-use Rattle.std.specs.Arc.{arc_value}
-use Rattle.g1_race.specs.declared.race.Race.{Race}
-use Rattle.g1_race.specs.Members.{race_id}
-use Rattle.g1_handles.specs.Life.{boxed_counts}
-use Rattle.g1_handles.specs.Racing.{counts_of, role_in, IsOf}
+use Rattle.std.specs.Prelude.{◌≡◌, ◌≤◌}
+use Rattle.g1_handles.specs.{ℕ, All, Some, None, length, map, take, slice_index_or, vec_len, vec_capacity, AllWithin, arc_value, Race, race_id, boxed_counts, counts_of, role_in, IsOf}
 use Rattle.g1_handles.proofs.heap.pause.gather.Given as goal
 
 abbrev pub invariant-loop-i : goal.invariant-loop-i

@@ -1,14 +1,8 @@
 -- A look at the members finds a handle with none, or a member of another race.
-use Rattle.std.proofs.Common.{◌≡◌, ◌⊎◌, inl, inr, List}
-use Rattle.std.specs.Prelude.{Option, Some, Any}
-use Rattle.g1_handles.specs.declared.code.Refusal.{Refusal}
+use Rattle.std.specs.Prelude.{◌≡◌, ◌⊎◌}
+use Rattle.g1_handles.specs.{inl, inr, List, Option, Some, Any, Refusal, RacingHeap, RacerMember, SweeperMember, SaysNoMember, IsPauseRefused, held_racers, held_sweepers}
 use Rattle.g1_handles.specs.declared.code.Refusal.TheVariants as refusal
-use Rattle.g1_handles.specs.declared.heap.racing_heap.RacingHeap.{RacingHeap}
-use Rattle.g1_handles.specs.Own.{RacerMember, SweeperMember}
-use Rattle.g1_handles.specs.Refusals.{SaysNoMember}
-use Rattle.g1_handles.specs.Life.{IsPauseRefused}
-use Rattle.g1_handles.specs.Racing.{held_racers, held_sweepers}
-use Rattle.g1_handles.proofs.MemberLemmas.{passed}
+use Rattle.g1_handles.proofs.{passed}
 use Rattle.g1_handles.proofs.heap.pause.pause_of.Goals as goal
 
 of_racers : (h : Option RacingHeap) (rs : List (Option RacerMember)) (ss : List (Option SweeperMember)) (r : Refusal)

@@ -1,8 +1,5 @@
 -- The pause holds the race by a share of it.
-use Rattle.std.proofs.Common.{map, subst}
-use Rattle.g1_race.specs.declared.race.Race.{Race}
-use Rattle.g1_race.specs.Members.{racer_view, sweeper_view, racer_log}
-use Rattle.g1_handles.specs.Life.{IsPauseOf}
+use Rattle.g1_handles.specs.{map, subst, Race, racer_view, sweeper_view, racer_log, IsPauseOf}
 use Rattle.g1_handles.proofs.heap.pause.stopped.Goals as goal
 
 pub returns-clause-paused : goal.returns-clause-paused

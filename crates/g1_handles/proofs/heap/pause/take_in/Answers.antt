@@ -1,10 +1,6 @@
 -- What is known of the roles is what was known of the handles.
-use Rattle.std.proofs.Common.{ℕ, refl, subst}
-use Rattle.std.specs.Arc.{arc_value}
-use Rattle.g1_race.specs.Members.{racer_view, sweeper_view, racer_log}
-use Rattle.g1_handles.specs.Life.{log_of, AreFor}
-use Rattle.g1_handles.specs.Racing.{held_racers, held_sweepers, role_in, role_view}
-use Rattle.g1_handles.proofs.MemberLemmas.{seen_alike}
+use Rattle.g1_handles.specs.{ℕ, refl, subst, arc_value, racer_view, sweeper_view, racer_log, log_of, AreFor, held_racers, held_sweepers, role_in, role_view}
+use Rattle.g1_handles.proofs.{seen_alike}
 use Rattle.g1_handles.proofs.heap.pause.take_in.Goals as goal
 
 pub returns-clause-came : goal.returns-clause-came

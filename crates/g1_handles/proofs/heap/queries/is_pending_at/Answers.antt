@@ -1,9 +1,5 @@
 -- The heap's own answer.
-use Rattle.std.proofs.Common.{ℕ, subst}
-use Rattle.g1_core.specs.Calls.{pending_entry}
-use Rattle.g1_core.specs.Run.{IsStep}
-use Rattle.g1_race.specs.Over.{Pause, table_at}
-use Rattle.g1_handles.specs.AtPause.{TellsPending}
+use Rattle.g1_handles.specs.{ℕ, subst, pending_entry, IsStep, Pause, table_at, TellsPending}
 use Rattle.g1_handles.proofs.heap.queries.is_pending_at.Goals as goal
 
 pub returns-clause-pending : goal.returns-clause-pending

@@ -1,8 +1,5 @@
 -- The heap's own answer.
-use Rattle.std.proofs.Common.{subst}
-use Rattle.g1_core.specs.Calls.{status_entry}
-use Rattle.g1_core.specs.Run.{IsStep}
-use Rattle.g1_race.specs.Over.{Pause, table_at}
+use Rattle.g1_handles.specs.{subst, status_entry, IsStep, Pause, table_at}
 use Rattle.g1_handles.proofs.heap.queries.status_at.Goals as goal
 
 pub returns-clause-status : goal.returns-clause-status

@@ -1,10 +1,5 @@
 -- The word stands for what the heap answers.
-use Rattle.std.proofs.Common.{ℕ, Option, sym, subst}
-use Rattle.g1_core.specs.Calls.{target_entry}
-use Rattle.g1_core.specs.Run.{IsStep}
-use Rattle.g1_race.specs.Over.{Pause, table_at}
-use Rattle.g1_handles.specs.AtPause.{SlotRefers}
-use Rattle.g1_handles.specs.Codes.{reference_of}
+use Rattle.g1_handles.specs.{ℕ, Option, sym, subst, target_entry, IsStep, Pause, table_at, SlotRefers, reference_of}
 use Rattle.g1_handles.proofs.heap.queries.target_at.Goals as goal
 
 pub returns-clause-target : goal.returns-clause-target

@@ -1,12 +1,6 @@
 -- What is lent is the heap of the pause, and so many of its readers.
-use Rattle.std.proofs.Common.{◌≡◌, Box, All, length, refl, sym, ap, ◌∙◌, subst, arith}
-use Rattle.std.specs.Global.{Global}
-use Rattle.std.specs.Arc.{arc_value}
-use Rattle.std.proofs.lemmas.List.Elements.{All-nil}
-use Rattle.atomic_table.specs.Seated.{TableId}
-use Rattle.g1_race.specs.Over.{Pause, start_at}
-use Rattle.g1_race.specs.Reading.{Known}
-use Rattle.g1_handles.specs.Own.{ReaderMember}
+use Rattle.std.specs.Prelude.{◌≡◌}
+use Rattle.g1_handles.specs.{Box, All, length, refl, sym, ap, ◌∙◌, subst, arith, Global, arc_value, All-nil, TableId, Pause, start_at, Known, ReaderMember}
 use Rattle.g1_handles.proofs.heap.reading.lent.Goals as goal
 
 pub invariant_of-result-2 : goal.invariant_of-result-2

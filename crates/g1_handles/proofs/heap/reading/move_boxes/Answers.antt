@@ -1,10 +1,7 @@
 -- The last box of the one list moves to the end of the other.
-use Rattle.std.proofs.Common.{◌≡◌, ◌<◌, ◌-◌, Box, All, slice_index_or, vec_len, sym, ◌∙◌, subst, refl, arith}
-use Rattle.std.specs.Global.{Global}
-use Rattle.std.specs.Arc.{arc_value}
-use Rattle.std.proofs.lemmas.List.Elements.{All-push, All-take}
-use Rattle.g1_handles.specs.declared.member.Member.{Member}
-use Rattle.g1_handles.proofs.Seating.{popped}
+use Rattle.std.specs.Prelude.{◌≡◌, ◌<◌, ◌-◌}
+use Rattle.g1_handles.specs.{Box, All, slice_index_or, vec_len, sym, ◌∙◌, subst, refl, arith, Global, arc_value, All-push, All-take, Member}
+use Rattle.g1_handles.proofs.{popped}
 use Rattle.g1_handles.proofs.heap.reading.move_boxes.Goals as goal
 
 pub loop-i-preserved : goal.loop-i-preserved
@@ -28,6 +25,3 @@ loop-i-preserved g c =
             subst (All Q) (sym c.push_reserved.ensures.items) (All-push Q _ _ all.1 of),
           );
     }
-
-pub unreachable-requires : goal.unreachable-requires
-unreachable-requires g c = omega (arith, c.loop-i.invariant.from_count, c.requires.some, c.loop-i-test.true, c.in_default.ensures.cases)

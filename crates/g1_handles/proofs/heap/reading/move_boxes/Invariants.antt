@@ -1,8 +1,6 @@
 -- So many boxes have moved, and all are of the race that they were of.
-use Rattle.std.proofs.Common.{◌≡◌, ◌+◌, All, vec_len}
-use Rattle.std.specs.Prelude.{vec_capacity}
-use Rattle.std.specs.Arc.{arc_value}
-use Rattle.g1_race.specs.declared.race.Race.{Race}
+use Rattle.std.specs.Prelude.{◌≡◌, ◌+◌}
+use Rattle.g1_handles.specs.{All, vec_len, vec_capacity, arc_value, Race}
 use Rattle.g1_handles.proofs.heap.reading.move_boxes.Given as goal
 
 abbrev pub invariant-loop-i : goal.invariant-loop-i

@@ -1,19 +1,8 @@
 -- The handles have readers of the pause, which the heap was lent to.
-use Rattle.std.proofs.Common.{rules, ◌≡◌, ℕ, List, Some, All, length, map, sym, ap, subst}
-use Rattle.std.specs.Prelude.{Option}
-use Rattle.std.specs.Arc.{arc_value}
-use Rattle.atomic_table.specs.Seated.{TableId}
-use Rattle.g1_race.specs.declared.race.Race.{Race}
-use Rattle.g1_race.specs.Over.{Pause, start_at}
-use Rattle.g1_race.specs.Reading.{known}
+use Rattle.std.specs.Prelude.{◌≡◌}
+use Rattle.g1_handles.specs.{rules, ℕ, List, Some, All, length, map, sym, ap, subst, Option, arc_value, TableId, Race, Pause, start_at, known, BeingRead, RacingHeap, ReaderMember, OfHeap, OfPaused, OfRead, held_readers, role_in, IsOf, AreOut, AreReadersAt, IsLent, IsLentHeap}
 use Rattle.g1_handles.specs.declared.heap.racing_heap.AtPause.{AtPause}
-use Rattle.g1_handles.specs.declared.heap.racing_heap.BeingRead.{BeingRead}
-use Rattle.g1_handles.specs.declared.heap.racing_heap.RacingHeap.{RacingHeap}
 use Rattle.g1_handles.specs.declared.heap.racing_heap.RacingHeap.TheVariants as heap
-use Rattle.g1_handles.specs.Own.{ReaderMember}
-use Rattle.g1_handles.specs.Life.{OfHeap, OfPaused, OfRead}
-use Rattle.g1_handles.specs.Racing.{held_readers, role_in, IsOf}
-use Rattle.g1_handles.specs.Readers.{AreOut, AreReadersAt, IsLent, IsLentHeap}
 use Rattle.g1_handles.proofs.ReaderLemmas.{KnowsPause, handed_out}
 use Rattle.g1_handles.proofs.heap.reading.read_of.Goals as goal
 

@@ -1,14 +1,8 @@
 -- A look at the readers finds a handle with none, or a reader of another race.
-use Rattle.std.proofs.Common.{◌≡◌, ◌⊎◌, inl, inr, List}
-use Rattle.std.specs.Prelude.{Option, Some, Any}
-use Rattle.g1_handles.specs.declared.code.Refusal.{Refusal}
+use Rattle.std.specs.Prelude.{◌≡◌, ◌⊎◌}
+use Rattle.g1_handles.specs.{inl, inr, List, Option, Some, Any, Refusal, RacingHeap, ReaderMember, SaysNoMember, held_readers, IsReadEndRefused}
 use Rattle.g1_handles.specs.declared.code.Refusal.TheVariants as refusal
-use Rattle.g1_handles.specs.declared.heap.racing_heap.RacingHeap.{RacingHeap}
-use Rattle.g1_handles.specs.Own.{ReaderMember}
-use Rattle.g1_handles.specs.Refusals.{SaysNoMember}
-use Rattle.g1_handles.specs.Racing.{held_readers}
-use Rattle.g1_handles.specs.Readers.{IsReadEndRefused}
-use Rattle.g1_handles.proofs.MemberLemmas.{passed}
+use Rattle.g1_handles.proofs.{passed}
 use Rattle.g1_handles.proofs.heap.reading_end.end_read_of.Goals as goal
 
 of_readers : (h : Option RacingHeap) (rs : List (Option ReaderMember)) (r : Refusal)

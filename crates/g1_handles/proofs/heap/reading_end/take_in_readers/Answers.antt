@@ -1,11 +1,6 @@
 -- What is known of the readers is what was known of the handles.
-use Rattle.std.proofs.Common.{◌≡◌, ℕ, All, refl, sym, subst}
-use Rattle.std.specs.Arc.{arc_value}
-use Rattle.atomic_table.specs.Seated.{TableId}
-use Rattle.g1_race.specs.Over.{start_at}
-use Rattle.g1_race.specs.Reading.{known}
-use Rattle.g1_handles.specs.Life.{AreFor}
-use Rattle.g1_handles.specs.Racing.{held_readers}
+use Rattle.std.specs.Prelude.{◌≡◌}
+use Rattle.g1_handles.specs.{ℕ, All, refl, sym, subst, arc_value, TableId, start_at, known, AreFor, held_readers}
 use Rattle.g1_handles.proofs.ReaderLemmas.{all_know, all_of_race}
 use Rattle.g1_handles.proofs.heap.reading_end.take_in_readers.Goals as goal
 

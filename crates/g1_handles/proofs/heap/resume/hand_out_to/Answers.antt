@@ -1,30 +1,8 @@
 -- The next handle from the end has the role and the box that were last in the lists.
-use Rattle.std.proofs.Common.{◌≡◌, ◌<◌, ◌-◌, Some, Box, length, slice_index_or, sym, ap, ◌∙◌, subst, arith}
-use Rattle.std.specs.Global.{Global}
-use Rattle.std.specs.Arc.{arc_value}
-use Rattle.std.proofs.lemmas.List.{length-set}
-use Rattle.g1_race.specs.Members.{race_id}
-use Rattle.g1_handles.specs.declared.member.Member.{Member}
-use Rattle.g1_handles.specs.Racing.{counts_of, role_in, IsOf}
-use Rattle.g1_handles.proofs.Seating.{WaitedAs, popped, still, placed, all_alike, all_found, all_of}
+use Rattle.std.specs.Prelude.{◌≡◌, ◌<◌, ◌-◌}
+use Rattle.g1_handles.specs.{Some, Box, length, slice_index_or, sym, ap, ◌∙◌, subst, arith, Global, arc_value, length-set, Member, counts_of, role_in, IsOf}
+use Rattle.g1_handles.proofs.{WaitedAs, popped, still, placed, all_alike, all_found, all_of}
 use Rattle.g1_handles.proofs.heap.resume.hand_out_to.Goals as goal
-
-pub seat-requires : goal.seat-requires
-seat-requires g c =
-    let i = c.loop-left.invariant in
-    let n = c.loop-left.left in
-    let some : 0 < n = omega (arith, c.loop-left-test.true) in
-    let m = c.in-Some.member in
-    let role = c.in-Some-pop.role in
-    let box = popped c.args.boxes.now.items c.loop-left.boxes.items n _ m m some i.boxes i.box_rest (c.in-Some.ensures.value m (omega (arith, i.boxes))) in
-    let last = popped c.args.roles.now.items c.loop-left.roles.items n _ role role some i.roles i.role_rest (c.in-Some-pop.ensures.value role (omega (arith, i.roles))) in
-    let race = c.requires.0 in
-    let for = c.requires.1 in
-    let waiting : arc_value m.value.race ≡ race = subst (λ (b : Box (Member g.row.P.Denot g.P.Role) Global). arc_value b.value.race ≡ race) (sym box)
-    (for.waiting (n - 1) m (omega (arith, i.below, i.sized, for.box_count, c.args.boxes.now.ok.0))) in
-    let of : g.P.Role.of role ≡ race_id race = subst (λ (p : g.row.P.Denot). g.P.Role.of p ≡ race_id race) (sym last)
-    (for.of (n - 1) role (omega (arith, i.below, i.sized, for.role_count, c.args.roles.now.ok.0))) in
-    of ∙ ap race_id (sym (ap (λ (x : Member g.row.P.Denot g.P.Role). arc_value x.race) c.deref_mut.ensures.value ∙ waiting))
 
 pub loop-left-preserved : goal.loop-left-preserved
 loop-left-preserved g c =

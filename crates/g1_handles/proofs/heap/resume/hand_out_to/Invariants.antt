@@ -1,10 +1,7 @@
 -- The handles from the last one down to this have their roles, and the others' are still in the lists.
-use Rattle.std.proofs.Common.{◌≡◌, ◌<◌, ◌≤◌, ℕ, Some, Box, length, slice_index_or, vec_len}
-use Rattle.std.specs.Prelude.{vec_capacity}
-use Rattle.std.specs.Global.{Global}
-use Rattle.g1_handles.specs.declared.member.Member.{Member}
-use Rattle.g1_handles.specs.Racing.{counts_of, role_in}
-use Rattle.g1_handles.proofs.Seating.{WaitedAs}
+use Rattle.std.specs.Prelude.{◌≡◌, ◌<◌, ◌≤◌}
+use Rattle.g1_handles.specs.{ℕ, Some, Box, length, slice_index_or, vec_len, vec_capacity, Global, Member, counts_of, role_in}
+use Rattle.g1_handles.proofs.{WaitedAs}
 use Rattle.g1_handles.proofs.heap.resume.hand_out_to.Given as goal
 
 abbrev pub invariant-loop-left : goal.invariant-loop-left

@@ -1,19 +1,9 @@
 -- The race goes on as the pause left it, with the members that are handed out.
-use Rattle.std.proofs.Common.{rules, ◌≡◌, List, Some, None, All, map, sym, ap, ◌∙◌, subst, refl}
-use Rattle.std.specs.Prelude.{Option, IsSomeAnd}
-use Rattle.std.specs.Arc.{arc_value}
-use Rattle.g1_race_words.specs.Begin.{Start}
-use Rattle.g1_race.specs.declared.race.Race.{Race}
-use Rattle.g1_race.specs.Members.{racer_log, IsNewRacer, IsNewSweeper}
-use Rattle.g1_race.specs.Over.{start_at}
+use Rattle.std.specs.Prelude.{◌≡◌}
+use Rattle.g1_handles.specs.{rules, List, Some, None, All, map, sym, ap, ◌∙◌, subst, refl, Option, IsSomeAnd, arc_value, Start, Race, racer_log, IsNewRacer, IsNewSweeper, start_at, UnderWay, RacingHeap, RacerMember, SweeperMember, OfPaused, GoesOn, LetsGo, IsLetGo, IsNewRacing, IsNewSweeping, boxed_counts, heap_counts, log_of, held_racers, held_sweepers, role_in, IsOf}
 use Rattle.g1_handles.specs.declared.heap.racing_heap.AtPause.{AtPause}
-use Rattle.g1_handles.specs.declared.heap.racing_heap.UnderWay.{UnderWay}
-use Rattle.g1_handles.specs.declared.heap.racing_heap.RacingHeap.{RacingHeap}
 use Rattle.g1_handles.specs.declared.heap.racing_heap.RacingHeap.TheVariants as heap
-use Rattle.g1_handles.specs.Own.{RacerMember, SweeperMember}
-use Rattle.g1_handles.specs.Life.{OfPaused, GoesOn, LetsGo, IsLetGo, IsNewRacing, IsNewSweeping, boxed_counts, heap_counts, log_of}
-use Rattle.g1_handles.specs.Racing.{held_racers, held_sweepers, role_in, IsOf}
-use Rattle.g1_handles.proofs.MemberLemmas.{found, seen_alike}
+use Rattle.g1_handles.proofs.{found, seen_alike}
 use Rattle.g1_handles.proofs.heap.resume.resume_of.Goals as goal
 
 also : {A : Type 0} (P : A → Type 0) (Q : Type 0) (o : Option A) → IsSomeAnd o P → Q → IsSomeAnd o (λ x. Q × P x)

@@ -1,11 +1,7 @@
 -- One card more.
-use Rattle.std.proofs.Common.{◌≡◌, ℕ, ◌+◌, ◌<◌, List, [], ◌∷◌, ◌++◌, Some, None, sym, ap, ◌∙◌, subst, arith}
-use Rattle.std.proofs.lemmas.List.{append_assoc, length_push}
-use Rattle.g1_layout.specs.Shape.{card_count}
-use Rattle.g1_race.specs.Over.{Pause, table_at}
-use Rattle.g1_race.specs.Reading.{IsNextMember}
-use Rattle.g1_handles.specs.Sets.{AreMembersBelow}
-use Rattle.g1_handles.proofs.SetLemmas.{all_below, next_below}
+use Rattle.std.specs.Prelude.{◌≡◌, ◌+◌, ◌<◌, ◌∷◌, ◌++◌}
+use Rattle.g1_handles.specs.{ℕ, List, [], Some, None, sym, ap, ◌∙◌, subst, arith, append_assoc, length_push, card_count, Pause, table_at, IsNextMember, AreMembersBelow}
+use Rattle.g1_handles.proofs.{all_below, next_below}
 use Rattle.g1_handles.proofs.heap.sets.count_from.Goals as goal
 
 pub loop-card-preserved : goal.loop-card-preserved

@@ -1,8 +1,6 @@
 -- The set's cards up to the next number are those up to the first one, and as many more.
-use Rattle.std.proofs.Common.{◌≡◌, ◌+◌, ◌-◌, ◌≤◌, ◌++◌, ℕ, List, length}
-use Rattle.g1_layout.specs.Shape.{card_count}
-use Rattle.g1_race.specs.Over.{table_at}
-use Rattle.g1_handles.specs.Sets.{AreMembersBelow}
+use Rattle.std.specs.Prelude.{◌≡◌, ◌+◌, ◌-◌, ◌≤◌, ◌++◌}
+use Rattle.g1_handles.specs.{ℕ, List, length, card_count, table_at, AreMembersBelow}
 use Rattle.g1_handles.proofs.heap.sets.count_from.Given as goal
 
 abbrev pub invariant-loop-card : goal.invariant-loop-card

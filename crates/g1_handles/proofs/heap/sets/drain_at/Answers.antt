@@ -1,12 +1,8 @@
 -- The set of the table that refinement leaves.
-use Rattle.std.proofs.Common.{ℕ, ◌<◌, sym, subst}
-use Rattle.g1_layout.specs.Shape.{Shape}
-use Rattle.g1_core.specs.Table.{AreMembers}
-use Rattle.g1_race.specs.Over.{Pause, table_at}
-use Rattle.g1_race.specs.Telling.{marked_cards}
+use Rattle.std.specs.Prelude.{◌<◌}
+use Rattle.g1_handles.specs.{ℕ, sym, subst, Shape, AreMembers, Pause, table_at, marked_cards, DrainsAtPause}
 use Rattle.g1_race.proofs.PauseTable.{drain_step, exact_is}
-use Rattle.g1_handles.specs.AtPause.{DrainsAtPause}
-use Rattle.g1_handles.proofs.SetLemmas.{tells_so}
+use Rattle.g1_handles.proofs.{tells_so}
 use Rattle.g1_handles.proofs.heap.sets.drain_at.Goals as goal
 
 pub returns-clause-told : goal.returns-clause-told

@@ -1,11 +1,8 @@
 -- The heap's own answer.
-use Rattle.std.proofs.Common.{ℕ, ◌<◌, sym, subst}
-use Rattle.g1_layout.specs.Shape.{Shape}
-use Rattle.g1_core.specs.Table.{AreMembers}
+use Rattle.std.specs.Prelude.{◌<◌}
+use Rattle.g1_handles.specs.{ℕ, sym, subst, Shape, AreMembers, Pause, table_at, TellsMembers}
 use Rattle.g1_core.proofs.QueryLemmas.{members_step}
-use Rattle.g1_race.specs.Over.{Pause, table_at}
-use Rattle.g1_handles.specs.AtPause.{TellsMembers}
-use Rattle.g1_handles.proofs.SetLemmas.{tells_so}
+use Rattle.g1_handles.proofs.{tells_so}
 use Rattle.g1_handles.proofs.heap.sets.members_at.Goals as goal
 
 pub returns-clause-told : goal.returns-clause-told

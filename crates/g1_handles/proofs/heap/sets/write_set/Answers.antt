@@ -1,12 +1,7 @@
 -- The next card of the set goes behind those that are written.
-use Rattle.std.proofs.Common.{◌≡◌, ℕ, ◌+◌, ◌<◌, ◌≤◌, List, [], ◌∷◌, ◌++◌, length, take, Some, sym, ◌∙◌, subst, arith}
-use Rattle.std.proofs.lemmas.List.{drop-set-lt, length-set, take_more_set}
-use Rattle.g1_layout.specs.Shape.{card_count}
-use Rattle.g1_core.specs.Table.{AreMembers}
-use Rattle.g1_race.specs.Over.{Pause, table_at}
-use Rattle.g1_race.specs.Reading.{IsNextMember}
-use Rattle.g1_handles.specs.Sets.{AreMembersBelow}
-use Rattle.g1_handles.proofs.SetLemmas.{next_below, none_more, taken}
+use Rattle.std.specs.Prelude.{◌≡◌, ◌+◌, ◌<◌, ◌≤◌, ◌∷◌, ◌++◌}
+use Rattle.g1_handles.specs.{ℕ, List, [], length, take, Some, sym, ◌∙◌, subst, arith, drop-set-lt, length-set, take_more_set, card_count, AreMembers, Pause, table_at, IsNextMember, AreMembersBelow}
+use Rattle.g1_handles.proofs.{next_below, none_more, taken}
 use Rattle.g1_handles.proofs.heap.sets.write_set.Goals as goal
 
 pub loop-count-preserved : goal.loop-count-preserved

@@ -1,8 +1,7 @@
 -- The front of the array has the set's cards up to the next number.
-use Rattle.std.proofs.Common.{◌≡◌, ◌-◌, ◌≤◌, ℕ, length, take, drop}
-use Rattle.g1_layout.specs.Shape.{card_count}
-use Rattle.g1_race.specs.Over.{table_at}
-use Rattle.g1_handles.specs.Sets.{AreMembersBelow}
+use Rattle.std.specs.Prelude.{◌≡◌, ◌-◌, ◌≤◌}
+use Rattle.g1_handles.specs.{ℕ, length, take, card_count, table_at, AreMembersBelow}
+use Rattle.std.proofs.Common.{drop}
 use Rattle.g1_handles.proofs.heap.sets.write_set.Given as goal
 
 abbrev pub invariant-loop-count : goal.invariant-loop-count

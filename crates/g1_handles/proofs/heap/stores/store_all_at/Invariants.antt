@@ -1,6 +1,5 @@
 -- The first i stores were made.
-use Rattle.std.proofs.Common.{take}
-use Rattle.g1_handles.specs.AtPause.{StoresAllAt}
+use Rattle.g1_handles.specs.{take, StoresAllAt}
 use Rattle.g1_handles.proofs.heap.stores.store_all_at.Given as goal
 
 abbrev pub invariant-loop-i : goal.invariant-loop-i

@@ -1,7 +1,5 @@
 -- The heap's own answer.
-use Rattle.std.proofs.Common.{ℕ, Option, subst}
-use Rattle.g1_handles.specs.AtPause.{StoresAt}
-use Rattle.g1_handles.specs.Codes.{reference_of}
+use Rattle.g1_handles.specs.{ℕ, Option, subst, StoresAt, reference_of}
 use Rattle.g1_handles.proofs.heap.stores.store_at.Goals as goal
 
 pub returns-clause-stored : goal.returns-clause-stored

@@ -1,8 +1,5 @@
 -- What the pause finds is told by words, and the first search changes nothing.
-use Rattle.std.proofs.Common.{ℕ, Option, length, map, subst, sym}
-use Rattle.g1_core.specs.Verify.{IsFirst, IsMissing, Differs}
-use Rattle.g1_race.specs.Over.{Pause, table_at}
-use Rattle.g1_handles.specs.Codes.{reference_of}
+use Rattle.g1_handles.specs.{ℕ, Option, length, map, subst, sym, IsFirst, IsMissing, Differs, Pause, table_at, reference_of}
 use Rattle.g1_handles.proofs.heap.verify.verify_at.Goals as goal
 
 pub returns-clause-found : goal.returns-clause-found

@@ -1,6 +1,5 @@
 -- The heap's own answer.
-use Rattle.std.proofs.Common.{ℕ, subst}
-use Rattle.g1_handles.specs.AtPause.{StoresDataAt}
+use Rattle.g1_handles.specs.{ℕ, subst, StoresDataAt}
 use Rattle.g1_handles.proofs.heap.words.store_data_at.Goals as goal
 
 pub returns-clause-stored : goal.returns-clause-stored

@@ -1,7 +1,6 @@
 -- One store more, or why there is none.
-use Rattle.std.proofs.Common.{subst, sym, ◌∙◌}
-use Rattle.g1_handles.specs.Racing.{Racing, racing}
-use Rattle.g1_handles.specs.RaceStores.{StoresFirst, IsEnd}
+use Rattle.g1_handles.specs.{subst, sym, ◌∙◌, racing, StoresFirst, IsEnd}
+use Rattle.g1_handles.specs.Racing.{Racing}
 use Rattle.g1_handles.proofs.BatchLemmas.{stores_next, stores_end, stores_whole}
 use Rattle.g1_handles.proofs.member.batch.store_each.Goals as goal
 

@@ -1,8 +1,6 @@
 -- The first i stores were made.
-use Rattle.std.proofs.Common.{◌≡◌, take}
-use Rattle.g1_race.specs.Members.{racer_race}
-use Rattle.g1_handles.specs.Racing.{racing}
-use Rattle.g1_handles.specs.RaceStores.{StoresAll}
+use Rattle.std.specs.Prelude.{◌≡◌}
+use Rattle.g1_handles.specs.{take, racer_race, racing, StoresAll}
 use Rattle.g1_handles.proofs.member.batch.store_each.Given as goal
 
 abbrev pub invariant-loop-i : goal.invariant-loop-i

@@ -1,6 +1,6 @@
 -- A call that is refused leaves the racer as it was.
-use Rattle.std.proofs.Common.{refl}
-use Rattle.g1_handles.proofs.MemberLemmas.{same_member}
+use Rattle.g1_handles.specs.{refl}
+use Rattle.g1_handles.proofs.{same_member}
 use Rattle.g1_handles.proofs.member.log.take_log_by.Goals as goal
 
 pub returns-in_default-clause-refused : goal.returns-in_default-clause-refused

@@ -1,6 +1,6 @@
 -- A question leaves the reader as it was.
-use Rattle.std.proofs.Common.{Some, refl, sym, ap, ◌∙◌}
-use Rattle.g1_handles.proofs.MemberLemmas.{same_member}
+use Rattle.g1_handles.specs.{Some, refl, sym, ap, ◌∙◌}
+use Rattle.g1_handles.proofs.{same_member}
 use Rattle.g1_handles.proofs.member.reader_queries.has_by.Goals as goal
 
 pub returns-in_default-clause-same : goal.returns-in_default-clause-same

@@ -1,6 +1,6 @@
 -- A store that is refused leaves the racer as it was.
-use Rattle.std.proofs.Common.{Some, refl, sym, ap, ◌∙◌}
-use Rattle.g1_handles.proofs.MemberLemmas.{on_err, same_member}
+use Rattle.g1_handles.specs.{Some, refl, sym, ap, ◌∙◌}
+use Rattle.g1_handles.proofs.{on_err, same_member}
 use Rattle.g1_handles.proofs.member.store.store_by.Goals as goal
 
 pub returns-in_default-clause-refused : goal.returns-in_default-clause-refused

@@ -1,6 +1,6 @@
 -- A call that is refused leaves the racer as it was.
-use Rattle.std.proofs.Common.{refl, sym}
-use Rattle.g1_handles.proofs.MemberLemmas.{if_err, same_member}
+use Rattle.g1_handles.specs.{refl, sym}
+use Rattle.g1_handles.proofs.{if_err, same_member}
 use Rattle.g1_handles.proofs.member.words.compare_exchange_word_by.Goals as goal
 
 pub returns-in_default-clause-refused : goal.returns-in_default-clause-refused

@@ -1,36 +1,16 @@
 -- `into_raw_box` gives what is owned to a raw box, where there is something.
-use Rattle.std.proofs.Common.{◌≡◌, List, [], ◌∷◌, ◌++◌, refl, subst, lit<}
-use Rattle.std.specs.Prelude.{Some, None}
-use mir.Syntax.{Fn, a_type, dcons, dnil}
-use mir.MapTy.{inst_fn}
-use mir.Val.{Val, vptr, vnull, vcons, vnil}
-use base.Logic.{SProp, emp}
-use prog.Wp.{WpFn}
-use contract.Monad.{fact, fact_i}
-use contract.Running.{tables}
-use types.Kit.{‵, raw, ◌⊛◌, prop, at_ret, ◌$◌, ◌∵◌, !, qed, by, move, keep, drop, use0, use1, split, regoal, fsplit, fjoin}
-use types.Part.{whole, sub, agg}
+use Rattle.std.specs.Prelude.{◌≡◌, ◌∷◌, ◌++◌}
+use Rattle.g1_handles.specs.{List, [], refl, subst, lit<, Some, None, SProp, emp, WpFn, fact, fact_i, tables, Ptr, block_ptr, ptr_val, tests_null, ghosts}
+use Rattle.g1_handles.proofs.{Fn, a_type, dcons, dnil, inst_fn, Val, vptr, vnull, vcons, vnil, ‵, raw, ◌⊛◌, prop, at_ret, ◌$◌, ◌∵◌, !, qed, by, move, keep, drop, use0, use1, split, regoal, fsplit, fjoin, whole, sub, agg, stop, fld, lit, of_opd, bin, no_more, and_then, first, branches, exec, returns, enter, alloc_all, pass_all, free_all, look_at, get, get_in, sets, sets_last, env, RattleType, owns, types_at, type_at, nothing, param, layout, bounded, Good, after, and_tt, both, RawBox, raw_box_good, raw_box_in, Z, closed_good, words_out, either}
 use types.Match.{live}
-use types.Run.{stop, fld, lit, of_opd, bin, no_more, and_then, first, branches, exec, returns, enter}
-use types.ByLocal.{alloc_all, pass_all, free_all, look_at, get, get_in, sets, sets_last, env}
-use denote.RattleType.{RattleType, owns}
-use denote.RawPtr.{Ptr, block_ptr, ptr_val, tests_null}
-use denote.Signature.{types_at, type_at, plain}
-use denote.Steps.{nothing}
-use denote.Param.{param, layout, bounded}
+use denote.Signature.{plain}
 use denote.Triple.Entry.{alive}
 use denote.Triple.Walked.{Stays, stay_dropped, walk_of}
 use Rattle.std.proofs.alloc.Calls.{Goes-blank}
-use Rattle.std.proofs.cell.Inside.{Good}
-use Rattle.core.proofs.alloc.Shapes.{after}
 use Rattle.core.proofs.option.Made.{Some-of, none_of}
 use Rattle.std.proofs.raw_atomic.Walks.{proved_at, leaves}
-use Rattle.std.specs.contracts.impls.GlobalAllocator.TheImpl.{ghosts}
 use Rattle.std.proofs.alloc.Global.TheLaws as laws
-use Rattle.std_alloc.proofs.ResultValues.{and_tt}
-use Rattle.g1_handles.proofs.RawBoxes.{both, RawBox, raw_box_good, raw_box_in}
 use Rattle.g1_handles.specs.contracts.nullable_box.NullableBox as boxed
-use Rattle.g1_handles.proofs.Values.{Z, closed_good, words_out, either}
 use Rattle.g1_handles.specs.contracts.nullable_box.NullableBox.into_raw_box.{ended, clauses}
 use Rattle.g1_handles.specs.contracts.nullable_box.NullableBox.into_raw_box.Key.{name as #self}
 use Rattle.g1_handles.proofs.nullable_box.NullableBox.into_raw_box.Statement.{statement}

@@ -1,30 +1,13 @@
 -- `null` puts null and the allocator together.
-use Rattle.std.proofs.Common.{◌≡◌, List, [], ◌∷◌, ◌++◌, refl, sym, subst}
-use Rattle.std.specs.Prelude.{Option, None}
-use mir.Syntax.{Fn, a_type, dcons, dnil}
-use mir.MapTy.{inst_fn}
-use mir.Val.{Val, vnull}
-use base.Logic.{SProp, ent, emp, id⊢}
-use prog.Wp.{WpFn}
-use contract.Monad.{fact, fact_i}
-use contract.Running.{tables}
-use types.Kit.{‵, raw, ◌⊛◌, ◌$◌, ◌∵◌, !, qed, by, move, keep, drop, use0, split, suffices, fsplit, fjoin, feq_i, rewrite}
-use types.Part.{agg}
-use types.Run.{lit, no_more, and_then, returns, enter}
-use types.ByLocal.{alloc_all, pass_all, free_all, look_at, get, sets}
-use denote.RattleType.{RattleType, owns}
-use denote.RawPtr.{null_ptr}
-use denote.Signature.{types_at, plain}
-use denote.Steps.{nothing}
-use denote.Param.{param, layout, bounded}
+use Rattle.std.specs.Prelude.{◌≡◌, ◌∷◌, ◌++◌}
+use Rattle.g1_handles.specs.{List, [], refl, sym, subst, Option, None, SProp, ent, emp, id⊢, WpFn, fact, fact_i, tables, null_ptr}
+use Rattle.g1_handles.proofs.{Fn, a_type, dcons, dnil, inst_fn, Val, vnull, ‵, raw, ◌⊛◌, ◌$◌, ◌∵◌, !, qed, by, move, keep, drop, use0, split, suffices, fsplit, fjoin, feq_i, rewrite, agg, lit, no_more, and_then, returns, enter, alloc_all, pass_all, free_all, look_at, get, sets, RattleType, owns, types_at, nothing, param, layout, bounded, Goes-dropped, one, both, Z, closed_good, words_in}
+use denote.Signature.{plain}
 use denote.Triple.Entry.{alive}
-use denote.Triple.Walked.{Stays, stay_dropped, walk_of, Goes-dropped}
-use Rattle.std.proofs.cell.Inside.{one}
+use denote.Triple.Walked.{Stays, stay_dropped, walk_of}
 use Rattle.std.proofs.raw_atomic.Walks.{proved_at, leaves}
 use Rattle.std.proofs.alloc.Global.TheLaws as laws
-use Rattle.g1_handles.proofs.RawBoxes.{both}
 use Rattle.g1_handles.specs.contracts.nullable_box.NullableBox as boxed
-use Rattle.g1_handles.proofs.Values.{Z, closed_good, words_in}
 use Rattle.g1_handles.specs.contracts.nullable_box.NullableBox.null.{ended, clauses}
 use Rattle.g1_handles.specs.contracts.nullable_box.NullableBox.null.Key.{name as #self}
 use Rattle.g1_handles.proofs.nullable_box.NullableBox.null.Statement.{statement}

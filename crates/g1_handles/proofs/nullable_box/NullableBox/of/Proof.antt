@@ -1,31 +1,14 @@
 -- `of` takes over what a raw box owns.
-use Rattle.std.proofs.Common.{◌≡◌, List, [], ◌∷◌, ◌++◌, refl}
-use Rattle.std.specs.Prelude.{Some}
-use mir.Syntax.{Fn, a_type, dcons, dnil}
-use mir.MapTy.{inst_fn}
-use mir.Val.{Val, vptr}
-use base.Logic.{SProp, emp}
-use prog.Wp.{WpFn}
-use contract.Monad.{fact, fact_i}
-use contract.Running.{tables}
-use types.Kit.{‵, raw, ◌⊛◌, prop, ◌$◌, ◌∵◌, !, qed, by, move, keep, drop, use0, split, regoal, fsplit, fjoin}
-use types.Part.{whole, sub, agg}
-use types.Run.{stop, fld, of_opd, no_more, and_then, returns, enter}
-use types.ByLocal.{alloc_all, pass_all, free_all, look_at, get, get_in, sets}
-use denote.RattleType.{RattleType, owns}
-use denote.RawPtr.{block_ptr}
-use denote.Signature.{types_at, plain}
-use denote.Steps.{nothing}
-use denote.Param.{param, bounded}
+use Rattle.std.specs.Prelude.{◌≡◌, ◌∷◌, ◌++◌}
+use Rattle.g1_handles.specs.{List, [], refl, Some, SProp, emp, WpFn, fact, fact_i, tables, block_ptr, ghosts}
+use Rattle.g1_handles.proofs.{Fn, a_type, dcons, dnil, inst_fn, Val, vptr, ‵, raw, ◌⊛◌, prop, ◌$◌, ◌∵◌, !, qed, by, move, keep, drop, use0, split, regoal, fsplit, fjoin, whole, sub, agg, stop, fld, of_opd, no_more, and_then, returns, enter, alloc_all, pass_all, free_all, look_at, get, get_in, sets, RattleType, owns, types_at, nothing, param, bounded, both, RawBox, raw_box_good, raw_box_out, Z, some_in, words_in}
+use denote.Signature.{plain}
 use denote.Triple.Entry.{alive}
 use denote.Triple.Walked.{Stays, stay_dropped, walk_of}
 use Rattle.std.proofs.alloc.Calls.{Goes-blank}
 use Rattle.std.proofs.raw_atomic.Walks.{proved_at, leaves}
-use Rattle.std.specs.contracts.impls.GlobalAllocator.TheImpl.{ghosts}
 use Rattle.std.proofs.alloc.Global.TheLaws as laws
-use Rattle.g1_handles.proofs.RawBoxes.{both, RawBox, raw_box_good, raw_box_out}
 use Rattle.g1_handles.specs.contracts.nullable_box.NullableBox as boxed
-use Rattle.g1_handles.proofs.Values.{Z, some_in, words_in}
 use Rattle.g1_handles.specs.contracts.nullable_box.NullableBox.of.{ended, clauses}
 use Rattle.g1_handles.specs.contracts.nullable_box.NullableBox.of.Key.{name as #self}
 use Rattle.g1_handles.proofs.nullable_box.NullableBox.of.Statement.{statement}

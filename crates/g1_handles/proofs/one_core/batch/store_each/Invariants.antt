@@ -1,6 +1,6 @@
 -- The first i stores were made, and each logged one card at most.
-use Rattle.std.proofs.Common.{◌≡◌, ◌≤◌, length, take}
-use Rattle.g1_handles.specs.Batch.{made_all}
+use Rattle.std.specs.Prelude.{◌≡◌, ◌≤◌}
+use Rattle.g1_handles.specs.{length, take, made_all}
 use Rattle.g1_handles.proofs.one_core.batch.store_each.Given as goal
 
 abbrev pub invariant-loop-i : goal.invariant-loop-i

@@ -1,7 +1,6 @@
 -- There are no more members than cards.
-use Rattle.std.proofs.Common.{ℕ, subst}
-use Rattle.g1_handles.specs.Queries.{HasMembers}
-use Rattle.g1_handles.proofs.RoomLemmas.{few_members, fits_words}
+use Rattle.g1_handles.specs.{ℕ, subst, HasMembers}
+use Rattle.g1_handles.proofs.{few_members, fits_words}
 use Rattle.g1_handles.proofs.ListLemmas.{lists_so}
 use Rattle.g1_handles.proofs.one_core.members.members_in.Goals as goal
 

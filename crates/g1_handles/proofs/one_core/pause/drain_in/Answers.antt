@@ -1,15 +1,8 @@
 -- No list is longer than the heap has cards.
-use Rattle.std.proofs.Common.{◌≡◌, ℕ, ap, subst, arith}
-use Rattle.g1_layout.specs.Shape.{card_count}
-use Rattle.g1_core.specs.Calls.{drain_cards, drain_refined}
-use Rattle.g1_handles.specs.Replies.{DrainsTo}
-use Rattle.g1_handles.proofs.RoomLemmas.{few_refined, few_drained, fits_words}
+use Rattle.std.specs.Prelude.{◌≡◌}
+use Rattle.g1_handles.specs.{ap, arith, card_count, drain_cards, drain_refined}
+use Rattle.g1_handles.proofs.{few_refined, few_drained, fits_words}
 use Rattle.g1_handles.proofs.one_core.pause.drain_in.Goals as goal
-
-pub returns-in-Ok-clause-drained : goal.returns-in-Ok-clause-drained
-returns-in-Ok-clause-drained c =
-    subst (λ (region : ℕ). DrainsTo c.args.core.now region c.in-Ok.answer c.drain.new.self) c.in-Some.ensures.1
-    (record { drained = c.in-Ok.ensures.did.drained; step = c.in-Ok.ensures.step; later = c.in-Ok.ensures.later })
 
 pub returns-in-Ok-clause-cards : goal.returns-in-Ok-clause-cards
 returns-in-Ok-clause-cards c =

@@ -1,6 +1,5 @@
 -- The core's own answer.
-use Rattle.std.proofs.Common.{ℕ, subst}
-use Rattle.g1_handles.specs.Queries.{IsToldPending}
+use Rattle.g1_handles.specs.{ℕ, subst, IsToldPending}
 use Rattle.g1_handles.proofs.one_core.queries.is_pending_in.Goals as goal
 
 pub returns-clause-pending : goal.returns-clause-pending

@@ -1,7 +1,5 @@
 -- The word stands for what the core answers.
-use Rattle.std.proofs.Common.{ℕ, Option, sym, subst}
-use Rattle.g1_handles.specs.Codes.{reference_of}
-use Rattle.g1_handles.specs.Queries.{RefersTo}
+use Rattle.g1_handles.specs.{ℕ, Option, sym, subst, reference_of, RefersTo}
 use Rattle.g1_handles.proofs.one_core.queries.target_in.Goals as goal
 
 pub returns-clause-target : goal.returns-clause-target

@@ -1,9 +1,7 @@
 -- No more cards are refined than the heap has.
-use Rattle.std.proofs.Common.{◌≡◌, ℕ, ap, subst, arith}
-use Rattle.g1_layout.specs.Shape.{card_count}
-use Rattle.g1_core.specs.Calls.{redirect_refined}
-use Rattle.g1_handles.specs.Replies.{RedirectsTo}
-use Rattle.g1_handles.proofs.RoomLemmas.{few_refined, fits_words}
+use Rattle.std.specs.Prelude.{◌≡◌}
+use Rattle.g1_handles.specs.{ℕ, ap, subst, arith, card_count, redirect_refined, RedirectsTo}
+use Rattle.g1_handles.proofs.{few_refined, fits_words}
 use Rattle.g1_handles.proofs.one_core.redirection.redirect_in.Goals as goal
 
 pub returns-in-Ok-clause-redirected : goal.returns-in-Ok-clause-redirected

@@ -1,5 +1,6 @@
 -- The list has the first i cards.
-use Rattle.std.proofs.Common.{◌≡◌, take}
+use Rattle.std.specs.Prelude.{◌≡◌}
+use Rattle.g1_handles.specs.{take}
 use Rattle.g1_handles.proofs.one_core.refinement.buffer_of.Given as goal
 
 abbrev pub invariant-loop-i : goal.invariant-loop-i

@@ -1,5 +1,6 @@
 -- A turn refines one card at most.
-use Rattle.std.proofs.Common.{◌≡◌, ◌≤◌, ◌+◌, length, ap, arith}
+use Rattle.std.specs.Prelude.{◌≡◌, ◌≤◌, ◌+◌}
+use Rattle.g1_handles.specs.{length, ap, arith}
 use Rattle.g1_core.proofs.LengthLemmas.{turned_few}
 use Rattle.g1_handles.proofs.one_core.refinement.refine_in.Goals as goal
 

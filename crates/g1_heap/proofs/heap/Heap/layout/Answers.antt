@@ -1,6 +1,5 @@
-use Rattle.std.proofs.Common.{subst}
-use Rattle.g1_heap.specs.Cells.{AreCells}
-use Rattle.g1_heap.proofs.CellLemmas.{cells_from}
+use Rattle.g1_heap.specs.{subst, AreCells}
+use Rattle.g1_heap.proofs.{cells_from}
 use Rattle.g1_heap.proofs.heap.Heap.layout.Goals as goal
 
 pub returns-clause-cells : goal.returns-clause-cells

@@ -1,8 +1,6 @@
-use Rattle.std.proofs.Common.{subst, List, ℕ, map}
-use Rattle.g1_heap.specs.Cells.{AreCells, Cells}
-use Rattle.g1_heap.specs.Stored.{ref_of}
-use Rattle.g1_heap.specs.Targets.{AreNewTargets}
-use Rattle.g1_heap.proofs.CellLemmas.{cells_from}
+use Rattle.g1_heap.specs.{subst, List, ℕ, map, AreCells, ref_of, AreNewTargets}
+use Rattle.g1_heap.specs.Cells.{Cells}
+use Rattle.g1_heap.proofs.{cells_from}
 use Rattle.g1_heap.proofs.HoldLemmas.{targets_within}
 use Rattle.g1_heap.proofs.heap.Heap.list_targets.Goals as goal
 

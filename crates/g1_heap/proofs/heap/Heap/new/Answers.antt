@@ -1,6 +1,5 @@
-use Rattle.std.proofs.Common.{rules, arith}
-use Rattle.g1_layout.proofs.ShapeLemmas.{slot_count_limit}
-use Rattle.g1_heap.proofs.CellLemmas.{new_parts}
+use Rattle.g1_heap.specs.{rules, arith, slot_count_limit}
+use Rattle.g1_heap.proofs.{new_parts}
 use Rattle.g1_heap.proofs.heap.Heap.new.Goals as goal
 
 pub returns : goal.returns

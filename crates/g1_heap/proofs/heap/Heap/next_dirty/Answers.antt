@@ -1,7 +1,5 @@
-use Rattle.std.proofs.Common.{ap, ◌∙◌, arith, map}
-use Rattle.g1_layout.specs.Shape.{card_count}
+use Rattle.g1_heap.specs.{ap, ◌∙◌, arith, map, card_count, mark_of}
 use Rattle.g1_heap.specs.Cells.{Cells}
-use Rattle.g1_heap.specs.Stored.{mark_of}
 use Rattle.g1_heap.proofs.DirtyLemmas.{none_next, some_next}
 use Rattle.g1_heap.proofs.heap.Heap.next_dirty.Goals as goal
 

@@ -1,9 +1,7 @@
-use Rattle.std.proofs.Common.{◌<◌, ℕ, List, get_or, map, sym, subst, ◌∙◌, arith}
-use Rattle.g1_layout.specs.Shape.{slot_count}
+use Rattle.std.specs.Prelude.{◌<◌}
+use Rattle.g1_heap.specs.{ℕ, List, get_or, map, sym, subst, ◌∙◌, arith, slot_count, ref_of, HasNoneInto, IsNextInto}
 use Rattle.g1_heap.specs.Cells.{Cells}
-use Rattle.g1_heap.specs.Stored.{ref_of}
-use Rattle.g1_heap.specs.Entering.{HasNoneInto, IsNextInto}
-use Rattle.g1_heap.proofs.RowLemmas.{row_of, row_length}
+use Rattle.g1_heap.proofs.{row_of, row_length}
 use Rattle.g1_heap.proofs.EnteringLemmas.{row_words, none_into, next_into, between_below, place_is, has_place}
 use Rattle.g1_heap.proofs.heap.Heap.next_into.Goals as goal
 

@@ -1,7 +1,6 @@
-use Rattle.std.proofs.Common.{arith, sym, ap, ◌∙◌}
-use Rattle.g1_layout.proofs.ShapeLemmas.{slot_count_limit}
+use Rattle.g1_heap.specs.{arith, sym, ap, ◌∙◌, slot_count_limit}
 use Rattle.g1_heap.specs.Cells.{Cells}
-use Rattle.g1_heap.proofs.CellLemmas.{written, ref_of-some, ref_of-null}
+use Rattle.g1_heap.proofs.{written, ref_of-some, ref_of-null}
 use Rattle.g1_heap.proofs.heap.Heap.set.Goals as goal
 use Rattle.g1_heap.proofs.heap.Heap.set.Goals.{in-Some, in-None}
 

@@ -1,4 +1,4 @@
-use Rattle.g1_heap.proofs.CellLemmas.{marked}
+use Rattle.g1_heap.proofs.{marked}
 use Rattle.g1_heap.proofs.heap.Heap.set_mark.Goals as goal
 
 pub returns : goal.returns

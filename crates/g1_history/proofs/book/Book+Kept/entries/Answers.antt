@@ -1,8 +1,6 @@
-use Rattle.std.proofs.Common.{subst}
-use Rattle.g1_core.specs.Machine.{IsSound}
-use Rattle.g1_core.specs.Table.{IsCovered}
-use Rattle.g1_history.specs.History.{History, table_in}
-use Rattle.g1_history.proofs.HistoryLemmas.{history_covered}
+use Rattle.g1_history.specs.{subst, IsSound, IsCovered, table_in}
+use Rattle.g1_history.specs.History.{History}
+use Rattle.g1_history.proofs.{history_covered}
 use Rattle.g1_history.proofs.book.Book+Kept.entries.Goals as goal
 
 pub returns-clause-cover : goal.returns-clause-cover

@@ -1,7 +1,5 @@
-use Rattle.std.proofs.Common.{ap, arith, ◌∙◌}
-use Rattle.g1_layout.specs.Shape.{card_count}
-use Rattle.g1_core.proofs.LengthLemmas.{refined_few}
-use Rattle.g1_history.proofs.HistoryLemmas.{call_kept, call_made, drain_answers, drain_few}
+use Rattle.g1_history.specs.{ap, arith, ◌∙◌, card_count, refined_few}
+use Rattle.g1_history.proofs.{call_kept, call_made, drain_answers, drain_few}
 use Rattle.g1_history.proofs.book.Book.drain.Goals as goal
 
 pub enter_drain-requires-clause-cards : goal.enter_drain-requires-clause-cards

@@ -1,4 +1,4 @@
-use Rattle.g1_history.proofs.HistoryLemmas.{call_kept, call_made, same_later}
+use Rattle.g1_history.proofs.{call_kept, call_made, same_later}
 use Rattle.g1_history.proofs.book.Book.is_pending.Goals as goal
 
 pub invariant_of-self-2 : goal.invariant_of-self-2

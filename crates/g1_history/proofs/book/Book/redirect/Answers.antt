@@ -1,6 +1,5 @@
-use Rattle.std.proofs.Common.{ℕ, length, ap, arith}
-use Rattle.g1_core.proofs.LengthLemmas.{refined_few}
-use Rattle.g1_history.proofs.HistoryLemmas.{call_kept, call_made}
+use Rattle.g1_history.specs.{ℕ, length, ap, arith, refined_few}
+use Rattle.g1_history.proofs.{call_kept, call_made}
 use Rattle.g1_history.proofs.book.Book.redirect.Goals as goal
 
 pub enter_refined-requires-clause-room : goal.enter_refined-requires-clause-room

@@ -1,6 +1,6 @@
-use Rattle.std.proofs.Common.{arith}
+use Rattle.g1_history.specs.{arith}
 use Rattle.g1_history.proofs.RoomLemmas.{refinement_few}
-use Rattle.g1_history.proofs.HistoryLemmas.{call_kept, call_made}
+use Rattle.g1_history.proofs.{call_kept, call_made}
 use Rattle.g1_history.proofs.book.Book.refine.Goals as goal
 
 pub enter_refined-requires-clause-room : goal.enter_refined-requires-clause-room

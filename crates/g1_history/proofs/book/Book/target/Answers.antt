@@ -1,4 +1,4 @@
-use Rattle.g1_history.proofs.HistoryLemmas.{call_kept, call_made}
+use Rattle.g1_history.proofs.{call_kept, call_made}
 use Rattle.g1_history.proofs.book.Book.target.Goals as goal
 
 pub invariant_of-self-2 : goal.invariant_of-self-2

@@ -1,5 +1,5 @@
-use Rattle.std.proofs.Common.{◌≡◌, Some, IfSome, true, false, rules, subst}
-use Rattle.crossbeam_queue.specs.Passes.{view}
+use Rattle.std.specs.Prelude.{◌≡◌}
+use Rattle.g1_log.specs.{Some, IfSome, true, false, rules, subst, view}
 use Rattle.g1_log.proofs.Ending.{drains, learns_rest}
 use Rattle.g1_log.proofs.ends.Settled.next.Goals as goal
 

@@ -1,8 +1,5 @@
-use Rattle.std.proofs.Common.{◌≡◌, ◌∙◌, vec_len, length, refl, sym, rules, arith, subst}
-use Rattle.std.proofs.lemmas.Iterator.Adapters.{YieldsList-from_vec}
-use Rattle.std.proofs.lemmas.Iterator.Consumers.{YieldsList-turn}
-use Rattle.g1_log.specs.Line.{whole}
-use Rattle.g1_log.specs.Ends.{IsSenderOf}
+use Rattle.std.specs.Prelude.{◌≡◌}
+use Rattle.g1_log.specs.{◌∙◌, vec_len, length, refl, sym, rules, arith, subst, YieldsList-from_vec, YieldsList-turn, whole, IsSenderOf}
 use Rattle.g1_log.proofs.Merging.{gathers}
 use Rattle.g1_log.proofs.line.Line.gather_senders.Goals as goal
 

@@ -1,7 +1,5 @@
-use Rattle.std.proofs.Common.{◌≡◌, ◌≤◌, ◌*◌, ◌^◌, ◌⊎◌, false, length, map, fold, sum_by}
-use Rattle.crossbeam_queue.specs.Passes.{view, IsPassOf, IsSamePass}
-use Rattle.g1_log.specs.Line.{newcomer, joined}
-use Rattle.g1_log.specs.Ends.{sender_view, put_of}
+use Rattle.std.specs.Prelude.{◌≡◌, ◌≤◌, ◌*◌, ◌^◌, ◌⊎◌}
+use Rattle.g1_log.specs.{false, length, map, fold, sum_by, view, IsPassOf, IsSamePass, newcomer, joined, sender_view, put_of}
 use Rattle.g1_log.proofs.line.Line.gather_senders.Given as goal
 
 abbrev pub invariant-loop-sender : goal.invariant-loop-sender

@@ -1,7 +1,5 @@
-use Rattle.std.proofs.Common.{◌≡◌, ◌∙◌, length, vec_len, sym, rules, subst}
-use Rattle.std.proofs.lemmas.Iterator.Adapters.{YieldsList-from_vec}
-use Rattle.std.proofs.lemmas.Iterator.Consumers.{YieldsList-turn}
-use Rattle.g1_log.specs.Ends.{IsTakerOf}
+use Rattle.std.specs.Prelude.{◌≡◌}
+use Rattle.g1_log.specs.{◌∙◌, length, vec_len, sym, rules, subst, YieldsList-from_vec, YieldsList-turn, IsTakerOf}
 use Rattle.g1_log.proofs.Merging.{gathers}
 use Rattle.g1_log.proofs.line.Line.gather_takers.Goals as goal
 

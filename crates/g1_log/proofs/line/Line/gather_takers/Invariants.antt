@@ -1,7 +1,5 @@
-use Rattle.std.proofs.Common.{◌≡◌, ◌⊎◌, false, map, fold}
-use Rattle.crossbeam_queue.specs.Passes.{view, IsPassOf, IsSamePass}
-use Rattle.g1_log.specs.Line.{newcomer, joined}
-use Rattle.g1_log.specs.Ends.{taker_view}
+use Rattle.std.specs.Prelude.{◌≡◌, ◌⊎◌}
+use Rattle.g1_log.specs.{false, map, fold, view, IsPassOf, IsSamePass, newcomer, joined, taker_view}
 use Rattle.g1_log.proofs.line.Line.gather_takers.Given as goal
 
 abbrev pub invariant-loop-taker : goal.invariant-loop-taker

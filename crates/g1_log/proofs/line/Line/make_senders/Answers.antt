@@ -1,11 +1,7 @@
-use Rattle.std.proofs.Common.{◌≡◌, ◌-◌, ◌+◌, refl, sym, ap, ◌∙◌, subst, sum_by, length, rules, arith}
+use Rattle.std.specs.Prelude.{◌≡◌, ◌-◌, ◌+◌}
+use Rattle.g1_log.specs.{refl, sym, ap, ◌∙◌, subst, sum_by, length, rules, arith, sum_by_push, All, All-push, maker, whole, new_sender, sender_made, IsSenderOf, AreNewSenders, sender_rights}
 use Rattle.std.proofs.lemmas.List.{length_push}
-use Rattle.std.proofs.lemmas.List.Sums.{sum_by_push}
-use Rattle.std.specs.List.{All}
-use Rattle.std.proofs.lemmas.List.Elements.{All-push}
-use Rattle.g1_log.specs.Line.{maker, whole, new_sender, sender_made}
-use Rattle.g1_log.specs.Ends.{IsSenderOf, AreNewSenders, sender_rights}
-use Rattle.g1_log.proofs.Makes.{forks_sender, is_new_sender, AreNewSenders-push}
+use Rattle.g1_log.proofs.{forks_sender, is_new_sender, AreNewSenders-push}
 use Rattle.g1_log.proofs.line.Line.make_senders.Goals as goal
 
 pub another-pass-requires-clause-rule : goal.another-pass-requires-clause-rule

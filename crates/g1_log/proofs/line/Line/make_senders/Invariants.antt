@@ -1,8 +1,5 @@
-use Rattle.std.proofs.Common.{◌≡◌, ◌-◌, length, sum_by}
-use Rattle.std.specs.List.{All}
-use Rattle.crossbeam_queue.specs.Passes.{view, IsPassOf, IsSamePass}
-use Rattle.g1_log.specs.Line.{maker, whole}
-use Rattle.g1_log.specs.Ends.{IsSenderOf, AreNewSenders, sender_rights}
+use Rattle.std.specs.Prelude.{◌≡◌, ◌-◌}
+use Rattle.g1_log.specs.{length, sum_by, All, view, IsPassOf, IsSamePass, maker, whole, IsSenderOf, AreNewSenders, sender_rights}
 use Rattle.g1_log.proofs.line.Line.make_senders.Given as goal
 
 abbrev pub invariant-loop-number : goal.invariant-loop-number

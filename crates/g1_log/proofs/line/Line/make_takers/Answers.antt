@@ -1,6 +1,5 @@
-use Rattle.std.proofs.Common.{arith}
-use Rattle.crossbeam_queue.specs.Passes.{view}
-use Rattle.g1_log.proofs.Makes.{forks_taker}
+use Rattle.g1_log.specs.{arith, view}
+use Rattle.g1_log.proofs.{forks_taker}
 use Rattle.g1_log.proofs.line.Line.make_takers.Goals as goal
 
 pub another-pass-requires-clause-rule : goal.another-pass-requires-clause-rule

@@ -1,8 +1,5 @@
-use Rattle.std.proofs.Common.{◌≡◌, ◌+◌, length, sum_by}
-use Rattle.std.specs.List.{All}
-use Rattle.crossbeam_queue.specs.Passes.{view, IsPassOf}
-use Rattle.g1_log.specs.Line.{maker}
-use Rattle.g1_log.specs.Ends.{IsTakerOf, IsNewTaker, taker_rights}
+use Rattle.std.specs.Prelude.{◌≡◌, ◌+◌}
+use Rattle.g1_log.specs.{length, sum_by, All, view, IsPassOf, maker, IsTakerOf, IsNewTaker, taker_rights}
 use Rattle.g1_log.proofs.line.Line.make_takers.Given as goal
 
 abbrev pub invariant-loop : goal.invariant-loop

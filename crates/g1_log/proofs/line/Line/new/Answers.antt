@@ -1,4 +1,4 @@
-use Rattle.g1_log.proofs.Makes.{forks_opens}
+use Rattle.g1_log.proofs.{forks_opens}
 use Rattle.g1_log.proofs.line.Line.new.Goals as goal
 
 pub another-requires-clause-rule : goal.another-requires-clause-rule

@@ -1,4 +1,4 @@
-use Rattle.g1_log.proofs.Putting.{puts, learns}
+use Rattle.g1_log.proofs.{puts, learns}
 use Rattle.g1_log.proofs.line.Line.put.Goals as goal
 
 pub push_as-requires-clause-rule : goal.push_as-requires-clause-rule

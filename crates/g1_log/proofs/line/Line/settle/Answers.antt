@@ -1,8 +1,5 @@
-use Rattle.std.proofs.Common.{◌≡◌, ◌∙◌, ◌⊎◌, List, false, sym, ap, rules, arith, subst}
-use Rattle.crossbeam_queue.specs.Passes.{view}
-use Rattle.g1_log.specs.declared.parcel.Parcel.{Parcel}
-use Rattle.g1_log.specs.Line.{newcomer, IsLeft}
-use Rattle.g1_log.specs.Ends.{ahead_and}
+use Rattle.std.specs.Prelude.{◌≡◌, ◌⊎◌}
+use Rattle.g1_log.specs.{◌∙◌, List, false, sym, ap, rules, arith, subst, view, Parcel, newcomer, IsLeft, ahead_and}
 use Rattle.g1_log.proofs.Passing.{admits}
 use Rattle.g1_log.proofs.Ending.{learns_left, ends}
 use Rattle.g1_log.proofs.Settles.{gathered, few, gathered_known, all_rights, opened, balance_left, order_left, numbers_left, count_left, ended_left, ended_knows}

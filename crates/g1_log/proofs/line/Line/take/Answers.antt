@@ -1,5 +1,5 @@
 use Rattle.g1_log.proofs.Taking.{takes}
-use Rattle.g1_log.proofs.Putting.{learns}
+use Rattle.g1_log.proofs.{learns}
 use Rattle.g1_log.proofs.line.Line.take.Goals as goal
 
 pub pop_as-requires-clause-rule : goal.pop_as-requires-clause-rule

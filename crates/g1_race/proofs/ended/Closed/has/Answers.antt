@@ -1,11 +1,6 @@
-use Rattle.std.proofs.Common.{◌≡◌, ℕ, get_or, eqb, List, sym, ap, ◌∙◌, subst, arith, eq-eqb}
-use Rattle.std.proofs.lemmas.Bool.{eqb-true}
-use Rattle.std.specs.Int.{bit_at}
-use Rattle.std.specs.Slots.{slots_items}
-use Rattle.g1_race_words.specs.Rule.{bit_word, bit_place, IsPair}
-use Rattle.g1_core.specs.Table.{IsRecorded}
-use Rattle.g1_race.specs.Over.{Ended, table_of}
-use Rattle.g1_race.proofs.Ends.{recorded_set, set_recorded}
+use Rattle.std.specs.Prelude.{◌≡◌}
+use Rattle.g1_race.specs.{ℕ, get_or, eqb, List, sym, ap, ◌∙◌, subst, arith, eq-eqb, eqb-true, bit_at, slots_items, bit_word, bit_place, IsPair, IsRecorded, Ended, table_of}
+use Rattle.g1_race.proofs.{recorded_set, set_recorded}
 use Rattle.g1_race.proofs.ended.Closed.has.Goals as goal
 
 pub returns-then-card-self : goal.returns-then-card-self

@@ -1,13 +1,7 @@
-use Rattle.std.proofs.Common.{◌≡◌, ◌<◌, ℕ, ◌+◌, List, Option, ap, sym, ◌∙◌, subst, arith}
-use mathlib.Core.Option.{some}
-use lib.ListN.{get_elem?}
-use Rattle.g1_layout.specs.Shape.{slot_count}
-use Rattle.g1_race_words.specs.declared.view.Shape.{Shape}
+use Rattle.std.specs.Prelude.{◌≡◌, ◌<◌, ◌+◌}
+use Rattle.g1_race.specs.{ℕ, List, Option, ap, sym, ◌∙◌, subst, arith, some, get_elem?, slot_count, Shape, shape_of, Ended, ended, at_take}
 use Rattle.g1_layout.specs.Shape as layout
-use Rattle.g1_race.specs.Race.{shape_of}
-use Rattle.g1_race.specs.Over.{Ended, ended}
-use Rattle.g1_race_words.proofs.Places.{at_take}
-use Rattle.g1_race.proofs.Ends.{refs_here}
+use Rattle.g1_race.proofs.{refs_here}
 use Rattle.g1_race.proofs.ended.Closed.target_at.Goals as goal
 
 -- the slot's word, in the table

@@ -1,9 +1,5 @@
-use Rattle.std.proofs.Common.{◌≡◌, ℕ, nat_eq, get_or, sym, ap, ◌∙◌}
-use Rattle.std.specs.Int.{bit_at}
-use Rattle.std.specs.Slots.{slots_items}
-use Rattle.std.proofs.lemmas.Nat.Bits.{shr_and_one}
-use Rattle.g1_race_words.specs.Rule.{bit_word}
-use Rattle.g1_race_words.proofs.Plain.{read_is}
+use Rattle.std.specs.Prelude.{◌≡◌}
+use Rattle.g1_race.specs.{ℕ, nat_eq, get_or, sym, ap, ◌∙◌, bit_at, slots_items, shr_and_one, bit_word, read_is}
 use Rattle.g1_race.proofs.ended.pairs.has_bit.Goals as goal
 
 pub returns : goal.returns

@@ -1,7 +1,6 @@
-use Rattle.std.proofs.Common.{◌++◌, ℕ, List, ap, ◌∙◌, arith}
-use Rattle.std.specs.Slots.{slots_items}
+use Rattle.std.specs.Prelude.{◌++◌}
+use Rattle.g1_race.specs.{ℕ, List, ap, ◌∙◌, arith, slots_items, take_all}
 use Rattle.g1_race.proofs.Blocks.{all_regions, block_below, with_regions}
-use Rattle.g1_race_words.proofs.Places.{take_all}
 use Rattle.g1_race.proofs.ended.pairs.list_card.Goals as goal
 
 pub has_bit-requires-clause-pair : goal.has_bit-requires-clause-pair

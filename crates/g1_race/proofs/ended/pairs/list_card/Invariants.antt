@@ -1,5 +1,5 @@
-use Rattle.std.proofs.Common.{◌≡◌, ◌++◌, take}
-use Rattle.std.specs.Slots.{slots_items}
+use Rattle.std.specs.Prelude.{◌≡◌, ◌++◌}
+use Rattle.g1_race.specs.{take, slots_items}
 use Rattle.g1_race.proofs.Blocks.{with_regions}
 use Rattle.g1_race.proofs.ended.pairs.list_card.Given as goal
 

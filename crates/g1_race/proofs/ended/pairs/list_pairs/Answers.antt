@@ -1,7 +1,5 @@
-use Rattle.std.proofs.Common.{◌≡◌, ◌++◌, ◌+◌, ◌/◌, ℕ, suc, ap, ◌∙◌, arith}
-use Rattle.std.specs.Slots.{slots_items}
-use Rattle.g1_race_words.specs.Rule.{pairs_of_card, pairs_up_to}
-use Rattle.g1_race.specs.Telling.{block_regions}
+use Rattle.std.specs.Prelude.{◌≡◌, ◌++◌, ◌+◌, ◌/◌}
+use Rattle.g1_race.specs.{ℕ, suc, ap, ◌∙◌, arith, slots_items, pairs_of_card, pairs_up_to, block_regions}
 use Rattle.g1_race.proofs.ended.pairs.list_pairs.Goals as goal
 
 pub loop-card-preserved : goal.loop-card-preserved

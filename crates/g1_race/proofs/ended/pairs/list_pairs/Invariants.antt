@@ -1,7 +1,5 @@
-use Rattle.std.proofs.Common.{◌≡◌, ◌≢◌, ◌/◌, ◌%◌}
-use Rattle.std.specs.Slots.{slots_items}
-use Rattle.g1_race_words.specs.Rule.{pairs_up_to}
-use Rattle.g1_race.specs.Telling.{block_regions}
+use Rattle.std.specs.Prelude.{◌≡◌, ◌≢◌, ◌/◌, ◌%◌}
+use Rattle.g1_race.specs.{slots_items, pairs_up_to, block_regions}
 use Rattle.g1_race.proofs.ended.pairs.list_pairs.Given as goal
 
 abbrev pub invariant-loop-card : goal.invariant-loop-card

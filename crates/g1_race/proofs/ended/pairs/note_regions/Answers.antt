@@ -1,10 +1,6 @@
-use Rattle.std.proofs.Common.{◌≡◌, ◌++◌, ◌∷◌, [], ◌+◌, ◌/◌, ℕ, suc, get_or, not, true, false, ne_eqb, eq-eqb, sym, ap, ◌∙◌, arith}
-use Rattle.std.specs.Slots.{slots_items}
-use Rattle.arrayvec.specs.ArrayVec.{array_vec_len}
-use Rattle.g1_race_words.specs.Rule.{bit_word}
-use Rattle.g1_race.specs.Telling.{block_regions, has_block}
-use Rattle.g1_race_words.proofs.Plain.{read_is}
-use Rattle.g1_race.proofs.Telling.{left_out, put_in}
+use Rattle.std.specs.Prelude.{◌≡◌, ◌++◌, ◌∷◌, ◌+◌, ◌/◌}
+use Rattle.g1_race.specs.{[], ℕ, suc, get_or, not, true, false, ne_eqb, eq-eqb, sym, ap, ◌∙◌, arith, slots_items, array_vec_len, bit_word, block_regions, has_block, read_is}
+use Rattle.g1_race.proofs.{left_out, put_in}
 use Rattle.g1_race.proofs.ended.pairs.note_regions.Goals.{then-word-ne0, else-word-ne0}
 use Rattle.g1_race.proofs.ended.pairs.note_regions.Goals as goal
 

@@ -1,7 +1,5 @@
-use Rattle.std.proofs.Common.{◌≡◌, ◌≤◌, ◌/◌}
-use Rattle.std.specs.Slots.{slots_items}
-use Rattle.arrayvec.specs.ArrayVec.{array_vec_len}
-use Rattle.g1_race.specs.Telling.{block_regions}
+use Rattle.std.specs.Prelude.{◌≡◌, ◌≤◌, ◌/◌}
+use Rattle.g1_race.specs.{slots_items, array_vec_len, block_regions}
 use Rattle.g1_race.proofs.ended.pairs.note_regions.Given as goal
 
 abbrev pub invariant-loop-region : goal.invariant-loop-region

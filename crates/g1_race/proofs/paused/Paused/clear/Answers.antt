@@ -1,18 +1,6 @@
 -- A clear reads the words that it began with, until it empties the row.
-use Rattle.std.proofs.Common.{ℕ, List, length, ap, ◌∙◌, subst, arith}
-use Rattle.g1_core.specs.declared.reply.ClearReply.TheVariants.{Cleared, Pending, StillReferenced}
-use Rattle.g1_core.specs.Run.{IsStep}
-use Rattle.g1_core.specs.Calls.{clear_entry}
-use Rattle.g1_race.specs.Telling.{is_marked, marked_cards}
-use Rattle.g1_race.specs.Over.{Pause}
-use Rattle.g1_race.specs.Evacuating.{WordsBecome, same_word}
-use Rattle.g1_race.specs.Clearing.{Into}
-use Rattle.g1_race.proofs.Telling.{few}
-use Rattle.g1_race.proofs.NextCards.{cards_fit}
-use Rattle.g1_race.proofs.PauseTable.{none_marked}
-use Rattle.g1_race.proofs.ClearWords.{clear_granted, clear_pending, clear_refused}
-use Rattle.g1_race.proofs.SlotWords.{front_words, unchanged_words}
-use Rattle.g1_race.proofs.Held.{at_pause, lent_begun, lent_numbers, lent_view}
+use Rattle.g1_race.specs.{ℕ, List, length, ap, ◌∙◌, subst, arith, Cleared, Pending, StillReferenced, IsStep, clear_entry, is_marked, marked_cards, Pause, WordsBecome, same_word, Into}
+use Rattle.g1_race.proofs.{few, cards_fit, none_marked, clear_granted, clear_pending, clear_refused, front_words, unchanged_words, at_pause, lent_begun, lent_numbers, lent_view}
 use Rattle.g1_race.proofs.paused.Paused.clear.Goals as goal
 
 pub overflow_cast-result : goal.overflow_cast-result

@@ -1,18 +1,7 @@
-use Rattle.std.proofs.Common.{◌≡◌, ◌^◌, ◌<◌, ℕ, None, sym, ap, ◌∙◌, subst, arith}
-use mathlib.Core.Option.{some}
-use lib.ListN.{get_elem?}
-use Rattle.g1_layout.specs.Shape.{slot_count}
-use Rattle.g1_core.specs.Table.{target_of}
-use Rattle.g1_core.specs.Run.{stored}
-use Rattle.g1_race_words.specs.declared.view.Shape.{Shape}
-use Rattle.g1_race_words.proofs.Plain.{read_is}
-use Rattle.g1_race.specs.Race.{shape_of, word_of}
-use Rattle.g1_race.specs.Over.{Pause, table_at}
+use Rattle.std.specs.Prelude.{◌≡◌, ◌^◌, ◌<◌}
+use Rattle.g1_race.specs.{ℕ, None, sym, ap, ◌∙◌, subst, arith, some, get_elem?, slot_count, target_of, stored, Shape, read_is, shape_of, word_of, Pause, table_at, SlotsBecome, one_word}
 use Rattle.g1_race.specs.Over as over
-use Rattle.g1_race.specs.Evacuating.{SlotsBecome, one_word}
-use Rattle.g1_race.proofs.Ends.{target_data, target_word}
-use Rattle.g1_race.proofs.PauseStores.{slot_gives}
-use Rattle.g1_race.proofs.Held.{lent_view}
+use Rattle.g1_race.proofs.{target_data, target_word, slot_gives, lent_view}
 use Rattle.g1_race.proofs.paused.Paused.copy_slot.Goals as goal
 
 abbrev IsLaid : Pause → Type 0

@@ -1,11 +1,7 @@
-use Rattle.std.proofs.Common.{◌≡◌, ◌+◌, ◌-◌, ◌≤◌, ℕ, Bool, true, false, leb, length, sym, ap, ◌∙◌, subst, arith}
-use Rattle.std.proofs.lemmas.Bool.{leb-false, leb-true}
-use Rattle.g1_layout.specs.Shape.{slot_count}
-use Rattle.g1_race_words.specs.declared.view.Shape.{Shape}
-use Rattle.g1_race.specs.Over.{Pause}
-use Rattle.g1_core.proofs.CopyLemmas.{copied_all, copied_on, first_of}
+use Rattle.std.specs.Prelude.{◌≡◌, ◌+◌, ◌-◌, ◌≤◌}
+use Rattle.g1_race.specs.{ℕ, Bool, true, false, leb, length, sym, ap, ◌∙◌, subst, arith, leb-false, leb-true, slot_count, Shape, Pause, copied_all, copied_on, first_of}
 use Rattle.g1_race.proofs.Copying.{Copied, CopiesOne, copied_down, copied_up}
-use Rattle.g1_race.proofs.Held.{lent_begun, lent_view}
+use Rattle.g1_race.proofs.{lent_begun, lent_view}
 use Rattle.g1_race.proofs.paused.Paused.copy_slots.Goals.{else-upwards, then-upwards}
 use Rattle.g1_race.proofs.paused.Paused.copy_slots.Goals as goal
 

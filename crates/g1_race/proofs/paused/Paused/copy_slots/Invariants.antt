@@ -1,5 +1,5 @@
-use Rattle.std.proofs.Common.{◌+◌}
-use Rattle.g1_core.proofs.CopyLemmas.{first_of}
+use Rattle.std.specs.Prelude.{◌+◌}
+use Rattle.g1_race.specs.{first_of}
 use Rattle.g1_race.proofs.Copying.{Copied}
 use Rattle.g1_race.proofs.paused.Paused.copy_slots.Given as goal
 

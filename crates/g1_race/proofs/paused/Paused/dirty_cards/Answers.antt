@@ -1,7 +1,5 @@
-use Rattle.std.proofs.Common.{List, ℕ, ap, arith, length}
-use Rattle.g1_race.specs.Telling.{is_marked}
-use Rattle.g1_race.proofs.Telling.{few}
-use Rattle.g1_race.proofs.NextCards.{cards_fit}
+use Rattle.g1_race.specs.{List, ℕ, ap, arith, length, is_marked}
+use Rattle.g1_race.proofs.{few, cards_fit}
 use Rattle.g1_race.proofs.paused.Paused.dirty_cards.Goals as goal
 
 pub returns-clause-few : goal.returns-clause-few

@@ -1,7 +1,4 @@
-use Rattle.std.proofs.Common.{◌∙◌, map, ap, below_more, arith}
-use Rattle.g1_core.specs.Verify.{Differs}
-use Rattle.g1_core.proofs.VerifyLemmas.{first_none, first_found, slot_same, slot_differs}
-use Rattle.g1_race.specs.Over.{table_at}
+use Rattle.g1_race.specs.{◌∙◌, map, ap, below_more, arith, Differs, first_none, first_found, slot_same, slot_differs, table_at}
 use Rattle.g1_race.proofs.paused.Paused.first_differing.Goals as goal
 
 pub returns-then-not-refers_to-clause-first : goal.returns-then-not-refers_to-clause-first

@@ -1,6 +1,5 @@
-use Rattle.std.proofs.Common.{◌≡◌, ◌+◌, ◌<◌, ℕ, map}
-use Rattle.g1_core.specs.Verify.{Differs}
-use Rattle.g1_race.specs.Over.{table_at}
+use Rattle.std.specs.Prelude.{◌≡◌, ◌+◌, ◌<◌}
+use Rattle.g1_race.specs.{ℕ, map, Differs, table_at}
 use Rattle.g1_race.proofs.paused.Paused.first_differing.Given as goal
 
 abbrev pub invariant-loop-i : goal.invariant-loop-i

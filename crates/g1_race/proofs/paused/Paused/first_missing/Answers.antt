@@ -1,7 +1,4 @@
-use Rattle.std.proofs.Common.{◌∙◌, sym, subst, below_more, arith, ℕ}
-use Rattle.g1_core.specs.Verify.{IsMissing}
-use Rattle.g1_core.proofs.VerifyLemmas.{first_none, first_found}
-use Rattle.g1_race.specs.Over.{Pause, table_at}
+use Rattle.g1_race.specs.{◌∙◌, sym, subst, below_more, arith, ℕ, IsMissing, first_none, first_found, Pause, table_at}
 use Rattle.g1_race.proofs.paused.Paused.first_missing.Goals as goal
 
 pub returns-then-is_missing-clause-first : goal.returns-then-is_missing-clause-first

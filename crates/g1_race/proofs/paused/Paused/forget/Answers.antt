@@ -1,13 +1,8 @@
 -- The cards from the first of the region on are the region's.
-use Rattle.std.proofs.Common.{◌≢◌, ℕ, refl, sym, ◌∙◌, subst, arith}
-use Rattle.g1_layout.specs.Shape.{region_of}
-use Rattle.g1_core.specs.Table.{Crosses}
-use Rattle.g1_race.specs.Evacuating.{WordsBecome, forgotten, same_word}
-use Rattle.g1_race.specs.Over.{Pause, table_at}
-use Rattle.g1_race.proofs.NextCards.{cards_fit}
+use Rattle.std.specs.Prelude.{◌≢◌}
+use Rattle.g1_race.specs.{ℕ, refl, sym, ◌∙◌, subst, arith, region_of, Crosses, WordsBecome, forgotten, same_word, Pause, table_at}
+use Rattle.g1_race.proofs.{cards_fit, front_words, held_table, lent_begun, lent_region, lent_view}
 use Rattle.g1_race.proofs.ForgottenTable.{cards_within, closed_words, forgotten_is}
-use Rattle.g1_race.proofs.SlotWords.{front_words}
-use Rattle.g1_race.proofs.Held.{held_table, lent_begun, lent_region, lent_view}
 use Rattle.g1_race.proofs.paused.Paused.forget.Goals as goal
 
 pub nonzero_div-cards : goal.nonzero_div-cards

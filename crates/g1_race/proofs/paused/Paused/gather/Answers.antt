@@ -1,13 +1,6 @@
 -- The list is that of the members of the race that was lent.
-use Rattle.std.proofs.Common.{List, ℕ, length, sym, ap, ◌∙◌, subst, arith}
-use Rattle.g1_layout.specs.Shape.{card_count}
-use Rattle.g1_core.specs.Table.{AreMembers}
-use Rattle.g1_race_words.specs.declared.view.Shape.{Shape}
-use Rattle.g1_race.specs.Telling.{is_member, member_cards}
-use Rattle.g1_race.specs.Over.{Pause, table_at}
-use Rattle.g1_race.proofs.Telling.{few}
-use Rattle.g1_race.proofs.PauseTable.{members_are}
-use Rattle.g1_race.proofs.Held.{lent_begun, lent_region, lent_view}
+use Rattle.g1_race.specs.{List, ℕ, length, sym, ap, ◌∙◌, subst, arith, card_count, AreMembers, Shape, is_member, member_cards, Pause, table_at}
+use Rattle.g1_race.proofs.{few, members_are, lent_begun, lent_region, lent_view}
 use Rattle.g1_race.proofs.paused.Paused.gather.Goals as goal
 
 pub list_members-requires-clause-room : goal.list_members-requires-clause-room

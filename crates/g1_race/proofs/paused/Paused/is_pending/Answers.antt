@@ -1,11 +1,6 @@
-use Rattle.std.proofs.Common.{sym, ap, ◌∙◌, subst}
+use Rattle.g1_race.specs.{sym, ap, ◌∙◌, subst, Table, IsStep, pending_entry, pending_step, Pause, table_at}
 use Rattle.std.specs.FinSet as set
-use Rattle.g1_core.specs.Table.{Table}
-use Rattle.g1_core.specs.Run.{IsStep}
-use Rattle.g1_core.specs.Calls.{pending_entry}
-use Rattle.g1_core.proofs.QueryLemmas.{pending_step}
-use Rattle.g1_race.specs.Over.{Pause, table_at}
-use Rattle.g1_race.proofs.Held.{lent_view, read_table}
+use Rattle.g1_race.proofs.{lent_view, read_table}
 use Rattle.g1_race.proofs.paused.Paused.is_pending.Goals as goal
 
 pub returns-clause-pending : goal.returns-clause-pending

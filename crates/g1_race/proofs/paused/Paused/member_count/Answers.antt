@@ -1,7 +1,5 @@
-use Rattle.std.proofs.Common.{arith}
-use Rattle.g1_race.specs.Telling.{is_member}
-use Rattle.g1_race.proofs.Telling.{few}
-use Rattle.g1_race.proofs.NextCards.{cards_fit}
+use Rattle.g1_race.specs.{arith, is_member}
+use Rattle.g1_race.proofs.{few, cards_fit}
 use Rattle.g1_race.proofs.paused.Paused.member_count.Goals as goal
 
 pub returns-clause-few : goal.returns-clause-few

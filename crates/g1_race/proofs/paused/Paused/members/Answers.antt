@@ -1,12 +1,5 @@
-use Rattle.std.specs.Prelude.{IfOk}
-use Rattle.std.proofs.Common.{ℕ, sym, ap, subst}
-use Rattle.std.proofs.lemmas.Result.{IfOk-weaker}
-use Rattle.g1_core.specs.Table.{Table, AreMembers}
-use Rattle.g1_core.specs.Run.{IsStep}
-use Rattle.g1_core.specs.Calls.{members_entry}
-use Rattle.g1_core.proofs.QueryLemmas.{members_step}
-use Rattle.g1_race.specs.Over.{Pause, table_at}
-use Rattle.g1_race.proofs.Held.{lent_view, read_table}
+use Rattle.g1_race.specs.{IfOk, ℕ, sym, ap, subst, IfOk-weaker, Table, AreMembers, IsStep, members_entry, members_step, Pause, table_at}
+use Rattle.g1_race.proofs.{lent_view, read_table}
 use Rattle.g1_race.proofs.paused.Paused.members.Goals as goal
 
 pub returns-clause-step : goal.returns-clause-step

@@ -1,20 +1,10 @@
 -- The regions' numbers are those of the race that was lent, and no card is dirty.
-use Rattle.std.proofs.Common.{◌≡◌, ℕ, true, sym, ap, ◌∙◌, subst}
+use Rattle.std.specs.Prelude.{◌≡◌}
+use Rattle.g1_race.specs.{ℕ, true, sym, ap, ◌∙◌, subst, nat_cmp, true≢false, CardSet, moved, moved_count, word_after, Pause, table_at, WordsBecome, AreUnflagged}
 use Rattle.std.specs.FinSet as set
-use Rattle.std.specs.Ordering.{nat_cmp}
-use Rattle.std.proofs.lemmas.Bool.{true≢false}
-use Rattle.g1_layout.specs.Sets.{CardSet}
-use Rattle.g1_core.specs.Table.{moved, moved_count}
 use Rattle.g1_race.specs.declared.race.Race.{Race}
-use Rattle.g1_race.specs.Moving.{word_after}
-use Rattle.g1_race.specs.Over.{Pause, table_at}
-use Rattle.g1_race.specs.Evacuating.{WordsBecome}
-use Rattle.g1_race.specs.Refining.{AreUnflagged}
-use Rattle.g1_race.proofs.FlagWords.{still_unflagged}
+use Rattle.g1_race.proofs.{still_unflagged, word_pending, moved_words, held_table, lent_begun, lent_region, lent_view}
 use Rattle.g1_race.proofs.MovedTable.{count_is, moved_is}
-use Rattle.g1_race.proofs.PauseTable.{word_pending}
-use Rattle.g1_race.proofs.SlotWords.{moved_words}
-use Rattle.g1_race.proofs.Held.{held_table, lent_begun, lent_region, lent_view}
 use Rattle.g1_race.proofs.paused.Paused.move_all.Goals as goal
 
 pub move_references-requires-clause-clean : goal.move_references-requires-clause-clean

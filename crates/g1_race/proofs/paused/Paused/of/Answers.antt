@@ -1,11 +1,7 @@
-use Rattle.std.proofs.Common.{◌≡◌, ◌+◌, length, All, [], map, sym, ap, ◌∙◌, subst, arith}
-use Rattle.g1_race_words.specs.declared.view.Shape.{Shape}
+use Rattle.std.specs.Prelude.{◌≡◌, ◌+◌}
+use Rattle.g1_race.specs.{length, All, [], map, sym, ap, ◌∙◌, subst, arith, Shape, IsBegun, started, null_of, frozen_seat, blank, collected, racer_view, sweeper_view, RacerOf}
 use Rattle.g1_race.specs.declared.race.Race.{Race}
-use Rattle.g1_race_words.specs.Rule.{IsBegun, started, null_of}
-use Rattle.g1_race_words.specs.Steps.{frozen_seat, blank}
-use Rattle.g1_race.specs.Race.{collected}
-use Rattle.g1_race.specs.Members.{racer_view, sweeper_view, RacerOf}
-use Rattle.g1_race.proofs.Ends.{begun_covered, pair_listed}
+use Rattle.g1_race.proofs.{begun_covered, pair_listed}
 use Rattle.g1_race.proofs.Pausing.{all_joined, at_rest, weight_is, is_paused, is_over, same_pairs}
 use Rattle.g1_race.proofs.paused.Paused.of.Goals as goal
 

@@ -1,11 +1,6 @@
-use Rattle.std.proofs.Common.{ap, ◌∙◌, arith}
+use Rattle.g1_race.specs.{ap, ◌∙◌, arith, is_marked, Pause, table_at}
 use Rattle.std.specs.FinSet as set
-use Rattle.g1_race.specs.Telling.{is_marked}
-use Rattle.g1_race.specs.Over.{Pause, table_at}
-use Rattle.g1_race.proofs.Telling.{few}
-use Rattle.g1_race.proofs.NextCards.{cards_fit}
-use Rattle.g1_race.proofs.PauseTable.{pending_len}
-use Rattle.g1_race.proofs.Held.{lent_view, lent_begun}
+use Rattle.g1_race.proofs.{few, cards_fit, pending_len, lent_view, lent_begun}
 use Rattle.g1_race.proofs.paused.Paused.pending_count.Goals as goal
 
 pub overflow_cast-result : goal.overflow_cast-result

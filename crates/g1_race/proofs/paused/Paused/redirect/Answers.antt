@@ -1,11 +1,5 @@
-use Rattle.std.proofs.Common.{ℕ, List, sym, ◌∙◌, subst}
-use Rattle.std.specs.List.Sorted.{IsStrictlyIncreasing}
-use Rattle.g1_core.specs.Run.{IsStep}
-use Rattle.g1_core.specs.Calls.{redirect_entry}
-use Rattle.g1_core.specs.declared.reply.Redirected.TheVariants.{Moved}
-use Rattle.g1_race.specs.Telling.{is_marked, marked_cards}
-use Rattle.g1_race.specs.Over.{Pause, table_at}
-use Rattle.g1_race.proofs.Telling.{gathered}
+use Rattle.g1_race.specs.{ℕ, List, sym, ◌∙◌, subst, IsStrictlyIncreasing, IsStep, redirect_entry, Moved, is_marked, marked_cards, Pause, table_at}
+use Rattle.g1_race.proofs.{gathered}
 use Rattle.g1_race.proofs.paused.Paused.redirect.Goals as goal
 
 pub returns-clause-ascending : goal.returns-clause-ascending

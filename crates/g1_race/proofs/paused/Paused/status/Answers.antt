@@ -1,17 +1,9 @@
-use Rattle.std.proofs.Common.{◌≡◌, ℕ, List, sym, ap, ◌∙◌, subst, arith}
+use Rattle.std.specs.Prelude.{◌≡◌}
+use Rattle.g1_race.specs.{ℕ, List, sym, ap, ◌∙◌, subst, arith, Table, IsStep, status_entry, status_step, is_marked, pair_count, Pause, table_at}
 use Rattle.std.specs.FinSet as set
 use Rattle.g1_core.specs.declared.reply.Status.{Status}
-use Rattle.g1_core.specs.Table.{Table}
-use Rattle.g1_core.specs.Run.{IsStep}
-use Rattle.g1_core.specs.Calls.{status_entry}
-use Rattle.g1_core.proofs.QueryLemmas.{status_step}
-use Rattle.g1_race.specs.Telling.{is_marked, pair_count}
-use Rattle.g1_race.specs.Over.{Pause, table_at}
-use Rattle.g1_race.proofs.Telling.{few}
-use Rattle.g1_race.proofs.NextCards.{cards_fit}
-use Rattle.g1_race.proofs.PauseTable.{pending_len}
+use Rattle.g1_race.proofs.{few, cards_fit, pending_len, lent_begun, lent_view, read_table}
 use Rattle.g1_race.proofs.Counting.{count_is, few_recorded}
-use Rattle.g1_race.proofs.Held.{lent_begun, lent_view, read_table}
 use Rattle.g1_race.proofs.paused.Paused.status.Goals as goal
 
 pub overflow_cast-pending : goal.overflow_cast-pending

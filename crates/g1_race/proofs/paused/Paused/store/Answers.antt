@@ -1,9 +1,6 @@
-use Rattle.std.proofs.Common.{◌≡◌, sym, ap, ◌∙◌}
-use Rattle.g1_core.specs.Table.{Table}
-use Rattle.g1_core.specs.Run.{kind_of, stored}
-use Rattle.g1_race.specs.Over.{ended, table_at, table_of}
-use Rattle.g1_race.proofs.Held.{held_table, lent_view}
-use Rattle.g1_race.proofs.PauseStores.{store_step}
+use Rattle.std.specs.Prelude.{◌≡◌}
+use Rattle.g1_race.specs.{sym, ap, ◌∙◌, Table, kind_of, stored, ended, table_at, table_of}
+use Rattle.g1_race.proofs.{held_table, lent_view, store_step}
 use Rattle.g1_race.proofs.paused.Paused.store.Goals as goal
 
 pub returns-clause-step : goal.returns-clause-step

@@ -1,19 +1,8 @@
 -- A store of data is one of null to the table.
-use Rattle.std.proofs.Common.{List, ◌≡◌, ◌<◌, ◌≤◌, ◌^◌, ℕ, None, set, sym, ap, ◌∙◌, subst, inr}
-use Rattle.g1_layout.specs.declared.kind.Kind.TheVariants.{Null}
-use Rattle.g1_race_words.specs.declared.view.Shape.{Shape}
-use Rattle.g1_race_words.specs.Rule.{IsBegun, started}
+use Rattle.std.specs.Prelude.{◌≡◌, ◌<◌, ◌≤◌, ◌^◌}
+use Rattle.g1_race.specs.{List, ℕ, None, set, sym, ap, ◌∙◌, subst, inr, Null, Shape, IsBegun, started, kind_of, stored, shape_of, WordsBecome, one_word, Pause, ended, table_at, table_of}
 use Rattle.g1_layout.specs.Shape as layout
-use Rattle.g1_core.specs.Run.{kind_of, stored}
-use Rattle.g1_race.specs.Race.{shape_of}
-use Rattle.g1_race.specs.Evacuating.{WordsBecome, one_word}
-use Rattle.g1_race.specs.Over.{Pause, ended, table_at, table_of}
-use Rattle.g1_race.proofs.AtPause.{begun_placed}
-use Rattle.g1_race.proofs.Ends.{target_data}
-use Rattle.g1_race.proofs.PauseStores.{kind_data, quiet_store, store_step}
-use Rattle.g1_race.proofs.SlotWords.{put_words}
-use Rattle.g1_race.proofs.StoreCalls.{data_crosses}
-use Rattle.g1_race.proofs.Held.{held_table, lent_begun, lent_slot, lent_view}
+use Rattle.g1_race.proofs.{begun_placed, target_data, kind_data, quiet_store, store_step, put_words, data_crosses, held_table, lent_begun, lent_slot, lent_view}
 use Rattle.g1_race.proofs.paused.Paused.store_data.Goals as goal
 
 pub put-requires-clause-begun : goal.put-requires-clause-begun

@@ -1,10 +1,5 @@
-use Rattle.std.proofs.Common.{ap, sym, ◌∙◌, subst}
-use Rattle.g1_core.specs.Table.{Table, target_of}
-use Rattle.g1_core.specs.Run.{IsStep}
-use Rattle.g1_core.specs.Calls.{target_entry}
-use Rattle.g1_core.proofs.QueryLemmas.{target_step}
-use Rattle.g1_race.specs.Over.{Pause, table_at}
-use Rattle.g1_race.proofs.Held.{lent_view, read_table}
+use Rattle.g1_race.specs.{ap, sym, ◌∙◌, subst, Table, target_of, IsStep, target_entry, target_step, Pause, table_at}
+use Rattle.g1_race.proofs.{lent_view, read_table}
 use Rattle.g1_race.proofs.paused.Paused.target.Goals as goal
 
 pub returns-clause-target : goal.returns-clause-target

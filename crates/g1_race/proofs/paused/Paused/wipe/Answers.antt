@@ -1,13 +1,6 @@
-use Rattle.std.proofs.Common.{◌≡◌, ℕ, ◌+◌, ◌*◌, ◌/◌, ◌%◌, ◌<◌, mod-lt, div-add-mod', sym, ap, ◌∙◌, subst}
-use mathlib.Core.Option.{some}
-use lib.ListN.{get_elem?}
-use Rattle.g1_core.specs.Table.{Table, target_of}
-use Rattle.g1_race_words.specs.declared.view.Shape.{Shape}
-use Rattle.g1_race.specs.Over.{Pause, table_at}
-use Rattle.g1_race.specs.Evacuating.{WordsBecome, wiped, wiped_word}
-use Rattle.g1_race.proofs.PauseStores.{slot_in, slot_gives}
-use Rattle.g1_race.proofs.SlotWords.{wiped_words}
-use Rattle.g1_race.proofs.Held.{held_table, lent_region, lent_view}
+use Rattle.std.specs.Prelude.{◌≡◌, ◌+◌, ◌*◌, ◌/◌, ◌%◌, ◌<◌}
+use Rattle.g1_race.specs.{ℕ, mod-lt, div-add-mod', sym, ap, ◌∙◌, subst, some, get_elem?, Table, target_of, Shape, Pause, table_at, WordsBecome, wiped, wiped_word}
+use Rattle.g1_race.proofs.{slot_in, slot_gives, wiped_words, held_table, lent_region, lent_view}
 use Rattle.g1_race.proofs.paused.Paused.wipe.Goals as goal
 
 pub returns-clause-table : goal.returns-clause-table

@@ -1,6 +1,5 @@
-use Rattle.std.proofs.Common.{inl, refl}
-use Rattle.g1_race_words.specs.Rule.{flag}
-use Rattle.g1_race.proofs.AtPause.{begun_marked}
+use Rattle.g1_race.specs.{inl, refl, flag}
+use Rattle.g1_race.proofs.{begun_marked}
 use Rattle.g1_race.proofs.paused.access.dirty.Goals as goal
 
 pub put-requires-clause-begun : goal.put-requires-clause-begun

@@ -1,13 +1,6 @@
-use Rattle.std.proofs.Common.{◌≡◌, ◌+◌, ℕ, false, eqb, sym, ap, ◌∙◌, subst, arith}
-use mathlib.Core.Option.{some}
-use lib.ListN.{get_elem?}
-use Rattle.g1_layout.specs.Shape.{slot_count, card_count}
-use Rattle.g1_race_words.specs.declared.view.Shape.{Shape}
-use Rattle.g1_race.specs.Over.{ended, marks_of}
-use Rattle.g1_race_words.proofs.Places.{at_take, reads_as}
-use Rattle.g1_race.proofs.Ends.{marks_here}
-use Rattle.g1_core.proofs.SetLemmas.{same_bools}
-use Rattle.g1_core.proofs.AdoptionLemmas.{flag_pending, pending_flag}
+use Rattle.std.specs.Prelude.{◌≡◌, ◌+◌}
+use Rattle.g1_race.specs.{ℕ, false, eqb, sym, ap, ◌∙◌, subst, arith, some, get_elem?, slot_count, card_count, Shape, ended, marks_of, at_take, reads_as, same_bools, flag_pending, pending_flag}
+use Rattle.g1_race.proofs.{marks_here}
 use Rattle.g1_race.proofs.paused.access.is_dirty.Goals as goal
 
 pub returns-clause-dirty : goal.returns-clause-dirty

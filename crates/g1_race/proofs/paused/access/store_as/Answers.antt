@@ -1,20 +1,10 @@
 -- A store at a pause: first the card, if the store dirties it, and then the slot.
-use Rattle.std.proofs.Common.{inl, ◌≡◌, ◌/◌, ◌<◌, ◌≤◌, List, ℕ, Option, set, refl, ap, sym, ◌∙◌, subst, inr, arith}
-use Rattle.std.specs.Prelude.{IfSome}
+use Rattle.std.specs.Prelude.{◌≡◌, ◌/◌, ◌<◌, ◌≤◌}
+use Rattle.g1_race.specs.{inl, List, ℕ, Option, set, refl, ap, sym, ◌∙◌, subst, inr, arith, IfSome, slot_count, Shape, IsBegun, slot_card, started, word_of, target_of_word, one_word}
 use Rattle.g1_layout.specs.Shape as layout
-use Rattle.g1_layout.specs.Shape.{slot_count}
-use Rattle.g1_race_words.specs.declared.view.Shape.{Shape}
-use Rattle.g1_race_words.specs.Rule.{IsBegun, slot_card, started}
 use Rattle.g1_race.specs.declared.race.Race.{Race}
-use Rattle.g1_race.specs.Race.{word_of}
-use Rattle.g1_race.specs.Over.{target_of_word}
-use Rattle.g1_race.specs.Evacuating.{one_word}
-use Rattle.g1_race.proofs.Ends.{word_target}
-use Rattle.g1_race.proofs.StoreCalls.{word_fits}
-use Rattle.g1_race.proofs.AtPause.{begun_placed}
+use Rattle.g1_race.proofs.{word_target, word_fits, begun_placed, quiet_marked, quiet_store, dirtied_words, put_words, words_then}
 use Rattle.g1_race.proofs.FlagStores.{dirtied_here, dirtied_store}
-use Rattle.g1_race.proofs.PauseStores.{quiet_marked, quiet_store}
-use Rattle.g1_race.proofs.SlotWords.{dirtied_words, put_words, words_then}
 use Rattle.g1_race.proofs.paused.access.store_as.Goals as goal
 
 -- slot and target are of the race

@@ -1,13 +1,7 @@
-use Rattle.std.proofs.Common.{List, ◌≡◌, ◌+◌, ◌<◌, ℕ, Option, None, ap, sym, ◌∙◌, subst, arith}
-use mathlib.Core.Option.{some}
-use lib.ListN.{get_elem?}
+use Rattle.std.specs.Prelude.{◌≡◌, ◌+◌, ◌<◌}
+use Rattle.g1_race.specs.{List, ℕ, Option, None, ap, sym, ◌∙◌, subst, arith, some, get_elem?, slot_count, Shape, shape_of, ended, refs_of, at_take, reads_as}
 use Rattle.g1_layout.specs.Shape as layout
-use Rattle.g1_layout.specs.Shape.{slot_count}
-use Rattle.g1_race_words.specs.declared.view.Shape.{Shape}
-use Rattle.g1_race.specs.Race.{shape_of}
-use Rattle.g1_race.specs.Over.{ended, refs_of}
-use Rattle.g1_race.proofs.Ends.{refs_here}
-use Rattle.g1_race_words.proofs.Places.{at_take, reads_as}
+use Rattle.g1_race.proofs.{refs_here}
 use Rattle.g1_race.proofs.paused.access.target_of.Goals as goal
 
 -- a slot's word among those of slots and marks

@@ -1,10 +1,7 @@
 -- The cards before the one that is looked at are dirty where they are pending.
-use Rattle.std.proofs.Common.{◌+◌, ◌≤◌, ℕ, List, sym, ap, ◌∙◌, subst, arith}
+use Rattle.std.specs.Prelude.{◌+◌, ◌≤◌}
+use Rattle.g1_race.specs.{ℕ, List, sym, ap, ◌∙◌, subst, arith, Seat, View, AreMarked, IsPaused}
 use Rattle.std.specs.FinSet as set_of
-use Rattle.atomic_table.specs.declared.shared.Seat.{Seat}
-use Rattle.g1_race_words.specs.declared.view.View.{View}
-use Rattle.g1_race.specs.Resumed.{AreMarked}
-use Rattle.g1_race_words.specs.Seats.{IsPaused}
 use Rattle.g1_race.proofs.Placing.{marked_flag, marked_next, marked_past}
 use Rattle.g1_race.proofs.paused.begin.place_marks.Goals.{then-is_pending, else-is_pending}
 use Rattle.g1_race.proofs.paused.begin.place_marks.Goals as goal

@@ -1,6 +1,5 @@
-use Rattle.std.proofs.Common.{◌≤◌}
-use Rattle.g1_race.specs.Resumed.{AreMarked}
-use Rattle.g1_race_words.specs.Seats.{IsPaused}
+use Rattle.std.specs.Prelude.{◌≤◌}
+use Rattle.g1_race.specs.{AreMarked, IsPaused}
 use Rattle.g1_race.proofs.paused.begin.place_marks.Given as goal
 
 abbrev pub invariant-loop-number : goal.invariant-loop-number

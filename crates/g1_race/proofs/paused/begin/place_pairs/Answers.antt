@@ -1,10 +1,6 @@
-use Rattle.std.proofs.Common.{◌≡◌, ◌<◌, ℕ, [], ◌∷◌, List, length, get_or, take, sym, ap, ◌∙◌, subst, arith}
-use mathlib.Core.Option.{some}
-use lib.ListN.{get_elem?}
-use Rattle.g1_race_words.specs.Rule.{In, IsOfCrossing}
-use Rattle.g1_race.specs.Refining.{Notes}
-use Rattle.g1_race_words.proofs.Places.{at_read, contains_in, take_next, take_all}
-use Rattle.g1_race.proofs.PauseWords.{notes_then}
+use Rattle.std.specs.Prelude.{◌≡◌, ◌<◌, ◌∷◌}
+use Rattle.g1_race.specs.{ℕ, [], List, length, get_or, take, sym, ap, ◌∙◌, subst, arith, some, get_elem?, In, IsOfCrossing, Notes, at_read, contains_in, take_next, take_all}
+use Rattle.g1_race.proofs.{notes_then}
 use Rattle.g1_race.proofs.paused.begin.place_pairs.Goals as goal
 
 item : (xs : List (ℕ × ℕ)) (i : ℕ) (x : ℕ × ℕ) → i < length xs → x ≡ get_or xs i x → get_elem? xs i ≡ some x

@@ -1,6 +1,4 @@
-use Rattle.std.proofs.Common.{take}
-use Rattle.g1_race.specs.Refining.{Notes}
-use Rattle.g1_race_words.specs.Seats.{IsPaused}
+use Rattle.g1_race.specs.{take, Notes, IsPaused}
 use Rattle.g1_race.proofs.paused.begin.place_pairs.Given as goal
 
 abbrev pub invariant-loop-pair : goal.invariant-loop-pair

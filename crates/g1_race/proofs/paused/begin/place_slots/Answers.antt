@@ -1,15 +1,7 @@
 -- The slots before the one that is looked at refer to what they refer to in the core.
-use Rattle.std.proofs.Common.{inl, ◌≡◌, ◌+◌, ◌≤◌, ℕ, List, sym, ap, ◌∙◌, subst, arith}
-use Rattle.atomic_table.specs.declared.shared.Seat.{Seat}
-use Rattle.g1_race_words.specs.declared.view.View.{View}
-use Rattle.g1_layout.specs.Shape.{slot_count}
-use Rattle.g1_core.specs.Machine.{State, Machine, IsSound}
-use Rattle.g1_core.specs.Table.{target_of}
-use Rattle.g1_race_words.specs.declared.view.Shape.{Shape}
-use Rattle.g1_race.specs.Race.{word_of}
-use Rattle.g1_race.specs.Resumed.{ArePlaced, IsSame}
-use Rattle.g1_race_words.specs.Seats.{IsPaused}
-use Rattle.g1_race.proofs.AtPause.{begun_placed}
+use Rattle.std.specs.Prelude.{◌≡◌, ◌+◌, ◌≤◌}
+use Rattle.g1_race.specs.{inl, ℕ, List, sym, ap, ◌∙◌, subst, arith, Seat, View, slot_count, State, Machine, IsSound, target_of, Shape, word_of, ArePlaced, IsSame, IsPaused}
+use Rattle.g1_race.proofs.{begun_placed}
 use Rattle.g1_race.proofs.Placing.{placed_next, placed_past, covered_on}
 use Rattle.g1_race.proofs.CopiedTable.{word_bound}
 use Rattle.g1_race.proofs.paused.begin.place_slots.Goals.{After-word_of-word, then-word-ne0, else-word-ne0}

@@ -1,15 +1,7 @@
 -- The words of the row before the one that is read are 0.
-use Rattle.std.proofs.Common.{◌≡◌, ℕ, ◌+◌, ◌*◌, List, slice_set, sym, ap, ◌∙◌, subst, arith}
-use mathlib.Core.Option.{some}
-use lib.ListN.{get_elem?}
-use Rattle.atomic_table.specs.declared.shared.Seat.{Seat}
-use Rattle.g1_race_words.specs.declared.view.View.{View}
-use Rattle.g1_race_words.specs.Rule.{IsBegun, mark_word, started}
-use Rattle.g1_race_words.specs.Seats.{IsPaused}
-use Rattle.g1_race.specs.Clearing.{IsEmptied}
-use Rattle.g1_race.proofs.AtPause.{paused_same}
-use Rattle.g1_race.proofs.FlagWords.{front_at}
-use Rattle.g1_race.proofs.ClearWords.{row_word, begun_emptied, emptied_next, emptied_past, into_back}
+use Rattle.std.specs.Prelude.{◌≡◌, ◌+◌, ◌*◌}
+use Rattle.g1_race.specs.{ℕ, List, slice_set, sym, ap, ◌∙◌, subst, arith, some, get_elem?, Seat, View, IsBegun, mark_word, started, IsPaused, IsEmptied}
+use Rattle.g1_race.proofs.{paused_same, front_at, row_word, begun_emptied, emptied_next, emptied_past, into_back}
 use Rattle.g1_race.proofs.paused.clear.empty_row.Goals.{In-loop-i, then-see-ne0, else-see-ne0}
 use Rattle.g1_race.proofs.paused.clear.empty_row.Goals as goal
 

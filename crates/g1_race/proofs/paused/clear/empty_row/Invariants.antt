@@ -1,5 +1,4 @@
-use Rattle.g1_race.specs.Clearing.{IsEmptied}
-use Rattle.g1_race_words.specs.Seats.{IsPaused}
+use Rattle.g1_race.specs.{IsEmptied, IsPaused}
 use Rattle.g1_race.proofs.paused.clear.empty_row.Given as goal
 
 abbrev pub invariant-loop-i : goal.invariant-loop-i

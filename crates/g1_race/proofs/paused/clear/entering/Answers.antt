@@ -1,5 +1,5 @@
 -- No slot of a card before the one that is looked at refers into the region.
-use Rattle.std.proofs.Common.{ap, ◌∙◌, arith}
+use Rattle.g1_race.specs.{ap, ◌∙◌, arith}
 use Rattle.g1_race.proofs.LeastInto.{least_found, none_left, none_past}
 use Rattle.g1_race.proofs.paused.clear.entering.Goals as goal
 

@@ -1,6 +1,5 @@
-use Rattle.std.proofs.Common.{◌≡◌, ◌≤◌, ◌-◌, ◌<◌, ℕ}
-use Rattle.g1_race_words.specs.Rule.{slot_card}
-use Rattle.g1_race.specs.Clearing.{Into}
+use Rattle.std.specs.Prelude.{◌≡◌, ◌≤◌, ◌-◌, ◌<◌}
+use Rattle.g1_race.specs.{ℕ, slot_card, Into}
 use Rattle.g1_race.proofs.paused.clear.entering.Given as goal
 
 abbrev pub invariant-loop-card : goal.invariant-loop-card

@@ -1,9 +1,7 @@
 -- No slot of the card before the one that is looked at refers into the region.
-use Rattle.std.proofs.Common.{◌≡◌, ℕ, ◌+◌, ◌*◌, List, ap, ◌∙◌, subst, arith}
-use mathlib.Core.Option.{some}
-use lib.ListN.{get_elem?}
-use Rattle.std.proofs.lemmas.Nat.{div-mul-add}
-use Rattle.g1_race.proofs.SweepCalls.{slot_below}
+use Rattle.std.specs.Prelude.{◌≡◌, ◌+◌, ◌*◌}
+use Rattle.g1_race.specs.{ℕ, List, ap, ◌∙◌, subst, arith, some, get_elem?, div-mul-add}
+use Rattle.g1_race.proofs.{slot_below}
 use Rattle.g1_race.proofs.LeastInto.{least_on, none_next, none_on}
 use Rattle.g1_race.proofs.paused.clear.entering_on.Goals as goal
 

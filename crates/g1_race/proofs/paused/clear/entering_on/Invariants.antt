@@ -1,5 +1,5 @@
-use Rattle.std.proofs.Common.{◌≡◌, ◌+◌, ◌*◌, ◌<◌, ℕ}
-use Rattle.g1_race.specs.Clearing.{Into}
+use Rattle.std.specs.Prelude.{◌≡◌, ◌+◌, ◌*◌, ◌<◌}
+use Rattle.g1_race.specs.{ℕ, Into}
 use Rattle.g1_race.proofs.paused.clear.entering_on.Given as goal
 
 abbrev pub invariant-loop-i : goal.invariant-loop-i

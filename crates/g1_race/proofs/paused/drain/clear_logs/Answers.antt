@@ -1,6 +1,5 @@
-use Rattle.std.proofs.Common.{◌≡◌, ℕ, List, [], ◌++◌, drop, length, map, replicate, take, vec_len, ap, ◌∙◌, arith}
-use Rattle.std.proofs.Math.Seq.{take-append_seam}
-use Rattle.g1_race.specs.Members.{racer_log}
+use Rattle.std.specs.Prelude.{◌≡◌, ◌++◌}
+use Rattle.g1_race.specs.{ℕ, List, [], drop, length, map, replicate, take, vec_len, ap, ◌∙◌, arith, take-append_seam, racer_log}
 use Rattle.g1_race.proofs.Logs.{all_empty}
 use Rattle.g1_race.proofs.paused.drain.clear_logs.Goals as goal
 

@@ -1,4 +1,5 @@
-use Rattle.std.proofs.Common.{◌≡◌, ℕ, ◌<◌, [], get_or}
+use Rattle.std.specs.Prelude.{◌≡◌, ◌<◌}
+use Rattle.g1_race.specs.{ℕ, [], get_or}
 use Rattle.g1_race.proofs.paused.drain.clear_logs.Given as goal
 
 abbrev pub invariant-loop-racer : goal.invariant-loop-racer

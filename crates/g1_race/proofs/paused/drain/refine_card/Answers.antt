@@ -1,13 +1,7 @@
 -- The card's slots are noted one after another, and then its mark is cleared.
-use Rattle.std.proofs.Common.{◌≡◌, ℕ, suc, ◌+◌, ◌*◌, ◌<◌, ◌++◌, List, get_or, sym, ap, ◌∙◌, subst, arith}
-use mathlib.Core.Option.{some}
-use lib.ListN.{get_elem?}
-use Rattle.g1_race_words.specs.declared.view.Shape.{Shape}
-use Rattle.g1_race_words.specs.Steps.{pair_at}
-use Rattle.g1_race.specs.Refining.{Notes, RefinesCard, card_pairs}
-use Rattle.g1_race_words.proofs.Places.{reads_as}
-use Rattle.g1_race.proofs.SweepCalls.{slot_below}
-use Rattle.g1_race.proofs.PauseWords.{notes_then, begun_cleaned, refined_is}
+use Rattle.std.specs.Prelude.{◌≡◌, ◌+◌, ◌*◌, ◌<◌, ◌++◌}
+use Rattle.g1_race.specs.{ℕ, suc, List, get_or, sym, ap, ◌∙◌, subst, arith, some, get_elem?, Shape, pair_at, Notes, RefinesCard, card_pairs, reads_as}
+use Rattle.g1_race.proofs.{slot_below, notes_then, begun_cleaned, refined_is}
 use Rattle.g1_race.proofs.paused.drain.refine_card.Goals.{After-loop-i, In-loop-i}
 use Rattle.g1_race.proofs.paused.drain.refine_card.Goals as goal
 

@@ -1,6 +1,5 @@
-use Rattle.std.proofs.Common.{◌≤◌}
-use Rattle.g1_race.specs.Refining.{Notes, card_pairs}
-use Rattle.g1_race_words.specs.Seats.{IsPaused}
+use Rattle.std.specs.Prelude.{◌≤◌}
+use Rattle.g1_race.specs.{Notes, card_pairs, IsPaused}
 use Rattle.g1_race.proofs.paused.drain.refine_card.Given as goal
 
 abbrev pub invariant-loop-i : goal.invariant-loop-i

@@ -1,16 +1,7 @@
 -- The cards before the one that is looked at are refined, and at the end the flags are cleared.
-use Rattle.std.proofs.Common.{◌≡◌, ℕ, List, ap, subst, arith}
-use mathlib.Core.Option.{some}
-use lib.ListN.{get_elem?}
-use Rattle.g1_race_words.specs.Rule.{mark_word}
-use Rattle.g1_race.specs.Clearing.{IsEmptied}
-use Rattle.g1_race.specs.Refining.{AreRefined, RefinesCard}
-use Rattle.g1_race_words.proofs.AtBeginning.{never_both}
-use Rattle.g1_race.proofs.ClearWords.{none_behind}
-use Rattle.g1_race.proofs.AtPause.{paused_same}
-use Rattle.g1_race.proofs.NextCards.{marked_word, unmarked_word}
-use Rattle.g1_race.proofs.PauseWords.{refined_next, refined_past}
-use Rattle.g1_race.proofs.FlagWords.{refined_emptied, unflagged}
+use Rattle.std.specs.Prelude.{◌≡◌}
+use Rattle.g1_race.specs.{ℕ, List, ap, subst, arith, some, get_elem?, mark_word, IsEmptied, AreRefined, RefinesCard, never_both}
+use Rattle.g1_race.proofs.{none_behind, paused_same, marked_word, unmarked_word, refined_next, refined_past, refined_emptied, unflagged}
 use Rattle.g1_race.proofs.paused.drain.refine_cards.Goals.{In_default}
 use Rattle.g1_race.proofs.paused.drain.refine_cards.Goals as goal
 

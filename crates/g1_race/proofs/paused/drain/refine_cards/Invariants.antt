@@ -1,6 +1,5 @@
-use Rattle.std.proofs.Common.{◌≤◌, ◌-◌}
-use Rattle.g1_race.specs.Refining.{AreRefined}
-use Rattle.g1_race_words.specs.Seats.{IsPaused}
+use Rattle.std.specs.Prelude.{◌≤◌, ◌-◌}
+use Rattle.g1_race.specs.{AreRefined, IsPaused}
 use Rattle.g1_race.proofs.paused.drain.refine_cards.Given as goal
 
 abbrev pub invariant-loop-card : goal.invariant-loop-card

@@ -1,9 +1,7 @@
 -- The pair's bit is set in its word.
-use Rattle.std.proofs.Common.{◌≡◌, ℕ, [], ◌∷◌, List, sym, ap, ◌∙◌, subst, ⊎_elim}
-use Rattle.std.proofs.lemmas.Nat.Bits.{shr_and_one}
-use Rattle.g1_race_words.specs.Rule.{IsBegun, HasBit, started}
-use Rattle.g1_race.specs.Refining.{Notes}
-use Rattle.g1_race.proofs.PauseWords.{begun_bit, notes_bit, notes_same, with_found, bit_read}
+use Rattle.std.specs.Prelude.{◌≡◌, ◌∷◌}
+use Rattle.g1_race.specs.{ℕ, [], List, sym, ap, ◌∙◌, subst, ⊎_elim, shr_and_one, IsBegun, HasBit, started, Notes}
+use Rattle.g1_race.proofs.{begun_bit, notes_bit, notes_same, with_found, bit_read}
 use Rattle.g1_race.proofs.paused.drain.set_bit.Goals as goal
 
 pub returns-then-found-place-eq1-clause-notes : goal.returns-then-found-place-eq1-clause-notes

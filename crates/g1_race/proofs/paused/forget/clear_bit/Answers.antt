@@ -1,8 +1,7 @@
 -- The pair's bit is cleared in its word.
-use Rattle.std.proofs.Common.{◌≡◌, ℕ, List, sym, ap, ◌∙◌, subst}
-use Rattle.g1_race_words.specs.Rule.{IsBegun, started}
-use Rattle.g1_race.specs.Clearing.{AreUnset}
-use Rattle.g1_race.proofs.Forgetting.{begun_unset, unset_is, without_found}
+use Rattle.std.specs.Prelude.{◌≡◌}
+use Rattle.g1_race.specs.{ℕ, List, sym, ap, ◌∙◌, subst, IsBegun, started, AreUnset}
+use Rattle.g1_race.proofs.{begun_unset, unset_is, without_found}
 use Rattle.g1_race.proofs.paused.forget.clear_bit.Goals as goal
 
 pub put-requires-clause-begun : goal.put-requires-clause-begun

@@ -1,5 +1,5 @@
-use Rattle.std.proofs.Common.{arith}
-use Rattle.g1_race.proofs.Forgetting.{rows_all, rows_next, slot_back}
+use Rattle.g1_race.specs.{arith}
+use Rattle.g1_race.proofs.{rows_all, rows_next, slot_back}
 use Rattle.g1_race.proofs.paused.forget.forget_cards.Goals as goal
 
 pub forget_row-requires-clause-closed : goal.forget_row-requires-clause-closed

@@ -1,6 +1,5 @@
-use Rattle.g1_race.specs.Clearing.{AreUnset}
-use Rattle.g1_race_words.specs.Seats.{IsPaused}
-use Rattle.g1_race.proofs.Forgetting.{InRows}
+use Rattle.g1_race.specs.{AreUnset, IsPaused}
+use Rattle.g1_race.proofs.{InRows}
 use Rattle.g1_race.proofs.paused.forget.forget_cards.Given as goal
 
 abbrev pub invariant-loop-region : goal.invariant-loop-region

@@ -1,8 +1,7 @@
 -- The cards of the row before the one that is looked at are out of it.
-use Rattle.std.proofs.Common.{◌≡◌, ℕ, List, refl, ap, ◌∙◌, subst, arith}
-use Rattle.g1_race_words.specs.Rule.{front}
-use Rattle.g1_race.specs.Clearing.{AreUnset}
-use Rattle.g1_race.proofs.Forgetting.{row_next, row_past, slot_back}
+use Rattle.std.specs.Prelude.{◌≡◌}
+use Rattle.g1_race.specs.{ℕ, List, refl, ap, ◌∙◌, subst, arith, front, AreUnset}
+use Rattle.g1_race.proofs.{row_next, row_past, slot_back}
 use Rattle.g1_race.proofs.paused.forget.forget_row.Goals as goal
 
 pub returns-then-card-end-clause-unset : goal.returns-then-card-end-clause-unset

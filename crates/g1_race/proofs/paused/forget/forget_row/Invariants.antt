@@ -1,7 +1,6 @@
-use Rattle.std.proofs.Common.{◌≤◌, ◌-◌}
-use Rattle.g1_race.specs.Clearing.{AreUnset}
-use Rattle.g1_race_words.specs.Seats.{IsPaused}
-use Rattle.g1_race.proofs.Forgetting.{InRow}
+use Rattle.std.specs.Prelude.{◌≤◌, ◌-◌}
+use Rattle.g1_race.specs.{AreUnset, IsPaused}
+use Rattle.g1_race.proofs.{InRow}
 use Rattle.g1_race.proofs.paused.forget.forget_row.Given as goal
 
 abbrev pub invariant-loop-card : goal.invariant-loop-card

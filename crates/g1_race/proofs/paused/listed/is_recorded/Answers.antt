@@ -1,9 +1,7 @@
 -- A pair is recorded where its bit is set.
-use Rattle.std.proofs.Common.{◌≡◌, sym, subst, arith}
-use Rattle.g1_core.specs.Table.{IsRecorded}
-use Rattle.g1_race_words.specs.Rule.{HasBit, IsPair}
-use Rattle.g1_race.specs.Over.{ended, table_of}
-use Rattle.g1_race.proofs.Ends.{recorded_set, set_recorded}
+use Rattle.std.specs.Prelude.{◌≡◌}
+use Rattle.g1_race.specs.{sym, subst, arith, IsRecorded, HasBit, IsPair, ended, table_of}
+use Rattle.g1_race.proofs.{recorded_set, set_recorded}
 use Rattle.g1_race.proofs.paused.listed.is_recorded.Goals.{Start}
 use Rattle.g1_race.proofs.paused.listed.is_recorded.Goals as goal
 

@@ -1,8 +1,7 @@
 -- The bit is read in its word.
-use Rattle.std.proofs.Common.{bit_and, ◌/◌, ◌^◌, sym, ◌∙◌, eq-eqb, ne_eqb}
-use Rattle.std.proofs.lemmas.Nat.Bits.{shr_and_one}
-use native.Mathlib.Decide.{ℕ_discrete}
-use Rattle.g1_race.proofs.PauseWords.{bit_read}
+use Rattle.std.specs.Prelude.{◌/◌, ◌^◌}
+use Rattle.g1_race.specs.{bit_and, sym, ◌∙◌, eq-eqb, ne_eqb, shr_and_one, ℕ_discrete}
+use Rattle.g1_race.proofs.{bit_read}
 use Rattle.g1_race.proofs.paused.listed.is_set.Goals as goal
 
 pub returns-clause-set : goal.returns-clause-set

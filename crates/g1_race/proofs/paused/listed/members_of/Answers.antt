@@ -1,11 +1,7 @@
 -- The list is that of the members by the region's number.
-use Rattle.std.proofs.Common.{◌≡◌, ℕ, length, List, sym, ap, ◌∙◌, subst, arith}
-use Rattle.g1_core.specs.Table.{AreMembers}
-use Rattle.g1_race_words.specs.declared.view.Shape.{Shape}
-use Rattle.g1_race.specs.Telling.{is_member, member_cards}
-use Rattle.g1_race.specs.Over.{ended, table_of}
-use Rattle.g1_race.proofs.Telling.{few}
-use Rattle.g1_race.proofs.PauseTable.{members_are}
+use Rattle.std.specs.Prelude.{◌≡◌}
+use Rattle.g1_race.specs.{ℕ, length, List, sym, ap, ◌∙◌, subst, arith, AreMembers, Shape, is_member, member_cards, ended, table_of}
+use Rattle.g1_race.proofs.{few, members_are}
 use Rattle.g1_race.proofs.paused.listed.members_of.Goals as goal
 
 -- the cards are those of the words as they were

@@ -1,9 +1,6 @@
-use Rattle.std.proofs.Common.{◌≡◌, ℕ, sym, subst, inl, inr, arith}
-use Rattle.std.proofs.lemmas.Bool.{cases_lt}
-use Rattle.g1_core.specs.Table.{IsPending}
-use Rattle.g1_race.specs.Over.{ended, table_of}
-use Rattle.g1_race.proofs.NextCards.{marked_word, unmarked_word}
-use Rattle.g1_race.proofs.PauseTable.{pending_word, word_pending}
+use Rattle.std.specs.Prelude.{◌≡◌}
+use Rattle.g1_race.specs.{ℕ, sym, subst, inl, inr, arith, cases_lt, IsPending, ended, table_of}
+use Rattle.g1_race.proofs.{marked_word, unmarked_word, pending_word, word_pending}
 use Rattle.g1_race.proofs.paused.listed.next_dirty_from.Goals as goal
 
 pub returns-in_default-clause-dirty : goal.returns-in_default-clause-dirty

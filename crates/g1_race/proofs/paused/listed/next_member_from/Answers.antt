@@ -1,12 +1,7 @@
 -- The next member is the next card whose pair is recorded.
-use Rattle.std.proofs.Common.{◌≡◌, ◌<◌, ℕ, true, sym, ap, ◌∙◌, subst, inl, inr, arith, eq-eqb}
-use Rattle.std.proofs.lemmas.Bool.{cases_lt, eqb-true, true≢false}
-use Rattle.g1_core.specs.Table.{IsRecorded}
-use Rattle.g1_race_words.specs.declared.view.Shape.{Shape}
-use Rattle.g1_race_words.specs.Rule.{HasBit}
-use Rattle.g1_race.specs.Telling.{is_member}
-use Rattle.g1_race.specs.Over.{ended, table_of}
-use Rattle.g1_race.proofs.Ends.{recorded_set, set_recorded}
+use Rattle.std.specs.Prelude.{◌≡◌, ◌<◌}
+use Rattle.g1_race.specs.{ℕ, true, sym, ap, ◌∙◌, subst, inl, inr, arith, eq-eqb, cases_lt, eqb-true, true≢false, IsRecorded, Shape, HasBit, is_member, ended, table_of}
+use Rattle.g1_race.proofs.{recorded_set, set_recorded}
 use Rattle.g1_race.proofs.paused.listed.next_member_from.Goals.{After-number-number}
 use Rattle.g1_race.proofs.paused.listed.next_member_from.Goals as goal
 

@@ -1,8 +1,6 @@
 -- The count rises by one at each card that is found.
-use Rattle.std.proofs.Common.{ap, ◌∙◌, arith}
-use Rattle.g1_race.specs.Telling.{is_marked}
-use Rattle.g1_race.proofs.NextCards.{cards_fit}
-use Rattle.g1_race.proofs.Telling.{count_end, count_on, few}
+use Rattle.g1_race.specs.{ap, ◌∙◌, arith, is_marked}
+use Rattle.g1_race.proofs.{cards_fit, count_end, count_on, few}
 use Rattle.g1_race.proofs.paused.next.count_marked.Goals as goal
 
 pub overflow_add-count : goal.overflow_add-count

@@ -1,5 +1,5 @@
-use Rattle.std.proofs.Common.{◌≡◌, ◌≤◌, ◌-◌, length}
-use Rattle.g1_race.specs.Telling.{cards_where, is_marked}
+use Rattle.std.specs.Prelude.{◌≡◌, ◌≤◌, ◌-◌}
+use Rattle.g1_race.specs.{length, cards_where, is_marked}
 use Rattle.g1_race.proofs.paused.next.count_marked.Given as goal
 
 abbrev pub invariant-loop-card : goal.invariant-loop-card

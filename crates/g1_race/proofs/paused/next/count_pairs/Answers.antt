@@ -1,6 +1,6 @@
 -- The count is that of the regions before the one that is looked at.
-use Rattle.std.proofs.Common.{◌≡◌, ℕ, ◌+◌, List, length, sym, ap, ◌∙◌, arith}
-use Rattle.g1_race.specs.Telling.{member_cards}
+use Rattle.std.specs.Prelude.{◌≡◌, ◌+◌}
+use Rattle.g1_race.specs.{ℕ, List, length, sym, ap, ◌∙◌, arith, member_cards}
 use Rattle.g1_race.proofs.Counting.{counted, fits}
 use Rattle.g1_race.proofs.paused.next.count_pairs.Goals.{After-count_members-count}
 use Rattle.g1_race.proofs.paused.next.count_pairs.Goals as goal

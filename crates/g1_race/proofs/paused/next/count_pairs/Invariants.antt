@@ -1,5 +1,5 @@
-use Rattle.std.proofs.Common.{◌≡◌}
-use Rattle.g1_race.specs.Telling.{pair_count}
+use Rattle.std.specs.Prelude.{◌≡◌}
+use Rattle.g1_race.specs.{pair_count}
 use Rattle.g1_race.proofs.paused.next.count_pairs.Given as goal
 
 abbrev pub invariant-loop-region : goal.invariant-loop-region

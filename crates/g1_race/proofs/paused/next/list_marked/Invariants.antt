@@ -1,5 +1,5 @@
-use Rattle.std.proofs.Common.{◌≡◌, ◌≤◌, ◌-◌, vec_capacity}
-use Rattle.g1_race.specs.Telling.{cards_where, is_marked}
+use Rattle.std.specs.Prelude.{◌≡◌, ◌≤◌, ◌-◌}
+use Rattle.g1_race.specs.{vec_capacity, cards_where, is_marked}
 use Rattle.g1_race.proofs.paused.next.list_marked.Given as goal
 
 abbrev pub invariant-loop-card : goal.invariant-loop-card

@@ -1,7 +1,7 @@
 -- The list has each card that is found, and no other.
-use Rattle.std.proofs.Common.{ℕ, List, [], ◌∷◌, ◌++◌, ap, ◌∙◌, arith}
-use Rattle.g1_race.specs.Telling.{is_member}
-use Rattle.g1_race.proofs.Telling.{list_end, list_on, room_on}
+use Rattle.std.specs.Prelude.{◌∷◌, ◌++◌}
+use Rattle.g1_race.specs.{ℕ, List, [], ap, ◌∙◌, arith, is_member}
+use Rattle.g1_race.proofs.{list_end, list_on, room_on}
 use Rattle.g1_race.proofs.paused.next.list_members.Goals as goal
 
 pub push_reserved-requires : goal.push_reserved-requires

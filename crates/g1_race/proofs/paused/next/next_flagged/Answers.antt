@@ -1,4 +1,4 @@
-use Rattle.g1_race.proofs.FlagWords.{skips_none}
+use Rattle.g1_race.proofs.{skips_none}
 use Rattle.g1_race.proofs.paused.next.next_flagged.Goals as goal
 
 pub returns-then-from-eq0-clause-next : goal.returns-then-from-eq0-clause-next

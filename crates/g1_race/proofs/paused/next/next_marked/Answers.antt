@@ -1,9 +1,7 @@
 -- No card is dirty before the one that is looked at.
-use Rattle.std.proofs.Common.{◌≡◌, List, ℕ, ap, ◌∙◌, subst, arith}
-use mathlib.Core.Option.{some}
-use lib.ListN.{get_elem?}
-use Rattle.g1_race_words.specs.Rule.{mark_word}
-use Rattle.g1_race.proofs.FlagWords.{clean_after, clean_past, marked_next}
+use Rattle.std.specs.Prelude.{◌≡◌}
+use Rattle.g1_race.specs.{List, ℕ, ap, ◌∙◌, subst, arith, some, get_elem?, mark_word}
+use Rattle.g1_race.proofs.{clean_after, clean_past, marked_next}
 use Rattle.g1_race.proofs.paused.next.next_marked.Goals as goal
 
 pub returns-then-see-eq1-clause-next : goal.returns-then-see-eq1-clause-next

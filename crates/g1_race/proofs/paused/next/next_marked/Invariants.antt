@@ -1,5 +1,5 @@
-use Rattle.std.proofs.Common.{◌≡◌, ◌≤◌, ◌<◌, ◌-◌, ℕ, false}
-use Rattle.g1_race.specs.Telling.{is_marked}
+use Rattle.std.specs.Prelude.{◌≡◌, ◌≤◌, ◌<◌, ◌-◌}
+use Rattle.g1_race.specs.{ℕ, false, is_marked}
 use Rattle.g1_race.proofs.paused.next.next_marked.Given as goal
 
 abbrev pub invariant-loop-card : goal.invariant-loop-card

@@ -1,6 +1,6 @@
 -- No card of the set is before the one that is looked at, whose word is read.
-use Rattle.std.proofs.Common.{ap, ◌∙◌, arith}
-use Rattle.g1_race.proofs.NextCards.{next_found, next_past, none_of_word}
+use Rattle.g1_race.specs.{ap, ◌∙◌, arith}
+use Rattle.g1_race.proofs.{next_found, next_past, none_of_word}
 use Rattle.g1_race.proofs.paused.next.next_member.Goals as goal
 
 pub returns-then-next-cards-clause-next : goal.returns-then-next-cards-clause-next

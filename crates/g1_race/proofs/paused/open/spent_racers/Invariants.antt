@@ -1,5 +1,5 @@
-use Rattle.std.proofs.Common.{◌≡◌, [], replicate, map, vec_len}
-use Rattle.g1_race.specs.Members.{racer_log}
+use Rattle.std.specs.Prelude.{◌≡◌}
+use Rattle.g1_race.specs.{[], replicate, map, vec_len, racer_log}
 use Rattle.g1_race.proofs.paused.open.spent_racers.Given as goal
 
 abbrev pub invariant-loop-i : goal.invariant-loop-i

@@ -1,4 +1,5 @@
-use Rattle.std.proofs.Common.{◌≡◌, vec_len}
+use Rattle.std.specs.Prelude.{◌≡◌}
+use Rattle.g1_race.specs.{vec_len}
 use Rattle.g1_race.proofs.paused.open.spent_sweepers.Given as goal
 
 abbrev pub invariant-loop-i : goal.invariant-loop-i

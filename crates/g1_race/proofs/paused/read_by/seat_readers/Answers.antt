@@ -1,4 +1,4 @@
-use Rattle.std.proofs.Common.{arith}
+use Rattle.g1_race.specs.{arith}
 use Rattle.g1_race.proofs.paused.read_by.seat_readers.Goals as goal
 
 pub split_reader-seat-requires-clause-weight : goal.split_reader-seat-requires-clause-weight

@@ -1,7 +1,5 @@
-use Rattle.std.proofs.Common.{◌≡◌, ◌+◌, ◌≤◌, All, vec_len, vec_capacity}
-use Rattle.g1_race_words.specs.Rule.{start_of}
-use Rattle.g1_race_words.specs.Readers.{IsLent}
-use Rattle.g1_race.specs.Reading.{known}
+use Rattle.std.specs.Prelude.{◌≡◌, ◌+◌, ◌≤◌}
+use Rattle.g1_race.specs.{All, vec_len, vec_capacity, start_of, IsLent, known}
 use Rattle.g1_race.proofs.paused.read_by.seat_readers.Given as goal
 
 abbrev pub invariant-loop-i : goal.invariant-loop-i

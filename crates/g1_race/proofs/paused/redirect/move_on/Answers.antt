@@ -1,17 +1,7 @@
-use Rattle.std.proofs.Common.{◌≡◌, ℕ, ◌+◌, ◌*◌, ◌<◌, eqb, Bool, true, false, List, get_or, sym, ap, ◌∙◌, subst, inr, arith}
-use mathlib.Core.Option.{some, some-injective}
-use lib.ListN.{get_elem?}
-use Rattle.std.proofs.lemmas.Bool.{and_parts, eqb-true, false_from_ne_true}
-use Rattle.atomic_table.specs.declared.shared.Seat.{Seat}
-use Rattle.g1_race_words.specs.declared.view.View.{View}
-use Rattle.g1_race_words.specs.Rule.{crosses, as_number, region_at}
-use Rattle.g1_race_words.specs.Seats.{IsPaused}
-use Rattle.g1_race.specs.Moving.{AreMoved, into_count, is_into}
-use Rattle.g1_race.proofs.AtPause.{paused_same}
-use Rattle.g1_race_words.proofs.Places.{reads_as}
-use Rattle.g1_race.proofs.SweepCalls.{slot_below}
+use Rattle.std.specs.Prelude.{◌≡◌, ◌+◌, ◌*◌, ◌<◌}
+use Rattle.g1_race.specs.{ℕ, eqb, Bool, true, false, List, get_or, sym, ap, ◌∙◌, subst, inr, arith, some, some-injective, get_elem?, and_parts, eqb-true, false_from_ne_true, Seat, View, crosses, as_number, region_at, IsPaused, AreMoved, into_count, is_into, reads_as}
+use Rattle.g1_race.proofs.{paused_same, slot_below, count_one, is_into_of}
 use Rattle.g1_race.proofs.Moving.{moved_none, moved_then}
-use Rattle.g1_race.proofs.MovedCards.{count_one, is_into_of}
 use Rattle.g1_race.proofs.paused.redirect.move_on.Goals.{then-enters, else-enters}
 use Rattle.g1_race.proofs.paused.redirect.move_on.Goals as goal
 

@@ -1,9 +1,6 @@
 -- The slots of the cards before the one that is looked at are moved.
-use Rattle.std.proofs.Common.{ℕ, List, sym, ap, ◌∙◌, subst, arith}
-use Rattle.g1_race.specs.Clearing.{Into}
-use Rattle.g1_race.specs.Moving.{AreMoved, into_count}
-use Rattle.g1_race.proofs.AtPause.{paused_same}
-use Rattle.g1_race.proofs.MovedCards.{none_into, on_card, passed, passed_count}
+use Rattle.g1_race.specs.{ℕ, List, sym, ap, ◌∙◌, subst, arith, Into, AreMoved, into_count}
+use Rattle.g1_race.proofs.{paused_same, none_into, on_card, passed, passed_count}
 use Rattle.g1_race.proofs.paused.redirect.move_references.Goals.{In_default}
 use Rattle.g1_race.proofs.paused.redirect.move_references.Goals as goal
 

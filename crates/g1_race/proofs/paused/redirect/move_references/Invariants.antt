@@ -1,6 +1,5 @@
-use Rattle.std.proofs.Common.{◌≡◌, ◌*◌, ◌-◌, ◌≤◌}
-use Rattle.g1_race_words.specs.Seats.{IsPaused}
-use Rattle.g1_race.specs.Moving.{AreMoved, into_count}
+use Rattle.std.specs.Prelude.{◌≡◌, ◌*◌, ◌-◌, ◌≤◌}
+use Rattle.g1_race.specs.{IsPaused, AreMoved, into_count}
 use Rattle.g1_race.proofs.paused.redirect.move_references.Given as goal
 
 abbrev pub invariant-loop-card : goal.invariant-loop-card

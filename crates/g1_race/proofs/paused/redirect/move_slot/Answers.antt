@@ -1,14 +1,8 @@
 -- The slot's pair is recorded before its word is moved, unless the slot lies in the region that the reference goes to.
-use Rattle.std.proofs.Common.{◌≡◌, ◌≢◌, ℕ, ◌/◌, ◌<◌, List, [], ◌∷◌, set, true, refl, sym, subst, inl, ⊎_elim}
-use mathlib.Core.Option.{some}
-use lib.ListN.{get_elem?}
-use Rattle.g1_race_words.specs.declared.view.Shape.{Shape}
-use Rattle.g1_race_words.specs.Rule.{IsBegun, slot_card, crosses, region_at, started}
-use Rattle.g1_race.specs.Moving.{AreMoved, is_into, moved_word}
-use Rattle.g1_race.specs.Refining.{Notes}
-use Rattle.g1_race.proofs.PauseWords.{notes_same}
+use Rattle.std.specs.Prelude.{◌≡◌, ◌≢◌, ◌/◌, ◌<◌, ◌∷◌}
+use Rattle.g1_race.specs.{ℕ, List, [], set, true, refl, sym, subst, inl, ⊎_elim, some, get_elem?, Shape, IsBegun, slot_card, crosses, region_at, started, AreMoved, is_into, moved_word, Notes}
+use Rattle.g1_race.proofs.{notes_same, is_into_of}
 use Rattle.g1_race.proofs.Moving.{moved_crosses, moved_fits, moved_region, moved_slot}
-use Rattle.g1_race.proofs.MovedCards.{is_into_of}
 use Rattle.g1_race.proofs.paused.redirect.move_slot.Goals as goal
 
 module _ (k : Shape) (old : List ℕ) (p n to : ℕ) (begun : IsBegun (started k old)) (lt : p < k.slots) (low : to < k.regions) (at : get_elem? old p ≡ some n) (across : crosses k p n ≡ true) where

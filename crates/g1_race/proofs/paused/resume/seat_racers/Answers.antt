@@ -1,9 +1,6 @@
-use Rattle.std.proofs.Common.{◌≡◌, ◌-◌, ◌<◌, length, ap, ◌∙◌, arith}
-use Rattle.std.proofs.Math.Seq.{map-set_same}
-use Rattle.std.proofs.lemmas.List.Elements.{AllWithin-more_set}
-use Rattle.g1_race_words.specs.Rule.{start_of}
-use Rattle.g1_race.specs.Members.{racer_log, IsNewRacer}
-use Rattle.g1_race.proofs.SeatCalls.{after_split_is, new_racer_fresh, new_racer_of}
+use Rattle.std.specs.Prelude.{◌≡◌, ◌-◌, ◌<◌}
+use Rattle.g1_race.specs.{length, ap, ◌∙◌, arith, map-set_same, AllWithin-more_set, start_of, racer_log, IsNewRacer}
+use Rattle.g1_race.proofs.{after_split_is, new_racer_fresh, new_racer_of}
 use Rattle.g1_race.proofs.paused.resume.seat_racers.Goals as goal
 
 pub split_racer-seat-requires-clause-whole : goal.split_racer-seat-requires-clause-whole

@@ -1,8 +1,5 @@
-use Rattle.std.proofs.Common.{◌≡◌, ◌-◌, [], map, vec_len}
-use Rattle.std.specs.List.{AllWithin}
-use Rattle.g1_race_words.specs.Rule.{start_of}
-use Rattle.g1_race_words.specs.Steps.{whole_seat}
-use Rattle.g1_race.specs.Members.{racer_log, IsNewRacer}
+use Rattle.std.specs.Prelude.{◌≡◌, ◌-◌}
+use Rattle.g1_race.specs.{[], map, vec_len, AllWithin, start_of, whole_seat, racer_log, IsNewRacer}
 use Rattle.g1_race.proofs.paused.resume.seat_racers.Given as goal
 
 abbrev pub invariant-loop-i : goal.invariant-loop-i

@@ -1,5 +1,4 @@
-use Rattle.std.proofs.Common.{ap, arith}
-use Rattle.g1_race_words.specs.Rule.{start_of}
+use Rattle.g1_race.specs.{ap, arith, start_of}
 use Rattle.g1_race.proofs.paused.resume.seat_sweepers.Goals as goal
 
 pub split_sweeper-seat-requires-clause-whole : goal.split_sweeper-seat-requires-clause-whole

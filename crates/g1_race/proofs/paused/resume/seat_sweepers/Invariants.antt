@@ -1,8 +1,5 @@
-use Rattle.std.proofs.Common.{◌≡◌, ◌-◌, [], vec_len}
-use Rattle.std.specs.List.{AllWithin}
-use Rattle.g1_race_words.specs.Rule.{start_of}
-use Rattle.g1_race_words.specs.Steps.{whole_seat}
-use Rattle.g1_race.specs.Members.{IsNewSweeper}
+use Rattle.std.specs.Prelude.{◌≡◌, ◌-◌}
+use Rattle.g1_race.specs.{[], vec_len, AllWithin, start_of, whole_seat, IsNewSweeper}
 use Rattle.g1_race.proofs.paused.resume.seat_sweepers.Given as goal
 
 abbrev pub invariant-loop-i : goal.invariant-loop-i

@@ -1,14 +1,6 @@
-use Rattle.std.proofs.Common.{inl, inr, ◌≢◌, ◌⊎◌, ◌≤◌, ◌≡◌, ℕ, suc, ◌+◌, ◌*◌, ◌<◌, List, set, None, refl, ap, ◌∙◌, arith}
-use lib.ListN.{get_elem?}
-use Rattle.std.proofs.lemmas.Bool.{cases_eq}
-use Rattle.atomic_table.proofs.Lists.{set_else, set_here}
-use Rattle.g1_layout.specs.declared.kind.Kind.TheVariants.{Null}
-use Rattle.g1_race_words.specs.declared.view.Shape.{Shape}
-use Rattle.g1_race.specs.Over.{ended, table_of}
-use Rattle.g1_race.specs.Evacuating.{nulled}
-use Rattle.g1_race.proofs.AtPause.{begun_placed}
-use Rattle.g1_race.proofs.StoreCalls.{null_crosses}
-use Rattle.g1_race.proofs.PauseStores.{kind_null, quiet_store, slot_in}
+use Rattle.std.specs.Prelude.{◌≢◌, ◌⊎◌, ◌≤◌, ◌≡◌, ◌+◌, ◌*◌, ◌<◌}
+use Rattle.g1_race.specs.{inl, inr, ℕ, suc, List, set, None, refl, ap, ◌∙◌, arith, get_elem?, cases_eq, set_else, set_here, Null, Shape, ended, table_of, nulled}
+use Rattle.g1_race.proofs.{begun_placed, null_crosses, kind_null, quiet_store, slot_in}
 use Rattle.g1_race.proofs.paused.wipe.wipe_slots.Goals as goal
 
 -- a slot outside of the first ones is outside of all before

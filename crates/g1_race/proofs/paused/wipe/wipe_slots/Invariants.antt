@@ -1,9 +1,5 @@
-use Rattle.std.proofs.Common.{◌⊎◌, ◌≤◌, ◌≡◌, ◌+◌, ◌<◌, ℕ}
-use mathlib.Core.Option.{some}
-use lib.ListN.{get_elem?}
-use Rattle.g1_race.specs.Over.{ended, table_of}
-use Rattle.g1_race.specs.Evacuating.{nulled}
-use Rattle.g1_race_words.specs.Seats.{IsPaused}
+use Rattle.std.specs.Prelude.{◌⊎◌, ◌≤◌, ◌≡◌, ◌+◌, ◌<◌}
+use Rattle.g1_race.specs.{ℕ, some, get_elem?, ended, table_of, nulled, IsPaused}
 use Rattle.g1_race.proofs.paused.wipe.wipe_slots.Given as goal
 
 abbrev pub invariant-loop-i : goal.invariant-loop-i

@@ -1,10 +1,5 @@
-use Rattle.std.proofs.Common.{ℕ, Contains, map, sym, subst}
 use Rattle.std.specs.Prelude.{◌↔◌}
-use Rattle.g1_core.specs.Table.{IsCovered}
-use Rattle.g1_core.specs.Adoption.{IsPairOf}
-use Rattle.g1_race.specs.Race.{IsKnown}
-use Rattle.g1_race.specs.Over.{Ended, table_of}
-use Rattle.g1_race.specs.Members.{race_begun, racer_view, sweeper_view}
+use Rattle.g1_race.specs.{ℕ, Contains, map, sym, subst, IsCovered, IsPairOf, IsKnown, Ended, table_of, race_begun, racer_view, sweeper_view}
 use Rattle.g1_race.proofs.race.Race.close.Goals as goal
 
 pub returns-clause-within : goal.returns-clause-within

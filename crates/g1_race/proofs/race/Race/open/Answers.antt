@@ -1,5 +1,4 @@
-use Rattle.std.proofs.Common.{ap, ◌∙◌}
-use Rattle.g1_race_words.specs.Rule.{null_of}
+use Rattle.g1_race.specs.{ap, ◌∙◌, null_of}
 use Rattle.g1_race.proofs.Fresh.{have_begun, begun_with, are_fresh, are_fresh_too}
 use Rattle.g1_race.proofs.race.Race.open.Goals as goal
 

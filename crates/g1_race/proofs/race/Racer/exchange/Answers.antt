@@ -1,4 +1,4 @@
-use Rattle.g1_race.proofs.SeatCalls.{may_write}
+use Rattle.g1_race.proofs.{may_write}
 use Rattle.g1_race.proofs.race.Racer.exchange.Goals as goal
 
 pub exchange-found-requires-clause-racer : goal.exchange-found-requires-clause-racer

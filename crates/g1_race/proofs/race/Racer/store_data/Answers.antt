@@ -1,4 +1,4 @@
-use Rattle.g1_race.proofs.SeatCalls.{may_write}
+use Rattle.g1_race.proofs.{may_write}
 use Rattle.g1_race.proofs.race.Racer.store_data.Goals as goal
 
 pub write-requires-clause-racer : goal.write-requires-clause-racer

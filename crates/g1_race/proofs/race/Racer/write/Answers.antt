@@ -1,4 +1,4 @@
-use Rattle.g1_race.proofs.SeatCalls.{may_write}
+use Rattle.g1_race.proofs.{may_write}
 use Rattle.g1_race.proofs.race.Racer.write.Goals as goal
 
 pub write-old-requires-clause-racer : goal.write-old-requires-clause-racer

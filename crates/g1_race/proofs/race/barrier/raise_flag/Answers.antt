@@ -1,10 +1,6 @@
-use Rattle.std.proofs.Common.{◌≡◌, ap, sym, ◌∙◌, subst}
-use Rattle.std.proofs.lemmas.Nat.Bits.{shr_and_one}
-use Rattle.std.specs.Int.{bit_at}
-use Rattle.g1_race_words.specs.declared.view.Shape.{Shape}
-use Rattle.g1_race_words.specs.Rule.{bit_place, flag}
-use Rattle.g1_race_words.specs.Seats.{OwesFlag}
-use Rattle.g1_race.proofs.StoreCalls.{found_set}
+use Rattle.std.specs.Prelude.{◌≡◌}
+use Rattle.g1_race.specs.{ap, sym, ◌∙◌, subst, shr_and_one, bit_at, Shape, bit_place, flag, OwesFlag}
+use Rattle.g1_race.proofs.{found_set}
 use Rattle.g1_race.proofs.race.barrier.raise_flag.Goals as goal
 
 pub raise-requires-clause-flag : goal.raise-requires-clause-flag

@@ -1,11 +1,7 @@
 -- The last racer's seat that is left is joined.
-use Rattle.std.proofs.Common.{◌-◌, ap, ◌∙◌, arith}
-use Rattle.std.proofs.Math.Seq.{map-set_same}
-use Rattle.atomic_table.specs.declared.shared.Seat.{Seat}
-use Rattle.g1_race_words.specs.declared.view.View.{View}
-use Rattle.g1_race.specs.declared.race.Racer.{Racer}
-use Rattle.g1_race.specs.Members.{racer_view, racer_log}
-use Rattle.g1_race.proofs.Collected.{joined_next}
+use Rattle.std.specs.Prelude.{◌-◌}
+use Rattle.g1_race.specs.{ap, ◌∙◌, arith, map-set_same, Seat, View, Racer, racer_view, racer_log}
+use Rattle.g1_race.proofs.{joined_next}
 use Rattle.g1_race.proofs.race.pause.join_racers.Goals as goal
 
 pub loop-left-preserved : goal.loop-left-preserved

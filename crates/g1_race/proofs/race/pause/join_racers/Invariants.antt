@@ -1,7 +1,6 @@
-use Rattle.std.proofs.Common.{◌≡◌, map, vec_len}
-use Rattle.g1_race.specs.declared.race.Racer.{Racer}
-use Rattle.g1_race.specs.Members.{racer_view, racer_log}
-use Rattle.g1_race.proofs.Collected.{Joined}
+use Rattle.std.specs.Prelude.{◌≡◌}
+use Rattle.g1_race.specs.{map, vec_len, Racer, racer_view, racer_log}
+use Rattle.g1_race.proofs.{Joined}
 use Rattle.g1_race.proofs.race.pause.join_racers.Given as goal
 
 abbrev pub invariant-loop-left : goal.invariant-loop-left

@@ -1,10 +1,6 @@
 -- The last sweeper's seat that is left is joined.
-use Rattle.std.proofs.Common.{ap, arith}
-use Rattle.atomic_table.specs.declared.shared.Seat.{Seat}
-use Rattle.g1_race_words.specs.declared.view.View.{View}
-use Rattle.g1_race.specs.declared.race.Sweeper.{Sweeper}
-use Rattle.g1_race.specs.Members.{sweeper_view}
-use Rattle.g1_race.proofs.Collected.{joined_next}
+use Rattle.g1_race.specs.{ap, arith, Seat, View, Sweeper, sweeper_view}
+use Rattle.g1_race.proofs.{joined_next}
 use Rattle.g1_race.proofs.race.pause.join_sweepers.Goals as goal
 
 pub loop-left-preserved : goal.loop-left-preserved

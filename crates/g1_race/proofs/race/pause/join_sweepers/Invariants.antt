@@ -1,7 +1,5 @@
-use Rattle.std.proofs.Common.{vec_len}
-use Rattle.g1_race.specs.declared.race.Sweeper.{Sweeper}
-use Rattle.g1_race.specs.Members.{sweeper_view}
-use Rattle.g1_race.proofs.Collected.{Joined}
+use Rattle.g1_race.specs.{vec_len, Sweeper, sweeper_view}
+use Rattle.g1_race.proofs.{Joined}
 use Rattle.g1_race.proofs.race.pause.join_sweepers.Given as goal
 
 abbrev pub invariant-loop-left : goal.invariant-loop-left

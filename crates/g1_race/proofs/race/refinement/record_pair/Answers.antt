@@ -1,10 +1,6 @@
-use Rattle.std.proofs.Common.{◌≡◌, ◌≢◌, ℕ, sym, ap, ◌∙◌, subst}
-use Rattle.std.proofs.lemmas.Nat.Bits.{shr_and_one}
-use Rattle.std.specs.Int.{bit_at}
-use Rattle.g1_race_words.specs.declared.view.Shape.{Shape}
-use Rattle.g1_race_words.specs.Rule.{bit_place}
-use Rattle.g1_race_words.specs.Seats.{HoldsBit}
-use Rattle.g1_race.proofs.SweepCalls.{found_clear}
+use Rattle.std.specs.Prelude.{◌≡◌, ◌≢◌}
+use Rattle.g1_race.specs.{ℕ, sym, ap, ◌∙◌, subst, shr_and_one, bit_at, Shape, bit_place, HoldsBit}
+use Rattle.g1_race.proofs.{found_clear}
 use Rattle.g1_race.proofs.race.refinement.record_pair.Goals as goal
 
 pub record-requires-clause-pair : goal.record-requires-clause-pair

@@ -1,6 +1,6 @@
-use Rattle.std.proofs.Common.{ℕ, ◌+◌, ◌*◌, ◌<◌, ap, subst}
-use Rattle.g1_race_words.specs.declared.view.Shape.{Shape}
-use Rattle.g1_race.proofs.SweepCalls.{slot_below}
+use Rattle.std.specs.Prelude.{◌+◌, ◌*◌, ◌<◌}
+use Rattle.g1_race.specs.{ℕ, ap, subst, Shape}
+use Rattle.g1_race.proofs.{slot_below}
 use Rattle.g1_race.proofs.race.refinement.sweep.Goals as goal
 
 pub note_slot-requires-clause-slot : goal.note_slot-requires-clause-slot

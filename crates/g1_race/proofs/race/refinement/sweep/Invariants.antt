@@ -1,6 +1,5 @@
-use Rattle.std.proofs.Common.{◌≡◌, ◌+◌, ◌≤◌, ◌∷◌, length}
-use Rattle.std.specs.Prelude.{if◌then◌else◌}
-use Rattle.g1_race.specs.Members.{IsSweepingCard}
+use Rattle.std.specs.Prelude.{◌≡◌, ◌+◌, ◌≤◌, ◌∷◌, if◌then◌else◌}
+use Rattle.g1_race.specs.{length, IsSweepingCard}
 use Rattle.g1_race.proofs.race.refinement.sweep.Given as goal
 
 abbrev pub invariant-loop-i : goal.invariant-loop-i

@@ -1,6 +1,6 @@
-use Rattle.std.proofs.Common.{◌≡◌}
-use Rattle.g1_race_words.specs.Seats.{IsMark, Sits}
-use Rattle.g1_race_words.proofs.Calls.{inside, clean_owed}
+use Rattle.std.specs.Prelude.{◌≡◌}
+use Rattle.g1_race_words.specs.{IsMark, Sits}
+use Rattle.g1_race_words.proofs.{inside, clean_owed}
 use Rattle.g1_race_words.proofs.table.RaceTable.clean.Goals as goal
 
 pub swap-requires : goal.swap-requires

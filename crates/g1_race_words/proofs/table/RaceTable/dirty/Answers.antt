@@ -1,7 +1,6 @@
-use Rattle.std.proofs.Common.{◌≡◌}
-use Rattle.g1_race_words.specs.Steps.{owed_card}
-use Rattle.g1_race_words.specs.Seats.{OwesMark, Sits}
-use Rattle.g1_race_words.proofs.Calls.{inside, dirty_owed}
+use Rattle.std.specs.Prelude.{◌≡◌}
+use Rattle.g1_race_words.specs.{owed_card, OwesMark, Sits}
+use Rattle.g1_race_words.proofs.{inside, dirty_owed}
 use Rattle.g1_race_words.proofs.table.RaceTable.dirty.Goals as goal
 
 pub swap-requires : goal.swap-requires

@@ -1,5 +1,4 @@
-use Rattle.std.proofs.Common.{arith}
-use Rattle.g1_race_words.specs.Rule.{null_of}
+use Rattle.g1_race_words.specs.{arith, null_of}
 use Rattle.g1_race_words.proofs.Allowed.{enters_blank}
 use Rattle.g1_race_words.proofs.table.RaceTable.enter.Goals as goal
 

@@ -1,7 +1,6 @@
-use Rattle.std.proofs.Common.{◌≡◌, [], ◌∷◌, ◌<◌, None}
-use Rattle.g1_race_words.specs.Rule.{StoreHistory, IsWord}
-use Rattle.g1_race_words.specs.Seats.{Sits}
-use Rattle.g1_race_words.proofs.Calls.{inside, exchange_owed}
+use Rattle.std.specs.Prelude.{◌≡◌, ◌∷◌, ◌<◌}
+use Rattle.g1_race_words.specs.{[], None, StoreHistory, IsWord, Sits}
+use Rattle.g1_race_words.proofs.{inside, exchange_owed}
 use Rattle.g1_race_words.proofs.table.RaceTable.exchange.Goals as goal
 
 pub compare_exchange-requires : goal.compare_exchange-requires

@@ -1,6 +1,6 @@
-use Rattle.std.proofs.Common.{◌≡◌}
-use Rattle.g1_race_words.specs.Rule.{AtRest}
-use Rattle.g1_race_words.proofs.Calls.{inside, freeze_owed}
+use Rattle.std.specs.Prelude.{◌≡◌}
+use Rattle.g1_race_words.specs.{AtRest}
+use Rattle.g1_race_words.proofs.{inside, freeze_owed}
 use Rattle.g1_race_words.proofs.table.RaceTable.freeze.Goals as goal
 
 pub load-requires : goal.load-requires

@@ -1,6 +1,6 @@
-use Rattle.std.proofs.Common.{◌≡◌}
-use Rattle.g1_race_words.specs.Rule.{AtRest}
-use Rattle.g1_race_words.proofs.Calls.{inside, join_owed}
+use Rattle.std.specs.Prelude.{◌≡◌}
+use Rattle.g1_race_words.specs.{AtRest}
+use Rattle.g1_race_words.proofs.{inside, join_owed}
 use Rattle.g1_race_words.proofs.table.RaceTable.join.Goals as goal
 
 pub join_seat-requires : goal.join_seat-requires

@@ -1,6 +1,6 @@
-use Rattle.std.proofs.Common.{◌≡◌}
-use Rattle.g1_race_words.specs.Seats.{OwesMark, Sits}
-use Rattle.g1_race_words.proofs.Calls.{inside, look_owed}
+use Rattle.std.specs.Prelude.{◌≡◌}
+use Rattle.g1_race_words.specs.{OwesMark, Sits}
+use Rattle.g1_race_words.proofs.{inside, look_owed}
 use Rattle.g1_race_words.proofs.table.RaceTable.look.Goals as goal
 
 pub load-requires : goal.load-requires

@@ -1,6 +1,5 @@
-use Rattle.std.proofs.Common.{◌≡◌, ℕ, List, [], ◌∷◌, sym, ap, ◌∙◌, subst}
-use Rattle.g1_race_words.specs.Rule.{Going, IsBegun, null_of, started, word_count}
-use Rattle.g1_race_words.specs.Steps.{frozen_seat}
+use Rattle.std.specs.Prelude.{◌≡◌, ◌∷◌}
+use Rattle.g1_race_words.specs.{ℕ, List, [], sym, ap, ◌∙◌, subst, Going, IsBegun, null_of, started, word_count, frozen_seat}
 use Rattle.g1_race_words.proofs.AtBeginning.{going_first, null_begun, zeros}
 use Rattle.g1_race_words.proofs.table.RaceTable.open.Goals as goal
 

@@ -1,7 +1,6 @@
-use Rattle.std.proofs.Common.{◌<◌, set}
-use Rattle.g1_race_words.specs.Rule.{IsBegun, started, word_count}
-use Rattle.g1_race_words.specs.Seats.{IsPaused}
-use Rattle.g1_race_words.proofs.Calls.{inside, put_owed}
+use Rattle.std.specs.Prelude.{◌<◌}
+use Rattle.g1_race_words.specs.{set, IsBegun, started, word_count, IsPaused}
+use Rattle.g1_race_words.proofs.{inside, put_owed}
 use Rattle.g1_race_words.proofs.table.RaceTable.put.Goals as goal
 
 pub store-requires : goal.store-requires

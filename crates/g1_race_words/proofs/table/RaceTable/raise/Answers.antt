@@ -1,7 +1,6 @@
-use Rattle.std.proofs.Common.{ℕ, ◌≡◌}
-use Rattle.g1_race_words.specs.Rule.{bit_place, flag}
-use Rattle.g1_race_words.specs.Seats.{OwesFlag, Sits}
-use Rattle.g1_race_words.proofs.Calls.{inside, raise_owed}
+use Rattle.std.specs.Prelude.{◌≡◌}
+use Rattle.g1_race_words.specs.{ℕ, bit_place, flag, OwesFlag, Sits}
+use Rattle.g1_race_words.proofs.{inside, raise_owed}
 use Rattle.g1_race_words.proofs.table.RaceTable.raise.Goals as goal
 
 pub fetch_or-requires : goal.fetch_or-requires

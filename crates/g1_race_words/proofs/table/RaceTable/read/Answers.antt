@@ -1,6 +1,6 @@
-use Rattle.std.proofs.Common.{◌≡◌, [], ◌<◌}
-use Rattle.g1_race_words.specs.Seats.{Sits}
-use Rattle.g1_race_words.proofs.Calls.{inside, read_owed}
+use Rattle.std.specs.Prelude.{◌≡◌, ◌<◌}
+use Rattle.g1_race_words.specs.{[], Sits}
+use Rattle.g1_race_words.proofs.{inside, read_owed}
 use Rattle.g1_race_words.proofs.table.RaceTable.read.Goals as goal
 
 pub load-requires : goal.load-requires

@@ -1,7 +1,6 @@
-use Rattle.std.proofs.Common.{ℕ, ◌≡◌}
-use Rattle.g1_race_words.specs.Rule.{bit_place}
-use Rattle.g1_race_words.specs.Seats.{HoldsBit, Sits}
-use Rattle.g1_race_words.proofs.Calls.{inside, record_owed}
+use Rattle.std.specs.Prelude.{◌≡◌}
+use Rattle.g1_race_words.specs.{ℕ, bit_place, HoldsBit, Sits}
+use Rattle.g1_race_words.proofs.{inside, record_owed}
 use Rattle.g1_race_words.proofs.table.RaceTable.record.Goals as goal
 
 pub fetch_or-requires : goal.fetch_or-requires

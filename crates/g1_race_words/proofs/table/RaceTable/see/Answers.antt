@@ -1,8 +1,7 @@
-use Rattle.std.proofs.Common.{◌<◌}
-use Rattle.g1_race_words.specs.Readers.{IsReading}
-use Rattle.g1_race_words.proofs.Calls.{inside}
+use Rattle.std.specs.Prelude.{◌<◌}
+use Rattle.g1_race_words.specs.{IsReading, word_count}
+use Rattle.g1_race_words.proofs.{inside}
 use Rattle.g1_race_words.proofs.Readers.{see_owed}
-use Rattle.g1_race_words.specs.Rule.{word_count}
 use Rattle.g1_race_words.proofs.table.RaceTable.see.Goals as goal
 
 pub load-requires : goal.load-requires

@@ -1,6 +1,6 @@
-use Rattle.std.proofs.Common.{ℕ, ◌≡◌}
-use Rattle.g1_race_words.specs.Seats.{HoldsBit, Sits}
-use Rattle.g1_race_words.proofs.Calls.{inside, seek_owed}
+use Rattle.std.specs.Prelude.{◌≡◌}
+use Rattle.g1_race_words.specs.{ℕ, HoldsBit, Sits}
+use Rattle.g1_race_words.proofs.{inside, seek_owed}
 use Rattle.g1_race_words.proofs.table.RaceTable.seek.Goals as goal
 
 pub load-requires : goal.load-requires

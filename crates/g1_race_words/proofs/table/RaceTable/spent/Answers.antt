@@ -1,6 +1,4 @@
-use Rattle.std.proofs.Common.{arith}
-use Rattle.g1_race_words.specs.Rule.{start_of}
-use Rattle.g1_race_words.specs.Steps.{no_seat}
+use Rattle.g1_race_words.specs.{arith, start_of, no_seat}
 use Rattle.g1_race_words.proofs.Allowed.{enters_blank}
 use Rattle.g1_race_words.proofs.table.RaceTable.spent.Goals as goal
 

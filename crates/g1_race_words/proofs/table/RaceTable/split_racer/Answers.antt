@@ -1,6 +1,6 @@
-use Rattle.std.proofs.Common.{◌≡◌}
-use Rattle.g1_race_words.specs.Seats.{IsWholeSeat}
-use Rattle.g1_race_words.proofs.Calls.{inside, split_racer_owed}
+use Rattle.std.specs.Prelude.{◌≡◌}
+use Rattle.g1_race_words.specs.{IsWholeSeat}
+use Rattle.g1_race_words.proofs.{inside, split_racer_owed}
 use Rattle.g1_race_words.proofs.table.RaceTable.split_racer.Goals as goal
 
 pub split_seat-requires : goal.split_seat-requires

@@ -1,6 +1,6 @@
-use Rattle.std.proofs.Common.{◌<◌}
-use Rattle.g1_race_words.specs.Readers.{IsLent}
-use Rattle.g1_race_words.proofs.Calls.{inside}
+use Rattle.std.specs.Prelude.{◌<◌}
+use Rattle.g1_race_words.specs.{IsLent}
+use Rattle.g1_race_words.proofs.{inside}
 use Rattle.g1_race_words.proofs.Readers.{split_reader_owed}
 use Rattle.g1_race_words.proofs.table.RaceTable.split_reader.Goals as goal
 

@@ -1,6 +1,6 @@
-use Rattle.std.proofs.Common.{ℕ, ◌≡◌}
-use Rattle.g1_race_words.specs.Seats.{OwesFlag, Sits}
-use Rattle.g1_race_words.proofs.Calls.{inside, spot_owed}
+use Rattle.std.specs.Prelude.{◌≡◌}
+use Rattle.g1_race_words.specs.{ℕ, OwesFlag, Sits}
+use Rattle.g1_race_words.proofs.{inside, spot_owed}
 use Rattle.g1_race_words.proofs.table.RaceTable.spot.Goals as goal
 
 pub load-requires : goal.load-requires

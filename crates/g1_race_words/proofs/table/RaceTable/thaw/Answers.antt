@@ -1,5 +1,5 @@
-use Rattle.g1_race_words.specs.Seats.{IsPaused}
-use Rattle.g1_race_words.proofs.Calls.{inside, thaw_owed}
+use Rattle.g1_race_words.specs.{IsPaused}
+use Rattle.g1_race_words.proofs.{inside, thaw_owed}
 use Rattle.g1_race_words.proofs.table.RaceTable.thaw.Goals as goal
 
 pub load-requires : goal.load-requires

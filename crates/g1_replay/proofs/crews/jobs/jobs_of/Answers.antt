@@ -1,11 +1,7 @@
-use Rattle.std.proofs.Common.{◌≡◌, ℕ, ◌+◌, ◌++◌, drop, map, add-one, ap, sym, subst, ◌∙◌, vec_len, All, arith}
-use Rattle.std.specs.Vec.Iter.{into_iter_items}
-use Rattle.std.proofs.lemmas.List.Elements.{All-nil, All-push}
+use Rattle.std.specs.Prelude.{◌≡◌, ◌+◌, ◌++◌}
+use Rattle.g1_replay.specs.{ℕ, drop, map, add-one, ap, sym, subst, ◌∙◌, vec_len, All, arith, into_iter_items, All-nil, All-push, IsCallerOf, AllFrom, IsScriptAt}
 use Rattle.g1_steps.proofs.WorkerLemmas.{started_more}
-use Rattle.g1_shared.specs.Callers.{IsCallerOf}
-use Rattle.g1_replay.specs.RaceJobs.{AllFrom}
-use Rattle.g1_replay.specs.Scripts.{IsScriptAt}
-use Rattle.g1_replay.proofs.PlacedLemmas.{all_from_rest}
+use Rattle.g1_replay.proofs.{all_from_rest}
 use Rattle.g1_replay.proofs.crews.jobs.jobs_of.Goals as goal
 
 pub loop-caller-preserved : goal.loop-caller-preserved

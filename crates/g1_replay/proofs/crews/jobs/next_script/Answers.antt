@@ -1,5 +1,6 @@
-use Rattle.std.proofs.Common.{◌≡◌, ◌<◌, length, refl, rules}
-use Rattle.g1_replay.proofs.CrewScriptLemmas.{none_left, some_left}
+use Rattle.std.specs.Prelude.{◌≡◌, ◌<◌}
+use Rattle.g1_replay.specs.{length, refl, rules}
+use Rattle.g1_replay.proofs.{none_left, some_left}
 use Rattle.g1_replay.proofs.crews.jobs.next_script.Goals as goal
 
 pub returns-then-is_empty : goal.returns-then-is_empty

@@ -1,11 +1,6 @@
-use Rattle.std.proofs.Common.{ap, sym, ◌∙◌, zero-add, arith}
-use Rattle.g1_layout.specs.Shape.{slot_count}
-use Rattle.std.proofs.lemmas.List.Elements.{length_all_zip}
-use Rattle.std.proofs.lemmas.List.Sums.{count_by-le-length}
-use Rattle.g1_shared.specs.Counts.{is_store}
-use Rattle.g1_log.specs.Ends.{capacity_of}
+use Rattle.g1_replay.specs.{ap, sym, ◌∙◌, zero-add, arith, slot_count, length_all_zip, count_by-le-length, is_store, capacity_of}
 use Rattle.g1_replay.proofs.JobLemmas.{has_come}
-use Rattle.g1_replay.proofs.CrewScriptLemmas.{each_from, script_at_fits}
+use Rattle.g1_replay.proofs.{each_from, script_at_fits}
 use Rattle.g1_replay.proofs.crews.jobs.run_jobs.Goals as goal
 
 pub jobs_of-requires : goal.jobs_of-requires

@@ -1,5 +1,5 @@
-use Rattle.std.proofs.lemmas.Result.{err_from_is_err_and}
-use Rattle.g1_replay.proofs.RanLemmas.{stores_failed, book_written}
+use Rattle.g1_replay.specs.{err_from_is_err_and}
+use Rattle.g1_replay.proofs.{stores_failed, book_written}
 use Rattle.g1_replay.proofs.crews.output.put_book.Goals as goal
 
 pub returns-in_err-put_stores : goal.returns-in_err-put_stores

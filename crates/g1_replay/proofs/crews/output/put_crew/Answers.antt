@@ -1,4 +1,4 @@
-use Rattle.g1_replay.proofs.RanLemmas.{job_refused}
+use Rattle.g1_replay.proofs.{job_refused}
 use Rattle.g1_replay.proofs.crews.output.put_crew.Goals as goal
 
 pub returns-in-Some : goal.returns-in-Some

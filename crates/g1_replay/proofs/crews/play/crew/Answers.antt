@@ -1,10 +1,8 @@
 use Rattle.g1_trace.specs.declared.mode.Mode.TheVariants.{Crew}
-use Rattle.g1_replay.specs.Crew.{Crewed, CrewRan, IsWholeCrew}
-use Rattle.g1_replay.specs.Output.{dialect_in}
-use Rattle.g1_replay.specs.Scripted.{IsRefusedTrace}
+use Rattle.g1_replay.specs.{Crewed, CrewRan, IsWholeCrew, dialect_in, IsRefusedTrace}
 use Rattle.g1_replay.proofs.CrewLemmas.{whole_crew}
 use Rattle.g1_replay.proofs.EndLemmas.{replayed}
-use Rattle.g1_replay.proofs.ScriptedLemmas.{refused_trace}
+use Rattle.g1_replay.proofs.{refused_trace}
 use Rattle.g1_replay.proofs.crews.play.crew.Goals as goal
 
 pub returns : goal.returns

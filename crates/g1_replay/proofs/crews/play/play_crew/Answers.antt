@@ -1,7 +1,5 @@
-use Rattle.std.proofs.KnownBytes.{Appends-nil}
-use Rattle.std.proofs.lemmas.Result.{err_from_is_err_and}
-use Rattle.g1_replay.specs.Crew.{CrewRan}
-use Rattle.g1_replay.proofs.ScriptedLemmas.{scripts_unread, scripts_run, stops_unread}
+use Rattle.g1_replay.specs.{Appends-nil, err_from_is_err_and, CrewRan}
+use Rattle.g1_replay.proofs.{scripts_unread, scripts_run, stops_unread}
 use Rattle.g1_replay.proofs.crews.play.play_crew.Goals as goal
 
 pub returns-in_err-scripts : goal.returns-in_err-scripts

@@ -1,10 +1,6 @@
-use Rattle.std.proofs.Common.{◌≡◌, All, true, ap, subst, sym}
-use Rattle.std.proofs.lemmas.Result.{err_from_is_err_and}
-use Rattle.g1_layout.specs.Shape.{Shape, slot_count}
-use Rattle.g1_steps.specs.Ask.{StepFits}
-use Rattle.g1_history.specs.History.{History, layout_in}
-use Rattle.g1_replay.proofs.RanLemmas.{not_started}
-use Rattle.g1_replay.specs.declared.stop.Stop.TheVariants.{NoMemory}
+use Rattle.std.specs.Prelude.{◌≡◌}
+use Rattle.g1_replay.specs.{All, true, ap, subst, sym, err_from_is_err_and, Shape, slot_count, StepFits, History, layout_in, NoMemory}
+use Rattle.g1_replay.proofs.{not_started}
 use Rattle.g1_replay.proofs.crews.play.run_scripts.Goals as goal
 
 pub returns-in_err-book : goal.returns-in_err-book

@@ -1,4 +1,4 @@
-use Rattle.g1_shared.specs.Counts.{shared_terms}
+use Rattle.g1_replay.specs.{shared_terms}
 use Rattle.g1_replay.proofs.crews.play.run_scripts.Given as goal
 
 -- the ledgers are those of the blanks, and the terms those of the book

@@ -1,5 +1,6 @@
-use Rattle.std.proofs.Common.{◌≡◌, ◌≤◌, ◌++◌, length, take, rules, arith, length-take-le}
-use Rattle.g1_replay.proofs.PartLemmas.{part_read}
+use Rattle.std.specs.Prelude.{◌≡◌, ◌≤◌, ◌++◌}
+use Rattle.g1_replay.specs.{length, take, rules, arith, length-take-le}
+use Rattle.g1_replay.proofs.{part_read}
 use Rattle.g1_replay.proofs.lines.line.keep_part.Goals as goal
 
 pub returns-clause-kept : goal.returns-clause-kept

@@ -1,4 +1,4 @@
-use Rattle.g1_replay.proofs.PartLemmas.{part_first}
+use Rattle.g1_replay.proofs.{part_first}
 use Rattle.g1_replay.proofs.lines.line.next_line.Goals as goal
 
 pub returns-clause-line : goal.returns-clause-line

@@ -1,7 +1,5 @@
-use Rattle.std.proofs.Common.{subst}
-use Rattle.std.specs.Iterator.{YieldsFirst}
-use Rattle.memchr.specs.Find.{IsFirstByte, is_byte}
-use Rattle.g1_replay.proofs.PartLemmas.{feed_found, feed_within, found_first}
+use Rattle.g1_replay.specs.{subst, YieldsFirst, IsFirstByte, is_byte}
+use Rattle.g1_replay.proofs.{feed_found, feed_within, found_first}
 use Rattle.g1_replay.proofs.lines.line.part_len.Goals as goal
 
 -- what the search found

@@ -1,6 +1,4 @@
-use Rattle.std.proofs.Common.{Option, Bool, subst}
-use Rattle.std.specs.Prelude.{Ok}
-use Rattle.g1_replay.specs.Lines.{IsSettled}
+use Rattle.g1_replay.specs.{Option, Bool, subst, Ok, IsSettled}
 use Rattle.g1_replay.proofs.lines.line.rest_of_line.Goals as goal
 
 pub returns-in-Some-clause-line : goal.returns-in-Some-clause-line

@@ -1,7 +1,5 @@
-use Rattle.std.proofs.Common.{subst}
-use Rattle.g1_replay.specs.Lines.{HasPart}
-use Rattle.g1_replay.specs.declared.lines.line.Part.{Part}
-use Rattle.g1_replay.proofs.PartLemmas.{settled_whole, settled_long, settled_more, nothing_shown}
+use Rattle.g1_replay.specs.{subst, HasPart, Part}
+use Rattle.g1_replay.proofs.{settled_whole, settled_long, settled_more, nothing_shown}
 use Rattle.g1_replay.proofs.lines.line.settle.Goals as goal
 
 pub returns-in-Whole-clause-settled : goal.returns-in-Whole-clause-settled

@@ -1,6 +1,4 @@
-use Rattle.std.proofs.Common.{subst}
-use Rattle.std.specs.Io.BufRead.{FillKeeps}
-use Rattle.std.proofs.BufReadLemmas.{Consumes_shown}
+use Rattle.g1_replay.specs.{subst, FillKeeps, Consumes_shown}
 use Rattle.g1_replay.proofs.lines.line.take_part.Goals as goal
 
 pub returns-clause-part : goal.returns-clause-part

@@ -1,6 +1,5 @@
-use Rattle.std.proofs.Common.{◌≡◌, [], List, ℕ, Some, None, subst, sym, rules}
-use Rattle.std.proofs.lemmas.Result.{err_from_is_err_and}
-use Rattle.g1_replay.specs.Lines.{HasPart}
+use Rattle.std.specs.Prelude.{◌≡◌}
+use Rattle.g1_replay.specs.{[], List, ℕ, Some, None, subst, sym, rules, err_from_is_err_and, HasPart}
 use Rattle.g1_replay.proofs.ReadingLemmas.{line_stopped, no_line, command_read, command_faulty}
 use Rattle.g1_replay.proofs.lines.next.read_next.Goals as goal
 

@@ -1,4 +1,4 @@
-use Rattle.std.proofs.lemmas.Result.{err_from_is_err_and}
+use Rattle.g1_replay.specs.{err_from_is_err_and}
 use Rattle.g1_replay.proofs.ReadingLemmas.{line_stopped, no_header, header_read, header_faulty}
 use Rattle.g1_replay.proofs.lines.opening.next_header.Goals as goal
 

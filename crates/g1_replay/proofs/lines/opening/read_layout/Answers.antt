@@ -1,5 +1,4 @@
-use Rattle.std.proofs.Common.{None}
-use Rattle.std.proofs.lemmas.Result.{err_from_is_err_and}
+use Rattle.g1_replay.specs.{None, err_from_is_err_and}
 use Rattle.g1_replay.proofs.ReadingLemmas.{reads_then}
 use Rattle.g1_replay.proofs.lines.opening.read_layout.Goals as goal
 

@@ -1,7 +1,5 @@
-use Rattle.std.proofs.Common.{[], None, true, ◌^◌, ◌-◌}
-use Rattle.std.specs.Prelude.{Ok}
-use Rattle.g1_trace.specs.declared.dialect.Dialect.{Dialect}
-use Rattle.g1_replay.specs.Reading.{Reads}
+use Rattle.std.specs.Prelude.{◌^◌, ◌-◌}
+use Rattle.g1_replay.specs.{[], None, true, Ok, Dialect, Reads}
 use Rattle.g1_replay.proofs.lines.opening.read_layout.Given as goal
 
 -- what was passed over so far

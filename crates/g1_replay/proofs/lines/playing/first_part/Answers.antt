@@ -1,6 +1,5 @@
-use Rattle.std.proofs.Common.{[], refl, arith}
-use Rattle.std.proofs.KnownBytes.{Consumes-nil}
-use Rattle.g1_replay.proofs.PartLemmas.{part_first}
+use Rattle.g1_replay.specs.{[], refl, arith, Consumes-nil}
+use Rattle.g1_replay.proofs.{part_first}
 use Rattle.g1_replay.proofs.lines.playing.first_part.Goals as goal
 
 pub returns-then-is_empty : goal.returns-then-is_empty

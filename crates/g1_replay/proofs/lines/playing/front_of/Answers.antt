@@ -1,5 +1,4 @@
-use Rattle.std.proofs.Common.{arith}
-use Rattle.std.proofs.lemmas.List.{take-take}
+use Rattle.g1_replay.specs.{arith, take-take}
 use Rattle.g1_replay.proofs.lines.playing.front_of.Goals as goal
 
 pub returns-clause-front : goal.returns-clause-front

@@ -1,6 +1,6 @@
-use Rattle.std.proofs.Common.{[], ◌∷◌, true, false}
-use Rattle.std.proofs.lemmas.Result.{err_from_is_err_and}
-use Rattle.g1_replay.proofs.PlayingLemmas.{line_passed, line_unread, line_stopped}
+use Rattle.std.specs.Prelude.{◌∷◌}
+use Rattle.g1_replay.specs.{[], true, false, err_from_is_err_and}
+use Rattle.g1_replay.proofs.{line_passed, line_unread, line_stopped}
 use Rattle.g1_replay.proofs.lines.playing.play_line.Goals as goal
 
 pub returns-in_err-read_next-clause-followed : goal.returns-in_err-read_next-clause-followed

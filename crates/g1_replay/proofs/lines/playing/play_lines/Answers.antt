@@ -1,5 +1,5 @@
-use Rattle.std.proofs.lemmas.Result.{err_from_is_err_and}
-use Rattle.g1_replay.proofs.PlayingLemmas.{follows_none, follows_then}
+use Rattle.g1_replay.specs.{err_from_is_err_and}
+use Rattle.g1_replay.proofs.{follows_none, follows_then}
 use Rattle.g1_replay.proofs.lines.playing.play_lines.Goals as goal
 
 pub lines-init : goal.lines-init

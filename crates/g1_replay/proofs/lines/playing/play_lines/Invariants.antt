@@ -1,6 +1,5 @@
-use Rattle.std.proofs.Common.{◌^◌, ◌-◌, true}
-use Rattle.std.specs.Prelude.{Ok}
-use Rattle.g1_replay.specs.Playing.{Follows}
+use Rattle.std.specs.Prelude.{◌^◌, ◌-◌}
+use Rattle.g1_replay.specs.{true, Ok, Follows}
 use Rattle.g1_replay.proofs.lines.playing.play_lines.Given as goal
 
 -- what was done so far

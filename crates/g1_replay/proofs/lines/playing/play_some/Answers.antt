@@ -1,11 +1,5 @@
-use Rattle.std.proofs.Common.{[], take, subst, sym, arith, rules}
-use Rattle.std.specs.Io.BufRead.{FillKeeps}
-use Rattle.std.specs.Io.KnownBytes.{Consumes}
-use Rattle.std.proofs.BufReadLemmas.{Consumes_shown}
-use Rattle.std.proofs.KnownBytes.{Consumes-nil}
-use Rattle.std.proofs.lemmas.Result.{err_from_is_err_and}
-use Rattle.g1_replay.specs.declared.stop.Stop.TheVariants.{ReadFailed}
-use Rattle.g1_replay.proofs.PlayingLemmas.{follows_then, line_unread}
+use Rattle.g1_replay.specs.{[], take, subst, sym, arith, rules, FillKeeps, Consumes, Consumes_shown, Consumes-nil, err_from_is_err_and, ReadFailed}
+use Rattle.g1_replay.proofs.{follows_then, line_unread}
 use Rattle.g1_replay.proofs.ReadingLemmas.{line_stopped}
 use Rattle.g1_replay.proofs.lines.playing.play_some.Goals as goal
 use Rattle.g1_replay.proofs.lines.playing.play_some.Goals.{After-consume}

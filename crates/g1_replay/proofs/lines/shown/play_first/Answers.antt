@@ -1,5 +1,5 @@
-use Rattle.std.proofs.Common.{rules, arith}
-use Rattle.g1_replay.proofs.PlayingLemmas.{first_played, line_done}
+use Rattle.g1_replay.specs.{rules, arith}
+use Rattle.g1_replay.proofs.{first_played, line_done}
 use Rattle.g1_replay.proofs.ReadingLemmas.{shown_read, takes_some}
 use Rattle.g1_replay.proofs.lines.shown.play_first.Goals as goal
 

@@ -1,8 +1,5 @@
-use Rattle.std.proofs.Common.{None, Some, true, rules, arith}
-use Rattle.std.specs.Prelude.{Ok, Err}
-use Rattle.g1_replay.specs.declared.stop.Stop.TheVariants.{Fault}
-use Rattle.g1_replay.proofs.PartLemmas.{line_shown}
-use Rattle.g1_replay.proofs.PlayingLemmas.{first_played, line_done, line_passed, line_unread}
+use Rattle.g1_replay.specs.{None, Some, true, rules, arith, Ok, Err, Fault}
+use Rattle.g1_replay.proofs.{line_shown, first_played, line_done, line_passed, line_unread}
 use Rattle.g1_replay.proofs.ReadingLemmas.{command_faulty, command_read, takes_some}
 use Rattle.g1_replay.proofs.lines.shown.play_other.Goals as goal
 

@@ -1,6 +1,5 @@
-use Rattle.std.proofs.Common.{true, arith}
-use Rattle.std.specs.Prelude.{Ok, Err}
-use Rattle.g1_replay.proofs.PlayingLemmas.{front_none, front_then}
+use Rattle.g1_replay.specs.{true, arith, Ok, Err}
+use Rattle.g1_replay.proofs.{front_none, front_then}
 use Rattle.g1_replay.proofs.lines.shown.play_shown.Goals as goal
 
 pub lines-init : goal.lines-init

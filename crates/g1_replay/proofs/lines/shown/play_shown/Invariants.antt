@@ -1,6 +1,5 @@
-use Rattle.std.proofs.Common.{◌+◌, ◌-◌, ◌≤◌, take, length, true}
-use Rattle.std.specs.Prelude.{Ok}
-use Rattle.g1_replay.specs.Playing.{FollowsFront}
+use Rattle.std.specs.Prelude.{◌+◌, ◌-◌, ◌≤◌}
+use Rattle.g1_replay.specs.{take, length, true, Ok, FollowsFront}
 use Rattle.g1_replay.proofs.lines.shown.play_shown.Given as goal
 
 -- what was done so far

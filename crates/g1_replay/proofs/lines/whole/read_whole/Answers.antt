@@ -1,5 +1,5 @@
-use Rattle.std.proofs.lemmas.Result.{err_from_is_err_and}
-use Rattle.g1_replay.proofs.ScriptedLemmas.{head_stops, lines_stop, lines_read}
+use Rattle.g1_replay.specs.{err_from_is_err_and}
+use Rattle.g1_replay.proofs.{head_stops, lines_stop, lines_read}
 use Rattle.g1_replay.proofs.lines.whole.read_whole.Goals as goal
 
 pub returns-in_err-layout-clause-read : goal.returns-in_err-layout-clause-read

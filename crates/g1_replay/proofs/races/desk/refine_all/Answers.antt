@@ -1,7 +1,5 @@
-use Rattle.std.proofs.Common.{◌≡◌, ◌<◌, ℕ, List, ◌∙◌, subst, take, All, Contains}
-use Rattle.std.proofs.lemmas.List.{take_all}
-use Rattle.g1_layout.specs.Shape.{card_count}
-use Rattle.g1_race.specs.Members.{race_layout, sweeper_view}
+use Rattle.std.specs.Prelude.{◌≡◌, ◌<◌}
+use Rattle.g1_replay.specs.{ℕ, List, ◌∙◌, subst, take, All, Contains, take_all, card_count, race_layout, sweeper_view}
 use Rattle.g1_replay.proofs.SweptLemmas.{swept_more}
 use Rattle.g1_replay.proofs.races.desk.refine_all.Goals as goal
 

@@ -1,6 +1,5 @@
-use Rattle.std.proofs.Common.{◌≡◌, ◌<◌, All, Contains, take}
-use Rattle.g1_layout.specs.Shape.{card_count}
-use Rattle.g1_race.specs.Members.{race_id, race_layout, sweeper_race, sweeper_start, sweeper_view}
+use Rattle.std.specs.Prelude.{◌≡◌, ◌<◌}
+use Rattle.g1_replay.specs.{All, Contains, take, card_count, race_id, race_layout, sweeper_race, sweeper_start, sweeper_view}
 use Rattle.g1_replay.proofs.races.desk.refine_all.Given as goal
 
 -- the cards so far were swept

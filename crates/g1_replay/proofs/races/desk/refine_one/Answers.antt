@@ -1,4 +1,4 @@
-use Rattle.std.proofs.Common.{◌∙◌}
+use Rattle.g1_replay.specs.{◌∙◌}
 use Rattle.g1_replay.proofs.SweptLemmas.{kept_ok, swept_ok}
 use Rattle.g1_replay.proofs.races.desk.refine_one.Goals as goal
 

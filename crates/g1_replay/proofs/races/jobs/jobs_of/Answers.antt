@@ -1,15 +1,7 @@
-use Rattle.std.proofs.Common.{◌≡◌, ◌+◌, ◌++◌, ℕ, suc, map, ap, ◌∙◌, sym, subst, arith}
-use Rattle.std.specs.Prelude.{All}
-use Rattle.std.specs.Vec.Iter.{into_iter_items}
-use Rattle.std.proofs.lemmas.List.Elements.{All-nil, All-push, All-same}
-use Rattle.g1_layout.specs.Shape.{slot_count}
+use Rattle.std.specs.Prelude.{◌≡◌, ◌+◌, ◌++◌}
+use Rattle.g1_replay.specs.{ℕ, suc, map, ap, ◌∙◌, sym, subst, arith, All, into_iter_items, All-nil, All-push, All-same, slot_count, race_layout, ScriptFits, Member, is_racer, AllFrom, IsNewMember, IsRaceJob}
 use Rattle.g1_race.specs.declared.race.Race.{Race}
-use Rattle.g1_race.specs.Members.{race_layout}
-use Rattle.g1_steps.specs.Ask.{ScriptFits}
-use Rattle.g1_replay.specs.declared.races.desk.Member.{Member}
-use Rattle.g1_replay.specs.Members.{is_racer}
-use Rattle.g1_replay.specs.RaceJobs.{AllFrom, IsNewMember, IsRaceJob}
-use Rattle.g1_replay.proofs.PlacedLemmas.{all_from_next, all_from_rest, all_moved, list_moves}
+use Rattle.g1_replay.proofs.{all_from_next, all_from_rest, all_moved, list_moves}
 use Rattle.g1_replay.proofs.RanRaceLemmas.{race_script_fits}
 use Rattle.g1_replay.proofs.races.jobs.jobs_of.Goals as goal
 

@@ -1,10 +1,5 @@
-use Rattle.std.proofs.Common.{◌≡◌, ◌+◌, ◌++◌, ◌≤◌, map, vec_len, vec_capacity, All}
-use Rattle.std.specs.Vec.Iter.{into_iter_len, into_iter_items}
-use Rattle.g1_layout.specs.Shape.{slot_count}
-use Rattle.g1_race.specs.Members.{race_layout}
-use Rattle.g1_steps.specs.Ask.{ScriptFits}
-use Rattle.g1_replay.specs.Members.{is_racer}
-use Rattle.g1_replay.specs.RaceJobs.{AllFrom, IsNewMember, IsRaceJob}
+use Rattle.std.specs.Prelude.{◌≡◌, ◌+◌, ◌++◌, ◌≤◌}
+use Rattle.g1_replay.specs.{map, vec_len, vec_capacity, All, into_iter_len, into_iter_items, slot_count, race_layout, ScriptFits, is_racer, AllFrom, IsNewMember, IsRaceJob}
 use Rattle.g1_replay.proofs.races.jobs.jobs_of.Given as goal
 
 -- the jobs so far are those of the members that came first

@@ -1,9 +1,7 @@
-use Rattle.std.proofs.Common.{◌≡◌, map, ap, arith}
-use Rattle.std.specs.Vec.Iter.{into_iter_items}
-use Rattle.g1_replay.specs.RaceJobs.{racer_in, sender_in, sweeper_in, taker_in}
-use Rattle.g1_replay.proofs.PlacedLemmas.{sorted_all, sorted_more, sorted_none}
+use Rattle.std.specs.Prelude.{◌≡◌}
+use Rattle.g1_replay.specs.{map, ap, arith, into_iter_items, racer_in, sender_in, sweeper_in, taker_in, first_refusal}
+use Rattle.g1_replay.proofs.{sorted_all, sorted_more, sorted_none}
 use Rattle.g1_replay.proofs.RanRaceLemmas.{first_left, none_left}
-use Rattle.g1_replay.specs.Scripts.{first_refusal}
 use Rattle.g1_replay.proofs.races.jobs.returned_by.Goals as goal
 
 pub loop-job-preserved : goal.loop-job-preserved

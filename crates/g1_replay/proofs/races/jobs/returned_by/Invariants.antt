@@ -1,8 +1,5 @@
-use Rattle.std.proofs.Common.{◌≡◌, ◌++◌, map}
-use Rattle.std.specs.List.{filter_map}
-use Rattle.std.specs.Vec.Iter.{into_iter_items}
-use Rattle.g1_replay.specs.RaceJobs.{racer_in, sender_in, sweeper_in, taker_in}
-use Rattle.g1_replay.specs.Scripts.{first_refusal}
+use Rattle.std.specs.Prelude.{◌≡◌, ◌++◌}
+use Rattle.g1_replay.specs.{map, filter_map, into_iter_items, racer_in, sender_in, sweeper_in, taker_in, first_refusal}
 use Rattle.g1_replay.proofs.races.jobs.returned_by.Given as goal
 
 -- each list has what the jobs so far had of its kind, none of which was refused

@@ -1,29 +1,12 @@
-use Rattle.std.proofs.Common.{◌^◌, ◌≡◌, ◌+◌, ◌<◌, List, length, map, ap, refl, sym, subst, ◌∙◌, arith, All}
-use Rattle.std.specs.Prelude.{sum_by}
-use Rattle.std.proofs.lemmas.List.Elements.{All-contains}
+use Rattle.std.specs.Prelude.{◌^◌, ◌≡◌, ◌+◌, ◌<◌}
+use Rattle.g1_replay.specs.{List, length, map, ap, refl, sym, subst, ◌∙◌, arith, All, sum_by, All-contains, slot_count, in_contains, IsCommandOf, Store, IsPairOf, Sender, Taker, sender_rights, taker_rights, IsSenderOf, IsTakerOf, Racer, Sweeper, Begun, beginning, null_of, IsKnown, IsOver, shape_of, null_begun, race_begun, race_id, racer_race, racer_start, racer_view, sweeper_race, sweeper_start, sweeper_view, Member, member_rights, IsMemberOf, racer_in, sweeper_in, sender_in, taker_in}
 use Rattle.g1_layout.specs.Shape as layout
-use Rattle.g1_layout.specs.Shape.{slot_count}
-use Rattle.g1_race_words.proofs.Places.{in_contains}
 use Rattle.g1_race.proofs.StoreCalls.{word_fits}
-use Rattle.g1_trace.specs.Grammar.{IsCommandOf}
-use Rattle.g1_trace.specs.declared.command.Command.TheVariants.{Store}
-use Rattle.g1_core.specs.Adoption.{IsPairOf}
-use Rattle.g1_log.specs.declared.ends.Sender.{Sender}
-use Rattle.g1_log.specs.declared.ends.Taker.{Taker}
-use Rattle.g1_log.specs.Ends.{sender_rights, taker_rights, IsSenderOf, IsTakerOf}
-use Rattle.g1_race.specs.declared.race.Racer.{Racer}
-use Rattle.g1_race.specs.declared.race.Sweeper.{Sweeper}
-use Rattle.g1_race_words.specs.Begin.{Begun}
 use Rattle.g1_race_words.specs.declared.view.Shape.{Shape}
-use Rattle.g1_race_words.specs.Rule.{beginning, null_of}
-use Rattle.g1_race.specs.Race.{IsKnown, IsOver, shape_of}
 use Rattle.g1_race.proofs.Fresh.{begun_as}
 use Rattle.g1_race.proofs.Opening.{begins_null}
-use Rattle.g1_race.specs.Members.{null_begun, race_begun, race_id, racer_race, racer_start, racer_view, sweeper_race, sweeper_start, sweeper_view}
-use Rattle.g1_replay.specs.declared.races.desk.Member.{Member}
-use Rattle.g1_replay.specs.Members.{member_rights}
 use Rattle.g1_replay.proofs.LeftLemmas.{table_left}
-use Rattle.g1_replay.proofs.PlacedLemmas.{racers_of, senders_of, sweepers_of, takers_of, sorted_length, sorted_rights}
+use Rattle.g1_replay.proofs.{all_chosen, racer_of, sender_of, sweeper_of, taker_of, sorted_length, sorted_rights}
 use Rattle.g1_replay.proofs.RanRaceLemmas.{AreRun, are_run, each_own, every_own, views_of}
 use Rattle.g1_replay.proofs.races.jobs.run_race.Goals as goal
 use Rattle.g1_replay.proofs.races.jobs.run_race.Goals.{In_ok-returned}
@@ -34,11 +17,11 @@ run g c = are_run (λ d. d.member) c.in_ok-race.race c.in_ok-line.line c.args.op
 
 pub settle-requires-clause-senders : goal.settle-requires-clause-senders
 settle-requires-clause-senders g c =
-    subst (λ (xs : List Sender). All (IsSenderOf c.in_ok-line.line) xs) (sym c.in_ok-returned.ensures.senders) (senders_of c.in_ok-race.race c.in_ok-line.line _ (run g c).of)
+    subst (λ (xs : List Sender). All (IsSenderOf c.in_ok-line.line) xs) (sym c.in_ok-returned.ensures.senders) (all_chosen (IsMemberOf c.in_ok-race.race c.in_ok-line.line) (IsSenderOf c.in_ok-line.line) sender_in (sender_of c.in_ok-race.race c.in_ok-line.line) _ (run g c).of)
 
 pub settle-requires-clause-takers : goal.settle-requires-clause-takers
 settle-requires-clause-takers g c =
-    subst (λ (xs : List Taker). All (IsTakerOf c.in_ok-line.line) xs) (sym c.in_ok-returned.ensures.takers) (takers_of c.in_ok-race.race c.in_ok-line.line _ (run g c).of)
+    subst (λ (xs : List Taker). All (IsTakerOf c.in_ok-line.line) xs) (sym c.in_ok-returned.ensures.takers) (all_chosen (IsMemberOf c.in_ok-race.race c.in_ok-line.line) (IsTakerOf c.in_ok-line.line) taker_in (taker_of c.in_ok-race.race c.in_ok-line.line) _ (run g c).of)
 
 pub settle-requires-clause-all : goal.settle-requires-clause-all
 settle-requires-clause-all g c =
@@ -68,12 +51,12 @@ close-requires-clause-racers g c =
         c.in_ok-returned.returned.sweepers.ok.0,
         c.in_ok-members.members.ok.0,
       ),
-      subst (λ (xs : List Racer). All (λ r. racer_race r ≡ race_id c.in_ok-race.race) xs) (sym c.in_ok-returned.ensures.racers) (λ k d lt. (racers_of c.in_ok-race.race c.in_ok-line.line _ (run g (goal.at.close-requires-clause-racers g c).In_ok-returned).of k d lt).0),
+      subst (λ (xs : List Racer). All (λ r. racer_race r ≡ race_id c.in_ok-race.race) xs) (sym c.in_ok-returned.ensures.racers) (λ k d lt. (all_chosen (IsMemberOf c.in_ok-race.race c.in_ok-line.line) (λ r. (racer_race r ≡ race_id c.in_ok-race.race) × (racer_start r ≡ null_of c.in_ok-race.race.shape)) racer_in (racer_of c.in_ok-race.race c.in_ok-line.line) _ (run g (goal.at.close-requires-clause-racers g c).In_ok-returned).of k d lt).0),
     )
 
 pub close-requires-clause-sweepers : goal.close-requires-clause-sweepers
 close-requires-clause-sweepers g c =
-    subst (λ (xs : List Sweeper). All (λ w. sweeper_race w ≡ race_id c.in_ok-race.race) xs) (sym c.in_ok-returned.ensures.sweepers) (λ k d lt. (sweepers_of c.in_ok-race.race c.in_ok-line.line _ (run g (goal.at.close-requires-clause-sweepers g c).In_ok-returned).of k d lt).0)
+    subst (λ (xs : List Sweeper). All (λ w. sweeper_race w ≡ race_id c.in_ok-race.race) xs) (sym c.in_ok-returned.ensures.sweepers) (λ k d lt. (all_chosen (IsMemberOf c.in_ok-race.race c.in_ok-line.line) (λ w. (sweeper_race w ≡ race_id c.in_ok-race.race) × (sweeper_start w ≡ null_of c.in_ok-race.race.shape)) sweeper_in (sweeper_of c.in_ok-race.race c.in_ok-line.line) _ (run g (goal.at.close-requires-clause-sweepers g c).In_ok-returned).of k d lt).0)
 
 pub returns-clause-left : goal.returns-clause-left
 returns-clause-left g c =
@@ -90,8 +73,8 @@ returns-clause-left g c =
     let run = run g (goal.at.returns-clause-left g c).In_ok-returned in
     let members = ap (λ (xs : List Member). length xs) c.in_ok-jobs.ensures.members in
     let laid = c.close.ensures.layout ∙ c.in_ok-race.ensures.layout in
-    let racing = subst (λ (xs : List Racer). All (λ r. racer_start r ≡ null_of race.shape) xs) (sym c.in_ok-returned.ensures.racers) (λ k d lt. (racers_of race line ms run.of k d lt).1) in
-    let sweeping = subst (λ (xs : List Sweeper). All (λ w. sweeper_start w ≡ null_of race.shape) xs) (sym c.in_ok-returned.ensures.sweepers) (λ k d lt. (sweepers_of race line ms run.of k d lt).1) in
+    let racing = subst (λ (xs : List Racer). All (λ r. racer_start r ≡ null_of race.shape) xs) (sym c.in_ok-returned.ensures.racers) (λ k d lt. (all_chosen (IsMemberOf race line) (λ r. (racer_race r ≡ race_id c.in_ok-race.race) × (racer_start r ≡ null_of c.in_ok-race.race.shape)) racer_in (racer_of race line) ms run.of k d lt).1) in
+    let sweeping = subst (λ (xs : List Sweeper). All (λ w. sweeper_start w ≡ null_of race.shape) xs) (sym c.in_ok-returned.ensures.sweepers) (λ k d lt. (all_chosen (IsMemberOf race line) (λ w. (sweeper_race w ≡ race_id c.in_ok-race.race) × (sweeper_start w ≡ null_of c.in_ok-race.race.shape)) sweeper_in (sweeper_of race line) ms run.of k d lt).1) in
     let some : 0 < length rs + length ws = omega (arith, ap (λ (xs : List Racer). length xs) c.in_ok-returned.ensures.racers, ap (λ (xs : List Sweeper). length xs) c.in_ok-returned.ensures.sweepers, sorted_length ms, run.len, members, c.in_ok-members.ensures.len, c.in_ok-race.ensures.racers.0, c.in_ok-members.members.ok.0, c.args.options.now.mutators_in) in
     let begun : race_begun race (map racer_view rs) sweepers ≡ null_begun closed.layout count =
     begun_as race (null_of race.shape) rs ws racing sweeping refl some ∙ (ap (λ (k : Shape). beginning (null_of k)) (c.in_ok-race.ensures.shape ∙ ap (λ (l : layout.Shape). shape_of l count) (sym laid)) ∙ begins_null closed.layout count) in

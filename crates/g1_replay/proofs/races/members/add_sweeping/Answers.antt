@@ -1,12 +1,6 @@
-use Rattle.std.proofs.Common.{◌≡◌, sym, refl, arith, nat_lt, false, Some, vec_len}
-use Rattle.std.proofs.lemmas.Bool.{le-ltb}
-use Rattle.std.proofs.lemmas.List.Elements.{All-head, All-pop, All-rest, All-same}
-use Rattle.g1_log.specs.Ends.{taker_rights, IsTakerOf}
-use Rattle.g1_race.specs.declared.race.Sweeper.{Sweeper}
-use Rattle.g1_race_words.specs.Rule.{null_of}
-use Rattle.g1_race.specs.Members.{sweeper_start, IsFreshSweeper}
-use Rattle.g1_replay.specs.RaceJobs.{IsNewMember}
-use Rattle.g1_replay.proofs.PlacedLemmas.{all_from_next, rights_move}
+use Rattle.std.specs.Prelude.{◌≡◌}
+use Rattle.g1_replay.specs.{sym, refl, arith, nat_lt, false, Some, vec_len, le-ltb, All-head, All-pop, All-rest, All-same, taker_rights, IsTakerOf, Sweeper, null_of, sweeper_start, IsFreshSweeper, IsNewMember}
+use Rattle.g1_replay.proofs.{all_from_next, rights_move}
 use Rattle.g1_replay.proofs.races.members.add_sweeping.Goals as goal
 
 pub loop-sweeper-preserved : goal.loop-sweeper-preserved

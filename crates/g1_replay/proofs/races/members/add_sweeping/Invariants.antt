@@ -1,11 +1,5 @@
-use Rattle.std.proofs.Common.{◌≡◌, ◌≤◌, ◌+◌, All, vec_len}
-use Rattle.std.specs.Prelude.{sum_by}
-use Rattle.std.specs.Vec.Iter.{into_iter_len, into_iter_items}
-use Rattle.g1_log.specs.Ends.{taker_rights, IsTakerOf}
-use Rattle.g1_race_words.specs.Rule.{null_of}
-use Rattle.g1_race.specs.Members.{sweeper_start, IsFreshSweeper}
-use Rattle.g1_replay.specs.Members.{member_rights}
-use Rattle.g1_replay.specs.RaceJobs.{AllFrom, IsNewMember}
+use Rattle.std.specs.Prelude.{◌≡◌, ◌≤◌, ◌+◌}
+use Rattle.g1_replay.specs.{All, vec_len, sum_by, into_iter_len, into_iter_items, taker_rights, IsTakerOf, null_of, sweeper_start, IsFreshSweeper, member_rights, AllFrom, IsNewMember}
 use Rattle.g1_replay.proofs.races.members.add_sweeping.Given as goal
 
 abbrev pub invariant-loop-sweeper : goal.invariant-loop-sweeper

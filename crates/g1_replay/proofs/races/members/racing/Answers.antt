@@ -1,12 +1,6 @@
-use Rattle.std.proofs.Common.{◌≡◌, ◌<◌, ap, sym, refl, arith, nat_lt, true, length, Some, vec_len}
-use Rattle.std.proofs.lemmas.Bool.{lt-ltb}
-use Rattle.std.proofs.lemmas.List.Elements.{All-head, All-pop, All-rest, All-same}
-use Rattle.g1_log.specs.Ends.{sender_rights, IsSenderOf}
-use Rattle.g1_race.specs.declared.race.Racer.{Racer}
-use Rattle.g1_race_words.specs.Rule.{null_of}
-use Rattle.g1_race.specs.Members.{racer_start, IsFreshRacer}
-use Rattle.g1_replay.specs.RaceJobs.{IsNewMember}
-use Rattle.g1_replay.proofs.PlacedLemmas.{all_from_next, rights_move}
+use Rattle.std.specs.Prelude.{◌≡◌, ◌<◌}
+use Rattle.g1_replay.specs.{ap, sym, refl, arith, nat_lt, true, length, Some, vec_len, lt-ltb, All-head, All-pop, All-rest, All-same, sender_rights, IsSenderOf, Racer, null_of, racer_start, IsFreshRacer, IsNewMember}
+use Rattle.g1_replay.proofs.{all_from_next, rights_move}
 use Rattle.g1_replay.proofs.races.members.racing.Goals as goal
 
 pub loop-racer-preserved : goal.loop-racer-preserved

@@ -1,6 +1,5 @@
-use Rattle.std.proofs.Common.{◌≡◌, ◌≤◌, take}
-use Rattle.std.specs.Prelude.{count_by}
-use Rattle.g1_replay.specs.Race.{is_store_command}
+use Rattle.std.specs.Prelude.{◌≡◌, ◌≤◌}
+use Rattle.g1_replay.specs.{take, count_by, is_store_command}
 use Rattle.g1_replay.proofs.races.output.count_stores.Given as goal
 
 -- the stores among the commands so far

@@ -1,7 +1,5 @@
-use Rattle.std.proofs.Common.{◌∙◌, ap}
-use Rattle.std.proofs.lemmas.Result.{err_from_is_err_and}
-use Rattle.g1_core.specs.Table.{Table}
-use Rattle.g1_replay.proofs.RaceLemmas.{count_failed, race_written}
+use Rattle.g1_replay.specs.{◌∙◌, ap, err_from_is_err_and, Table}
+use Rattle.g1_replay.proofs.{count_failed, race_written}
 use Rattle.g1_replay.proofs.races.output.put_race.Goals as goal
 
 pub returns-in_err-put_stores : goal.returns-in_err-put_stores

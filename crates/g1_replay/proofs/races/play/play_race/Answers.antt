@@ -1,7 +1,6 @@
-use Rattle.std.proofs.Common.{◌≡◌, rules}
-use Rattle.std.proofs.lemmas.Result.{err_from_is_err_and}
-use Rattle.g1_replay.specs.Race.{RaceRan}
-use Rattle.g1_replay.proofs.ScriptedLemmas.{scripts_unread, scripts_run, listed}
+use Rattle.std.specs.Prelude.{◌≡◌}
+use Rattle.g1_replay.specs.{rules, err_from_is_err_and, RaceRan}
+use Rattle.g1_replay.proofs.{scripts_unread, scripts_run, listed}
 use Rattle.g1_replay.proofs.races.play.play_race.Goals as goal
 
 pub returns-in_err-layout : goal.returns-in_err-layout

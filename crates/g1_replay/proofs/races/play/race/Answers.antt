@@ -1,10 +1,7 @@
 use Rattle.g1_trace.specs.declared.mode.Mode.TheVariants.{Race}
-use Rattle.g1_replay.specs.Output.{dialect_in}
-use Rattle.g1_replay.specs.Race.{IsWholeRace, RacedTrace, RaceRan}
-use Rattle.g1_replay.specs.Scripted.{IsRefusedTrace}
+use Rattle.g1_replay.specs.{dialect_in, IsWholeRace, RacedTrace, RaceRan, IsRefusedTrace}
 use Rattle.g1_replay.proofs.EndLemmas.{replayed}
-use Rattle.g1_replay.proofs.RaceLemmas.{race_ends, whole_race}
-use Rattle.g1_replay.proofs.ScriptedLemmas.{refused_trace}
+use Rattle.g1_replay.proofs.{race_ends, whole_race, refused_trace}
 use Rattle.g1_replay.proofs.races.play.race.Goals as goal
 
 pub returns : goal.returns

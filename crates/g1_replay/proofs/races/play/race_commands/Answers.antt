@@ -1,11 +1,5 @@
-use Rattle.std.proofs.Common.{ap, subst}
-use Rattle.std.proofs.lemmas.Result.{err_from_is_err_and}
-use Rattle.g1_layout.specs.Shape.{Shape}
-use Rattle.g1_core.specs.Machine.{Machine}
-use Rattle.g1_replay.specs.Playing.{WritesSome}
-use Rattle.g1_replay.specs.Race.{RaceRan}
-use Rattle.g1_replay.specs.declared.stop.Stop.TheVariants.{NoMemory}
-use Rattle.g1_replay.proofs.RaceLemmas.{race_stopped}
+use Rattle.g1_replay.specs.{ap, subst, err_from_is_err_and, Shape, Machine, WritesSome, RaceRan, NoMemory}
+use Rattle.g1_replay.proofs.{race_stopped}
 use Rattle.g1_replay.proofs.races.play.race_commands.Goals as goal
 
 pub returns-in_err-closed : goal.returns-in_err-closed

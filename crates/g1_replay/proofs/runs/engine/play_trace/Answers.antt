@@ -1,4 +1,4 @@
-use Rattle.std.proofs.lemmas.Result.{err_from_is_err_and}
+use Rattle.g1_replay.specs.{err_from_is_err_and}
 use Rattle.g1_replay.proofs.ToldLemmas.{head_told, unopened_told, played_told}
 use Rattle.g1_replay.proofs.runs.engine.play_trace.Goals as goal
 

@@ -1,6 +1,5 @@
-use Rattle.g1_replay.specs.Output.{Told, IsWholeOutput, IsRefusedOutput, dialect_in}
+use Rattle.g1_replay.specs.{Told, IsWholeOutput, IsRefusedOutput, dialect_in, Run}
 use Rattle.g1_replay.proofs.EndLemmas.{replayed, whole_output, refused_output}
-use Rattle.g1_trace.specs.declared.mode.Mode.TheVariants.{Run}
 use Rattle.g1_replay.proofs.runs.engine.run.Goals as goal
 
 pub returns : goal.returns

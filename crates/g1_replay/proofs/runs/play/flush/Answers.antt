@@ -1,5 +1,5 @@
-use Rattle.std.proofs.Common.{rules, inl, inr}
-use Rattle.g1_replay.proofs.AnswerLemmas.{flush_made, flush_nothing}
+use Rattle.g1_replay.specs.{rules, inl, inr}
+use Rattle.g1_replay.proofs.{flush_made, flush_nothing}
 use Rattle.g1_replay.proofs.runs.play.flush.Goals as goal
 
 pub returns-clause-answered : goal.returns-clause-answered

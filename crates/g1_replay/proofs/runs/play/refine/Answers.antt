@@ -1,8 +1,6 @@
-use Rattle.std.proofs.Common.{rules, ◌∷◌, [], subst}
-use Rattle.g1_steps.specs.Made.{Refined, AreCalls}
-use Rattle.g1_steps.specs.Lent.{IsBookCall}
-use Rattle.g1_steps.specs.Steps.{buffer_in, called}
-use Rattle.g1_replay.proofs.AnswerLemmas.{refine_made}
+use Rattle.std.specs.Prelude.{◌∷◌}
+use Rattle.g1_replay.specs.{rules, [], subst, Refined, AreCalls, IsBookCall, buffer_in, called}
+use Rattle.g1_replay.proofs.{refine_made}
 use Rattle.g1_replay.proofs.runs.play.refine.Goals as goal
 
 pub returns-clause-answered : goal.returns-clause-answered

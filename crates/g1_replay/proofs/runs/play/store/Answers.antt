@@ -1,5 +1,5 @@
-use Rattle.std.proofs.Common.{rules}
-use Rattle.g1_replay.proofs.AnswerLemmas.{store_made}
+use Rattle.g1_replay.specs.{rules}
+use Rattle.g1_replay.proofs.{store_made}
 use Rattle.g1_replay.proofs.runs.play.store.Goals as goal
 
 pub returns-clause-answered : goal.returns-clause-answered

@@ -1,8 +1,6 @@
-use Rattle.std.proofs.Common.{rules, subst, ◌≤◌}
-use Rattle.g1_steps.specs.Made.{AreCalls}
-use Rattle.g1_steps.specs.Lent.{IsBookCall}
-use Rattle.g1_steps.specs.Rounds.{round_calls}
-use Rattle.g1_replay.proofs.AnswerLemmas.{work_made}
+use Rattle.std.specs.Prelude.{◌≤◌}
+use Rattle.g1_replay.specs.{rules, subst, AreCalls, IsBookCall, round_calls}
+use Rattle.g1_replay.proofs.{work_made}
 use Rattle.g1_replay.proofs.runs.play.work.Goals as goal
 
 pub returns-clause-answered : goal.returns-clause-answered

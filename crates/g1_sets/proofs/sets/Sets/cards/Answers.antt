@@ -1,11 +1,7 @@
-use Rattle.std.proofs.Common.{◌≡◌, ◌<◌, ◌∙◌, subst, sym}
-use Rattle.std.specs.Prelude.{All, IfOk}
-use Rattle.g1_layout.specs.Shape.{card_count}
-use Rattle.g1_sets.specs.Ascending.{AreInOrder}
-use Rattle.g1_sets.specs.Members.{lists_of}
-use Rattle.g1_sets.specs.Pairs.{Pairs, AreCardsOf, list_at}
-use Rattle.g1_sets.proofs.PairLemmas.{cards_if}
-use Rattle.g1_sets.proofs.SetLemmas.{list_here}
+use Rattle.std.specs.Prelude.{◌≡◌, ◌<◌}
+use Rattle.g1_sets.specs.{◌∙◌, subst, sym, All, IfOk, card_count, AreInOrder, lists_of, AreCardsOf, list_at}
+use Rattle.g1_sets.specs.Pairs.{Pairs}
+use Rattle.g1_sets.proofs.{cards_if, list_here}
 use Rattle.g1_sets.proofs.sets.Sets.cards.Goals as goal
 
 pub ascending-requires-clause-below : goal.ascending-requires-clause-below

@@ -1,12 +1,7 @@
-use Rattle.std.proofs.Common.{◌≡◌, ap, subst, sym, ◌∙◌, ◌<◌, ◌++◌, length, take, drop, arith, []}
-use Rattle.std.specs.Prelude.{All, slice_set}
-use Rattle.g1_layout.specs.Shape.{card_count}
-use Rattle.g1_sets.specs.Pairs.{Pairs, pairs_of, without}
-use Rattle.g1_sets.specs.Rows.{AreSets, RowsLose}
-use Rattle.g1_sets.specs.Members.{lists_of}
-use Rattle.g1_sets.proofs.PairLemmas.{emptied_pairs}
-use Rattle.g1_sets.proofs.RowLemmas.{sets_cleared}
-use Rattle.g1_sets.proofs.SetLemmas.{lists_set, list_here, whole}
+use Rattle.std.specs.Prelude.{◌≡◌, ◌<◌, ◌++◌}
+use Rattle.g1_sets.specs.{ap, subst, sym, ◌∙◌, length, take, drop, arith, [], All, slice_set, card_count, pairs_of, without, AreSets, RowsLose, lists_of}
+use Rattle.g1_sets.specs.Pairs.{Pairs}
+use Rattle.g1_sets.proofs.{emptied_pairs, sets_cleared, lists_set, list_here, whole}
 use Rattle.g1_sets.proofs.sets.Sets.clear.Goals as goal
 
 within : (c : goal.After-self-2-1) → c.args.region < length (lists_of c.self.inside.sets.items)

@@ -1,11 +1,8 @@
-use Rattle.std.proofs.Common.{ap, subst, sym, ◌∙◌, ◌<◌}
-use Rattle.std.specs.Prelude.{nat_eq}
-use Rattle.std.specs.List.{list_any}
+use Rattle.std.specs.Prelude.{◌<◌}
+use Rattle.g1_sets.specs.{ap, subst, sym, ◌∙◌, nat_eq, list_any, lists_of}
 use Rattle.std.specs.FinSet as set
 use Rattle.g1_sets.specs.Pairs.{Pairs}
-use Rattle.g1_sets.specs.Members.{lists_of}
-use Rattle.g1_sets.proofs.PairLemmas.{found}
-use Rattle.g1_sets.proofs.SetLemmas.{list_here}
+use Rattle.g1_sets.proofs.{found, list_here}
 use Rattle.g1_sets.proofs.sets.Sets.has.Goals as goal
 
 pub returns : goal.returns

@@ -1,10 +1,7 @@
-use Rattle.std.proofs.Common.{◌≡◌, ap, subst, sym, ◌<◌, ◌≤◌, length, arith}
-use Rattle.g1_layout.specs.Shape.{card_count}
-use Rattle.g1_layout.proofs.ShapeLemmas.{card_count_limit}
-use Rattle.g1_sets.specs.Pairs.{Pairs, AreTied, list_at}
-use Rattle.g1_sets.specs.Members.{lists_of}
-use Rattle.g1_sets.proofs.PairLemmas.{tied}
-use Rattle.g1_sets.proofs.SetLemmas.{list_here}
+use Rattle.std.specs.Prelude.{◌≡◌, ◌<◌, ◌≤◌}
+use Rattle.g1_sets.specs.{ap, subst, sym, length, arith, card_count, card_count_limit, AreTied, list_at, lists_of}
+use Rattle.g1_sets.specs.Pairs.{Pairs}
+use Rattle.g1_sets.proofs.{tied, list_here}
 use Rattle.g1_sets.proofs.BoundLemmas.{few_listed}
 use Rattle.g1_sets.proofs.sets.Sets.len.Goals as goal
 

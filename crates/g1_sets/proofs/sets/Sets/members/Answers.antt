@@ -1,7 +1,5 @@
-use Rattle.std.proofs.Common.{subst}
-use Rattle.g1_sets.specs.Pairs.{AreTied}
-use Rattle.g1_sets.specs.Members.{lists_of}
-use Rattle.g1_sets.proofs.PairLemmas.{tied}
+use Rattle.g1_sets.specs.{subst, AreTied, lists_of}
+use Rattle.g1_sets.proofs.{tied}
 use Rattle.g1_sets.proofs.sets.Sets.members.Goals as goal
 
 pub returns-clause-tied : goal.returns-clause-tied

@@ -1,11 +1,6 @@
-use Rattle.std.proofs.Common.{◌≡◌, ap, subst, sym, ◌∙◌, [], rules}
-use Rattle.std.specs.Prelude.{replicate}
-use Rattle.g1_layout.specs.Shape.{card_count}
-use Rattle.g1_sets.specs.Pairs.{pairs_of}
-use Rattle.g1_sets.specs.Rows.{AreSets}
-use Rattle.g1_sets.specs.Members.{lists_of}
-use Rattle.g1_sets.proofs.PairLemmas.{none_recorded}
-use Rattle.g1_sets.proofs.RowLemmas.{sets_empty}
+use Rattle.std.specs.Prelude.{◌≡◌}
+use Rattle.g1_sets.specs.{ap, subst, sym, ◌∙◌, [], rules, replicate, card_count, pairs_of, AreSets, lists_of}
+use Rattle.g1_sets.proofs.{none_recorded, sets_empty}
 use Rattle.g1_sets.proofs.sets.Sets.new.Goals as goal
 
 lists : (c : goal.In_ok-rows) → lists_of c.in_ok-sets.sets.items ≡ replicate c.args.layout.regions []

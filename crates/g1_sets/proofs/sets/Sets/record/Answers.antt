@@ -1,13 +1,8 @@
-use Rattle.std.proofs.Common.{◌≡◌, ap, subst, sym, ◌∙◌, ◌<◌, ◌++◌, length, take, drop, arith}
-use Rattle.std.specs.Prelude.{slice_set}
+use Rattle.std.specs.Prelude.{◌≡◌, ◌<◌, ◌++◌}
+use Rattle.g1_sets.specs.{ap, subst, sym, ◌∙◌, length, take, drop, arith, slice_set, card_count, Joins, pairs_of, of_card, AreSets, IsRowOf, lists_of}
 use Rattle.std.specs.FinSet as set
-use Rattle.g1_layout.specs.Shape.{card_count}
-use Rattle.g1_sets.specs.Pairs.{Pairs, Joins, pairs_of, of_card}
-use Rattle.g1_sets.specs.Rows.{AreSets, IsRowOf}
-use Rattle.g1_sets.specs.Members.{lists_of}
-use Rattle.g1_sets.proofs.PairLemmas.{joined_pairs}
-use Rattle.g1_sets.proofs.RowLemmas.{row_read, sets_joined}
-use Rattle.g1_sets.proofs.SetLemmas.{whole}
+use Rattle.g1_sets.specs.Pairs.{Pairs}
+use Rattle.g1_sets.proofs.{joined_pairs, row_read, sets_joined, whole}
 use Rattle.g1_sets.proofs.sets.Sets.record.Goals as goal
 
 pub join-requires-clause-row : goal.join-requires-clause-row

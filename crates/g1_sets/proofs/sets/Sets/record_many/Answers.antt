@@ -1,13 +1,8 @@
-use Rattle.std.proofs.Common.{◌≡◌, ap, subst, sym, ◌∙◌, ◌<◌, ◌++◌, length, take, drop, arith}
-use Rattle.std.specs.Prelude.{All, slice_set}
+use Rattle.std.specs.Prelude.{◌≡◌, ◌<◌, ◌++◌}
+use Rattle.g1_sets.specs.{ap, subst, sym, ◌∙◌, length, take, drop, arith, All, slice_set, card_count, list_at, with_cards, pairs_of, of_region, AreSets, RowsGain, lists_of}
 use Rattle.std.specs.FinSet as set
-use Rattle.g1_layout.specs.Shape.{card_count}
-use Rattle.g1_sets.specs.Pairs.{Pairs, list_at, with_cards, pairs_of, of_region}
-use Rattle.g1_sets.specs.Rows.{AreSets, RowsGain}
-use Rattle.g1_sets.specs.Members.{lists_of}
-use Rattle.g1_sets.proofs.PairLemmas.{many_pairs}
-use Rattle.g1_sets.proofs.RowLemmas.{sets_many}
-use Rattle.g1_sets.proofs.SetLemmas.{whole}
+use Rattle.g1_sets.specs.Pairs.{Pairs}
+use Rattle.g1_sets.proofs.{many_pairs, sets_many, whole}
 use Rattle.g1_sets.proofs.sets.Sets.record_many.Goals as goal
 
 sets_now : (c : goal.After-self-3-1) → take c.self.inside.sets.len (c.insert_many.new.sets ++ drop (length c.insert_many.new.sets) c.self.inside.sets.items) ≡ c.insert_many.new.sets

@@ -1,13 +1,8 @@
-use Rattle.std.proofs.Common.{◌<◌, arith, subst, sym, ◌↔◌}
-use Rattle.std.specs.Prelude.{IsTrue}
+use Rattle.std.specs.Prelude.{◌<◌, ◌↔◌}
+use Rattle.g1_sets.specs.{arith, subst, sym, IsTrue, card_count, HasRegion, lists_of, IsRowOf}
 use Rattle.std.specs.FinSet as set
-use Rattle.g1_layout.specs.Shape.{card_count}
-use Rattle.g1_layout.specs.Regions.{HasRegion}
-use Rattle.g1_sets.specs.Members.{lists_of}
 use Rattle.g1_sets.specs.Pairs.{Pairs}
-use Rattle.g1_sets.specs.Rows.{IsRowOf}
-use Rattle.g1_sets.proofs.PairLemmas.{to_set, in_set}
-use Rattle.g1_sets.proofs.RowLemmas.{row_read}
+use Rattle.g1_sets.proofs.{to_set, in_set, row_read}
 use Rattle.g1_sets.proofs.sets.Sets.regions_of.Goals as goal
 
 pub returns : goal.returns

@@ -1,11 +1,9 @@
-use Rattle.std.proofs.Common.{◌≡◌, ◌∙◌, ℕ, ◌<◌, ◌≤◌, ◌^◌, List, length, min, ap, sym, subst, arith}
-use Rattle.std.specs.Prelude.{sum_by}
+use Rattle.std.specs.Prelude.{◌≡◌, ◌<◌, ◌≤◌, ◌^◌}
+use Rattle.g1_sets.specs.{◌∙◌, ℕ, List, length, min, ap, sym, subst, arith, sum_by, IsWithinProfile, pairs_of, HasOnlyOutside, lists_of}
 use Rattle.std.specs.FinSet as set
-use Rattle.g1_layout.specs.Shape.{IsWithinProfile}
-use Rattle.g1_sets.specs.Pairs.{Pairs, pairs_of, HasOnlyOutside}
-use Rattle.g1_sets.specs.Members.{lists_of}
+use Rattle.g1_sets.specs.Pairs.{Pairs}
 use Rattle.g1_sets.proofs.BoundLemmas.{few_pairs, few_in_profile, few_outside}
-use Rattle.g1_sets.proofs.PairLemmas.{to_set}
+use Rattle.g1_sets.proofs.{to_set}
 use Rattle.g1_sets.proofs.TotalLemmas.{total_is}
 use Rattle.g1_sets.proofs.sets.Sets.total.Goals as goal
 

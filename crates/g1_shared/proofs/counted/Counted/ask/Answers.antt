@@ -1,4 +1,4 @@
-use Rattle.g1_shared.proofs.CallLemmas.{call_counted, made_raised, asked_plain}
+use Rattle.g1_shared.proofs.{call_counted, made_raised, asked_plain}
 use Rattle.g1_shared.proofs.counted.Counted.ask.Goals as goal
 
 pub raise_made-requires : goal.raise_made-requires

@@ -1,5 +1,5 @@
-use Rattle.std.proofs.Common.{refl}
-use Rattle.g1_shared.proofs.CallLemmas.{call_counted, made_raised}
+use Rattle.g1_shared.specs.{refl}
+use Rattle.g1_shared.proofs.{call_counted, made_raised}
 use Rattle.g1_shared.proofs.counted.Counted.redirect.Goals as goal
 
 pub raise_made-requires : goal.raise_made-requires

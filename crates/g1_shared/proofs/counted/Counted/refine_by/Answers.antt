@@ -1,6 +1,5 @@
-use Rattle.std.proofs.Common.{refl, ap}
-use Rattle.g1_history.specs.History.{Terms}
-use Rattle.g1_shared.proofs.CallLemmas.{call_counted, made_raised}
+use Rattle.g1_shared.specs.{refl, ap, Terms}
+use Rattle.g1_shared.proofs.{call_counted, made_raised}
 use Rattle.g1_shared.proofs.counted.Counted.refine_by.Goals as goal
 
 pub raise_made-requires : goal.raise_made-requires

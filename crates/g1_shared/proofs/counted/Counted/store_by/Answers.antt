@@ -1,5 +1,5 @@
-use Rattle.std.proofs.Common.{refl, rules}
-use Rattle.g1_shared.proofs.CallLemmas.{store_counted, total_fits, stored_fits}
+use Rattle.g1_shared.specs.{refl, rules}
+use Rattle.g1_shared.proofs.{store_counted, total_fits, stored_fits}
 use Rattle.g1_shared.proofs.KindLemmas.{kind_at}
 use Rattle.g1_shared.proofs.counted.Counted.store_by.Goals as goal
 

@@ -1,4 +1,5 @@
-use Rattle.std.proofs.Common.{◌≡◌, ◌+◌, vec_len, sum_by}
+use Rattle.std.specs.Prelude.{◌≡◌, ◌+◌}
+use Rattle.g1_shared.specs.{vec_len, sum_by}
 use Rattle.g1_shared.proofs.shared.Shared.give_up.Given as goal
 
 abbrev pub invariant-loop-caller : goal.invariant-loop-caller

@@ -1,7 +1,5 @@
-use Rattle.std.proofs.Common.{◌≡◌, ℕ, ◌<◌, ◌≤◌, length, get_or}
-use Rattle.g1_log.specs.Ends.{capacity_of}
-use Rattle.g1_steps.specs.Steps.{Empties}
-use Rattle.g1_shared.specs.Callers.{CallerState, IsCallerAtPause, taken_list}
+use Rattle.std.specs.Prelude.{◌≡◌, ◌<◌, ◌≤◌}
+use Rattle.g1_shared.specs.{ℕ, length, get_or, capacity_of, Empties, CallerState, IsCallerAtPause, taken_list}
 use Rattle.g1_shared.proofs.shared.Shared.pause.Given as goal
 
 abbrev pub invariant-loop-at : goal.invariant-loop-at

@@ -1,7 +1,4 @@
-use Rattle.std.proofs.Common.{subst}
-use Rattle.g1_log.specs.Ends.{taken_of}
-use Rattle.g1_steps.specs.Steps.{GainsAtMost}
-use Rattle.g1_shared.specs.Callers.{CallerState, taken_list}
+use Rattle.g1_shared.specs.{subst, taken_of, GainsAtMost, CallerState, taken_list}
 use Rattle.g1_shared.proofs.CountLemmas.{refinement_gains}
 use Rattle.g1_shared.proofs.shared.Shared.refine.Goals as goal
 

@@ -1,7 +1,5 @@
-use Rattle.std.proofs.Common.{rules, arith, ◌≡◌, ◌≤◌, ap, subst, sym, length}
-use Rattle.g1_log.specs.Ends.{capacity_of, taken_of}
-use Rattle.g1_steps.specs.Rounds.{IsRound, round_size}
-use Rattle.g1_shared.specs.Counts.{CallerCounts, CountsDid}
+use Rattle.std.specs.Prelude.{◌≡◌, ◌≤◌}
+use Rattle.g1_shared.specs.{rules, arith, ap, subst, sym, length, capacity_of, taken_of, IsRound, round_size, CallerCounts, CountsDid}
 use Rattle.g1_shared.proofs.CountLemmas.{IsWorked, round_counted, size_within}
 use Rattle.g1_shared.proofs.DeskLemmas.{rounds_as}
 use Rattle.g1_shared.proofs.shared.Shared.work_by.Goals as goal

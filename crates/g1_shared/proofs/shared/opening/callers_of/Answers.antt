@@ -1,6 +1,5 @@
-use Rattle.std.proofs.Common.{rules, arith, ◌≡◌, length, ap, subst}
-use Rattle.g1_shared.specs.Counts.{CallerCounts}
-use Rattle.g1_shared.specs.Callers.{IsNewCaller}
+use Rattle.std.specs.Prelude.{◌≡◌}
+use Rattle.g1_shared.specs.{rules, arith, length, ap, subst, CallerCounts, IsNewCaller}
 use Rattle.g1_shared.proofs.EachLemmas.{each_more}
 use Rattle.g1_shared.proofs.shared.opening.callers_of.Goals as goal
 

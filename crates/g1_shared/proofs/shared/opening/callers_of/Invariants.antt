@@ -1,8 +1,5 @@
-use Rattle.std.proofs.Common.{◌≡◌, ℕ, ◌+◌, ◌-◌, ◌<◌, ◌≤◌, vec_len, vec_capacity, get_or, All}
-use Rattle.std.specs.Vec.Iter.{into_iter_items, into_iter_len}
-use Rattle.g1_log.specs.Ends.{IsNewTaker}
-use Rattle.g1_steps.specs.Opening.{AreNewMutators}
-use Rattle.g1_shared.specs.Callers.{CallerState, IsNewCaller}
+use Rattle.std.specs.Prelude.{◌≡◌, ◌+◌, ◌-◌, ◌<◌, ◌≤◌}
+use Rattle.g1_shared.specs.{ℕ, vec_len, vec_capacity, get_or, All, into_iter_items, into_iter_len, IsNewTaker, AreNewMutators, CallerState, IsNewCaller}
 use Rattle.g1_shared.proofs.shared.opening.callers_of.Given as goal
 
 abbrev pub invariant-loop-number : goal.invariant-loop-number

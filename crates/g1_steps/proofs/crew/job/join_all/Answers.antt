@@ -1,6 +1,6 @@
-use Rattle.std.proofs.Common.{◌++◌, arith, ap, sym, ◌∙◌, append_assoc}
-use Rattle.std.proofs.lemmas.List.{map-append}
-use Rattle.g1_steps.proofs.WorkerLemmas.{all_zip_push}
+use Rattle.std.specs.Prelude.{◌++◌}
+use Rattle.g1_steps.specs.{arith, ap, sym, ◌∙◌, append_assoc, map-append}
+use Rattle.g1_steps.proofs.{all_zip_push}
 use Rattle.g1_steps.proofs.crew.job.join_all.Goals as goal
 
 pub loop-handle-preserved : goal.loop-handle-preserved

@@ -1,7 +1,5 @@
-use Rattle.std.proofs.Common.{◌≡◌, ◌+◌, ◌≤◌, ◌++◌, map, vec_len, vec_capacity}
-use Rattle.std.specs.List.{AllZip}
-use Rattle.std.specs.Vec.Iter.{into_iter_len, into_iter_items}
-use Rattle.g1_steps.specs.Ask.{asks_in}
+use Rattle.std.specs.Prelude.{◌≡◌, ◌+◌, ◌≤◌, ◌++◌}
+use Rattle.g1_steps.specs.{map, vec_len, vec_capacity, AllZip, into_iter_len, into_iter_items, asks_in}
 use Rattle.g1_steps.specs.Ran.{Ran}
 use Rattle.g1_steps.proofs.crew.job.join_all.Given as goal
 

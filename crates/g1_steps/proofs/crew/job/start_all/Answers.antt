@@ -1,7 +1,5 @@
-use Rattle.std.proofs.Common.{arith, ap, ◌∙◌}
-use Rattle.g1_steps.specs.Ask.{ScriptFits}
-use Rattle.std.proofs.lemmas.List.Elements.{All-rest}
-use Rattle.g1_steps.proofs.WorkerLemmas.{started_more}
+use Rattle.g1_steps.specs.{arith, ap, ◌∙◌, ScriptFits, All-rest}
+use Rattle.g1_steps.proofs.{started_more}
 use Rattle.g1_steps.proofs.crew.job.start_all.Goals as goal
 
 pub loop-job-preserved : goal.loop-job-preserved

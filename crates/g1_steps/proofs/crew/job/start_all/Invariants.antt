@@ -1,6 +1,5 @@
-use Rattle.std.proofs.Common.{◌≡◌, ◌+◌, ◌≤◌, ◌++◌, map, vec_len, vec_capacity, All}
-use Rattle.std.specs.Vec.Iter.{into_iter_len, into_iter_items}
-use Rattle.g1_steps.specs.Ask.{ScriptFits}
+use Rattle.std.specs.Prelude.{◌≡◌, ◌+◌, ◌≤◌, ◌++◌}
+use Rattle.g1_steps.specs.{map, vec_len, vec_capacity, All, into_iter_len, into_iter_items, ScriptFits}
 use Rattle.g1_steps.proofs.crew.job.start_all.Given as goal
 
 abbrev pub invariant-loop-job : goal.invariant-loop-job

@@ -1,8 +1,7 @@
-use Rattle.std.proofs.Common.{◌<◌, List, [], ◌∷◌, ◌++◌, length, take, arith, append-nil, subst, sym, ◌∙◌}
-use Rattle.std.proofs.lemmas.List.{take-map, length-map}
-use Rattle.g1_steps.specs.declared.crew.desk.Step.{Step}
-use Rattle.g1_steps.specs.Ask.{Ask, ask_of, asks_of}
-use Rattle.g1_steps.proofs.WorkerLemmas.{asks_more}
+use Rattle.std.specs.Prelude.{◌<◌, ◌∷◌, ◌++◌}
+use Rattle.g1_steps.specs.{List, [], length, take, arith, append-nil, subst, sym, ◌∙◌, take-map, length-map, Step, ask_of, asks_of}
+use Rattle.g1_steps.specs.Ask.{Ask}
+use Rattle.g1_steps.proofs.{asks_more}
 use Rattle.g1_steps.proofs.crew.worker.mutate.Goals as goal
 
 pub returns-in-Err : goal.returns-in-Err

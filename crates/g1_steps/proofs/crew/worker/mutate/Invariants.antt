@@ -1,5 +1,5 @@
-use Rattle.std.proofs.Common.{◌≡◌, take}
-use Rattle.g1_steps.specs.Ask.{asks_of}
+use Rattle.std.specs.Prelude.{◌≡◌}
+use Rattle.g1_steps.specs.{take, asks_of}
 use Rattle.g1_steps.proofs.crew.worker.mutate.Given as goal
 
 abbrev pub invariant-loop-step : goal.invariant-loop-step

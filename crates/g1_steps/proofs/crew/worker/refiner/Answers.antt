@@ -1,7 +1,5 @@
-use Rattle.std.proofs.Common.{◌≤◌, [], ◌∷◌, arith, append-nil}
-use Rattle.std.specs.Prelude.{replicate}
-use Rattle.std.proofs.lemmas.List.{replicate-append-replicate, take-replicate, length-replicate}
-use Rattle.g1_steps.specs.Ask.{AskWork}
+use Rattle.std.specs.Prelude.{◌≤◌, ◌∷◌}
+use Rattle.g1_steps.specs.{[], arith, append-nil, replicate, replicate-append-replicate, take-replicate, length-replicate, AskWork}
 use Rattle.g1_steps.proofs.crew.worker.refiner.Goals as goal
 
 pub returns-in-Err : goal.returns-in-Err

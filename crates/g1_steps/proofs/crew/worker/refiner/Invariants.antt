@@ -1,5 +1,4 @@
-use Rattle.std.specs.Prelude.{replicate}
-use Rattle.g1_steps.specs.Ask.{AskWork}
+use Rattle.g1_steps.specs.{replicate, AskWork}
 use Rattle.g1_steps.proofs.crew.worker.refiner.Given as goal
 
 abbrev pub invariant-loop-made : goal.invariant-loop-made

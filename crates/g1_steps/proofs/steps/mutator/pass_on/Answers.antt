@@ -1,6 +1,4 @@
-use Rattle.std.proofs.Common.{rules, refl, true}
-use Rattle.std.specs.Prelude.{Some, Ok, Err}
-use Rattle.g1_core.specs.declared.reply.Fill.TheVariants.{Helped}
+use Rattle.g1_steps.specs.{rules, refl, true, Some, Ok, Err, Helped}
 use Rattle.g1_steps.proofs.steps.mutator.pass_on.Goals as goal
 
 pub returns-in-Ok-clause-passed : goal.returns-in-Ok-clause-passed

@@ -1,4 +1,4 @@
-use Rattle.std.proofs.Common.{inr, refl, sym}
+use Rattle.g1_steps.specs.{inr, refl, sym}
 use Rattle.g1_steps.proofs.steps.refiner.next_of_round.Goals as goal
 
 -- the line was empty: room was made, and nothing else

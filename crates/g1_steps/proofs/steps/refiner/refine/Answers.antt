@@ -1,5 +1,5 @@
-use Rattle.std.proofs.Common.{rules}
-use Rattle.g1_steps.proofs.StepLemmas.{refinement_from}
+use Rattle.g1_steps.specs.{rules}
+use Rattle.g1_steps.proofs.{refinement_from}
 use Rattle.g1_steps.proofs.steps.refiner.refine.Goals as goal
 
 pub returns-then-not-is_empty_for : goal.returns-then-not-is_empty_for

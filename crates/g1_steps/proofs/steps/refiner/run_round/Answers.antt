@@ -1,4 +1,4 @@
-use Rattle.std.proofs.Common.{true, arith, rules}
+use Rattle.g1_steps.specs.{true, arith, rules}
 use Rattle.g1_steps.proofs.RoundLemmas.{round_goes_on, round_ends, round_refused, round_done}
 use Rattle.g1_steps.proofs.steps.refiner.run_round.Goals as goal
 

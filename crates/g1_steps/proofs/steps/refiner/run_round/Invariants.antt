@@ -1,6 +1,5 @@
-use Rattle.std.proofs.Common.{◌≡◌, ◌≤◌, ◌*◌, ◌+◌, length, vec_capacity}
-use Rattle.g1_log.specs.Ends.{taken_of, capacity_of, IsSameTaker}
-use Rattle.g1_steps.specs.Rounds.{progress}
+use Rattle.std.specs.Prelude.{◌≡◌, ◌≤◌, ◌*◌, ◌+◌}
+use Rattle.g1_steps.specs.{length, vec_capacity, taken_of, capacity_of, IsSameTaker, progress}
 use Rattle.g1_steps.proofs.RoundLemmas.{IsRoundSoFar}
 use Rattle.g1_steps.proofs.steps.refiner.run_round.Given as goal
 

@@ -1,6 +1,5 @@
-use Rattle.std.proofs.Common.{rules, refl, arith}
-use Rattle.std.specs.Prelude.{IsNone}
-use Rattle.g1_steps.proofs.StepLemmas.{empties_found, took_none}
+use Rattle.g1_steps.specs.{rules, refl, arith, IsNone}
+use Rattle.g1_steps.proofs.{empties_found, took_none}
 use Rattle.g1_steps.proofs.steps.standstill.empty_line.Goals as goal
 
 pub returns-then-is_none-clause-emptied : goal.returns-then-is_none-clause-emptied

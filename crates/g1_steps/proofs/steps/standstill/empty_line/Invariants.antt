@@ -1,5 +1,5 @@
-use Rattle.g1_log.specs.Ends.{taken_of, IsSameTaker}
-use Rattle.g1_steps.proofs.StepLemmas.{GainsJust}
+use Rattle.g1_steps.specs.{taken_of, IsSameTaker}
+use Rattle.g1_steps.proofs.{GainsJust}
 use Rattle.g1_steps.proofs.steps.standstill.empty_line.Given as goal
 
 abbrev pub invariant-loop-turn : goal.invariant-loop-turn

@@ -1,6 +1,5 @@
-use Rattle.std.proofs.Common.{◌≡◌, ℕ, ◌<◌, ◌≤◌, length, get_or}
-use Rattle.g1_steps.specs.Steps.{IsStopped}
-use Rattle.g1_steps.specs.declared.steps.mutator.Mutator.{Mutator}
+use Rattle.std.specs.Prelude.{◌≡◌, ◌<◌, ◌≤◌}
+use Rattle.g1_steps.specs.{ℕ, length, get_or, IsStopped, Mutator}
 use Rattle.g1_steps.proofs.steps.standstill.stand_still.Given as goal
 
 abbrev pub invariant-loop-at : goal.invariant-loop-at

@@ -1,4 +1,5 @@
-use Rattle.std.proofs.Common.{◌≡◌, rules}
+use Rattle.std.specs.Prelude.{◌≡◌}
+use Rattle.g1_trace.specs.{rules}
 use Rattle.g1_trace.proofs.print.pauses.put_clear_reply.Goals as goal
 
 pub returns-in-StillReferenced : goal.returns-in-StillReferenced

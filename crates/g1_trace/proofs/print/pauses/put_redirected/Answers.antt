@@ -1,4 +1,5 @@
-use Rattle.std.proofs.Common.{◌≡◌, rules}
+use Rattle.std.specs.Prelude.{◌≡◌}
+use Rattle.g1_trace.specs.{rules}
 use Rattle.g1_trace.proofs.print.pauses.put_redirected.Goals as goal
 
 pub returns : goal.returns

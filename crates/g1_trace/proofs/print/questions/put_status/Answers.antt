@@ -1,6 +1,6 @@
-use Rattle.std.proofs.Common.{◌≡◌, ◌++◌, drop, length, codes, ap, sym, ◌∙◌, append_assoc, rules}
-use Rattle.g1_trace.specs.Text.{with_number}
-use Rattle.g1_trace.proofs.PutLemmas.{puts_behind}
+use Rattle.std.specs.Prelude.{◌≡◌, ◌++◌}
+use Rattle.g1_trace.specs.{drop, length, codes, ap, sym, ◌∙◌, append_assoc, rules, with_number}
+use Rattle.g1_trace.proofs.{puts_behind}
 use Rattle.g1_trace.proofs.print.questions.put_status.Goals as goal
 
 pub returns : goal.returns

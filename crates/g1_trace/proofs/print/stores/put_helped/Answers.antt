@@ -1,6 +1,6 @@
-use Rattle.std.proofs.Common.{◌≡◌, ◌++◌, drop, length, codes, ap, ◌∙◌, rules}
-use Rattle.g1_trace.specs.Text.{with_number, ending}
-use Rattle.g1_trace.proofs.PutLemmas.{puts_behind}
+use Rattle.std.specs.Prelude.{◌≡◌, ◌++◌}
+use Rattle.g1_trace.specs.{drop, length, codes, ap, ◌∙◌, rules, with_number, ending}
+use Rattle.g1_trace.proofs.{puts_behind}
 use Rattle.g1_trace.proofs.print.stores.put_helped.Goals as goal
 
 pub returns : goal.returns

@@ -1,11 +1,8 @@
 -- A handle goes to another thread, as a `Box` of its value does.
-use denote.Struct.Struct.{exits_of}
-use denote.Struct.Owning.{shape, fields, to}
-use denote.Param.Send.{IsSend, AllSend, owning_send, struct_send, sendable}
-use Rattle.std_alloc.proofs.SendSync.{quiet}
+use Rattle.g1_handles.proofs.{exits_of, fields, to, IsSend, AllSend, owning_send, struct_send, sendable, quiet, keyless}
+use denote.Struct.Owning.{shape}
 use Rattle.std.proofs.alloc.Global.TheSendSync as global
 use Rattle.g1_handles.proofs.heap.racing_heap.RacingHeap.TheSendSync.{the_send as home}
-use Rattle.g1_handles.proofs.Sending.{keyless}
 use Rattle.g1_handles.specs.Own.{heap_row as R}
 use Rattle.g1_handles.specs.contracts.heap.handle.HeapHandle.{the_row, the_type}
 

@@ -2,7 +2,8 @@
 use Rattle.g1_handles.specs.Own.{core_row as R}
 use Rattle.g1_handles.specs.contracts.nullable_box.NullableBox as from
 use Rattle.g1_handles.specs.contracts.one_core.handle.Handle as to
-use Rattle.g1_handles.proofs.Moves.{[], ◌∷◌, tables, plain, alive, Stays, stay_dropped, walk_of, Goes-blank, proved_at, leaves, moved}
+use Rattle.std.specs.Prelude.{◌∷◌}
+use Rattle.g1_handles.proofs.{[], tables, plain, alive, Stays, stay_dropped, walk_of, Goes-blank, proved_at, leaves, moved}
 use Rattle.g1_handles.specs.contracts.one_core.handle.HandleAnyHandle.from_nullable.{ended, clauses}
 use Rattle.g1_handles.specs.contracts.one_core.handle.HandleAnyHandle.from_nullable.Key.{name as #self}
 use Rattle.g1_handles.proofs.one_core.handle.HandleAnyHandle.from_nullable.Statement.{statement}

@@ -1,11 +1,7 @@
 -- The pairs, the marks and the slots become those of the core, one after another.
-use Rattle.std.proofs.Common.{◌≡◌, All, sym, ap, ◌∙◌, subst}
+use Rattle.std.specs.Prelude.{◌≡◌}
+use Rattle.g1_race.specs.{All, sym, ap, ◌∙◌, subst, IsPairOf, Start, Pause, start_at, null_of, word_count, zeros}
 use Rattle.g1_layout.specs.Shape as layout
-use Rattle.g1_core.specs.Adoption.{IsPairOf}
-use Rattle.g1_race_words.specs.Begin.{Start}
-use Rattle.g1_race.specs.Over.{Pause, start_at}
-use Rattle.g1_race_words.specs.Rule.{null_of, word_count}
-use Rattle.g1_race_words.proofs.AtBeginning.{zeros}
 use Rattle.g1_race.proofs.Placing.{listed_cross}
 use Rattle.g1_race.proofs.CopiedTable.{clean_marks, null_slots, slots_covered, table_copied}
 use Rattle.g1_race.proofs.paused.begin.Paused.place.Goals as goal

@@ -1,7 +1,5 @@
 -- A heap that opens is one of nulls.
-use Rattle.std.proofs.Common.{ap, ◌∙◌, arith}
-use Rattle.g1_race_words.specs.declared.view.Shape.{Shape}
-use Rattle.g1_race.specs.Over.{table_of, ended}
+use Rattle.g1_race.specs.{ap, ◌∙◌, arith, Shape, table_of, ended}
 use Rattle.g1_race.proofs.Opening.{opening_table}
 use Rattle.g1_race.proofs.paused.open.Paused.open.Goals as goal
 

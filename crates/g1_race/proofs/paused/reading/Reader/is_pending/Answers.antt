@@ -1,7 +1,5 @@
-use Rattle.g1_core.proofs.QueryLemmas.{pending_step}
-use Rattle.g1_race.specs.Reading.{Known, table_read}
+use Rattle.g1_race.specs.{pending_step, Known, table_read, ◌∙◌, ap}
 use Rattle.std.specs.FinSet as set
-use Rattle.std.proofs.Common.{◌∙◌, ap}
 use Rattle.g1_race.proofs.paused.reading.Reader.is_pending.Goals as goal
 
 pub returns-clause-step : goal.returns-clause-step

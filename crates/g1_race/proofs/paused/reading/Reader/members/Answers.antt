@@ -1,8 +1,4 @@
-use Rattle.std.proofs.Common.{subst}
-use Rattle.std.proofs.lemmas.Result.{IfOk-weaker}
-use Rattle.g1_core.specs.Table.{AreMembers}
-use Rattle.g1_core.proofs.QueryLemmas.{members_step}
-use Rattle.g1_race.specs.Reading.{Known, table_read}
+use Rattle.g1_race.specs.{subst, IfOk-weaker, AreMembers, members_step, Known, table_read}
 use Rattle.g1_race.proofs.paused.reading.Reader.members.Goals as goal
 
 pub returns-clause-step : goal.returns-clause-step

@@ -1,7 +1,4 @@
-use Rattle.g1_core.specs.Table.{target_of}
-use Rattle.g1_core.proofs.QueryLemmas.{target_step}
-use Rattle.g1_race.specs.Reading.{Known, table_read}
-use Rattle.std.proofs.Common.{◌∙◌, ap}
+use Rattle.g1_race.specs.{target_of, target_step, Known, table_read, ◌∙◌, ap}
 use Rattle.g1_race.proofs.paused.reading.Reader.target.Goals as goal
 
 pub returns-clause-step : goal.returns-clause-step

@@ -1,4 +1,5 @@
-use Rattle.std.proofs.Common.{◌≡◌, ◌≤◌, ◌-◌, [], All, vec_len, vec_capacity}
+use Rattle.std.specs.Prelude.{◌≡◌, ◌≤◌, ◌-◌}
+use Rattle.g1_replay.specs.{[], All, vec_len, vec_capacity}
 use Rattle.g1_replay.proofs.crews.listing.Scripts.new.Given as goal
 
 -- no calls of those so far, and room for the rest

@@ -1,18 +1,14 @@
-use Rattle.std.proofs.Common.{◌<◌, List, [], ◌∷◌, ◌++◌, All, length, refl, sym, subst, ap, ◌∙◌, append-nil, true, arith}
-use Rattle.std.proofs.lemmas.List.Elements.{All-push, All-set}
-use Rattle.std.proofs.lemmas.Result.{err_from_is_err_and}
-use Rattle.g1_layout.specs.Shape.{slot_count}
-use Rattle.g1_steps.specs.Ask.{StepFits}
-use Rattle.g1_steps.specs.declared.crew.desk.Step.{Step}
-use Rattle.g1_replay.proofs.CrewScriptLemmas.{Kept, Unfilled, kept_silent, kept_at, kept_none, nothing_own, one_own, asked_none, asked_own, asked_other, asked_fits}
-use Rattle.g1_replay.proofs.ScriptedLemmas.{is_kept, not_kept}
+use Rattle.std.specs.Prelude.{◌<◌, ◌∷◌, ◌++◌}
+use Rattle.g1_replay.specs.{Appends-nil, Err, NoMemory, Ok, List, [], All, length, refl, sym, subst, ap, ◌∙◌, append-nil, true, arith, All-push, All-set, err_from_is_err_and, slot_count, StepFits, Step}
+use Rattle.g1_replay.proofs.{Kept, Unfilled, kept_at, kept_none, nothing_own, one_own, asked_none, asked_own, asked_other, asked_fits, one_done, one_undone}
 use Rattle.g1_replay.proofs.crews.listing.ScriptsPlayer.play.Goals as goal
 use Rattle.g1_replay.proofs.crews.listing.ScriptsPlayer.play.Goals.{In-Some}
 
 pub returns-in_default-clause-played : goal.returns-in_default-clause-played
 returns-in_default-clause-played g c =
-    is_kept Kept Unfilled kept_silent c.args.self.now c.args.self.now c.args.command _
+    one_done Kept Unfilled c.args.self.now c.args.self.now c.args.command [] _ _ (Ok true)
     (kept_none (λ script. script.items) c.args.self.now.steps.items (c.args.command ∷ []) (λ k. nothing_own k c.args.command (asked_none c.args.command k (sym c.in_default.ensures))), refl)
+    refl (λ e. cc) (Appends-nil _)
 
 -- the call is of one of the mutators, and fits the heap
 fits : (g : _) (c : In-Some g) → (c.in-Some.by < length c.args.self.now.steps.items) × StepFits (slot_count c.args._layout) true c.in-Some.step
@@ -24,22 +20,22 @@ pub returns-in_err-reserve-clause-played : goal.returns-in_err-reserve-clause-pl
 returns-in_err-reserve-clause-played g c =
     let p = err_from_is_err_and c.from_residual.result c.from_residual.ensures.1 in
     let fits = fits g (goal.at.returns-in_err-reserve-clause-played g c).In-Some in
-    rw (p.1, p.2) (not_kept Kept Unfilled kept_silent c.args.self.now _ c.args.command _ (
+    rw (p.1, p.2) (one_undone Kept Unfilled c.args.self.now _ c.args.command _ (Err NoMemory) (
       kept_at (λ script. script.items) c.args.self.now.steps.items c.in-Some.by c.reserve.new.self c.index_mut-script.result.now [] [] fits.0 c.index_mut-script.ensures.value
           (c.reserve.ensures.items ∙ sym (append-nil c.index_mut-script.result.now.items)) refl (λ k other. refl),
       refl,
-    ))
+    ) (omega arith) (λ e. cc))
 
 pub returns-clause-played : goal.returns-clause-played
 returns-clause-played g c =
     let fits = fits g (goal.at.returns-clause-played g c).In-Some in
-    is_kept Kept Unfilled kept_silent c.args.self.now _ c.args.command _ (
+    one_done Kept Unfilled c.args.self.now _ c.args.command [] _ _ (Ok true) (
       kept_at (λ script. script.items) c.args.self.now.steps.items c.in-Some.by c.push_reserved.new.self c.index_mut-script.result.now (c.args.command ∷ []) (c.in-Some.step ∷ []) fits.0 c.index_mut-script.ensures.value
           (c.push_reserved.ensures.items ∙ ap (λ (ss : List Step). ss ++ c.in-Some.step ∷ []) c.reserve.ensures.items)
           (one_own c.in-Some.by c.args.command c.in-Some.step (asked_own c.args.command _ (sym c.in-Some.ensures)))
           (λ k other. nothing_own k c.args.command (asked_other c.args.command _ k (sym c.in-Some.ensures) other)),
       refl,
-    )
+    ) refl (λ e. cc) (Appends-nil _)
 
 pub returns-clause-takes : goal.returns-clause-takes
 returns-clause-takes g c =

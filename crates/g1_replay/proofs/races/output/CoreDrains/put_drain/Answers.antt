@@ -1,4 +1,4 @@
-use Rattle.std.proofs.lemmas.Result.{err_from_is_err_and}
+use Rattle.g1_replay.specs.{err_from_is_err_and}
 use Rattle.g1_replay.proofs.CoreDrainLemmas.{drives_front, drives_refused, drives_whole}
 use Rattle.g1_replay.proofs.races.output.CoreDrains.put_drain.Goals as goal
 

@@ -1,4 +1,4 @@
-use Rattle.std.proofs.Common.{sym, ◌∙◌, arith}
+use Rattle.g1_replay.specs.{sym, ◌∙◌, arith}
 use Rattle.g1_replay.proofs.TakenLemmas.{are_new_logs, are_senders}
 use Rattle.g1_replay.proofs.runs.machinery.Machinery.open.Goals as goal
 

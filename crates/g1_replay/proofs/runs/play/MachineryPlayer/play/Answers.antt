@@ -1,5 +1,5 @@
-use Rattle.std.proofs.lemmas.Result.{err_from_is_err_and}
-use Rattle.g1_replay.proofs.AnswerLemmas.{does_answer, does_front, does_refused}
+use Rattle.g1_replay.specs.{err_from_is_err_and}
+use Rattle.g1_replay.proofs.{does_answer, does_front, does_refused}
 use Rattle.g1_replay.proofs.runs.play.MachineryPlayer.play.Goals as goal
 
 pub returns-in_err-reply-in-Store-clause-played : goal.returns-in_err-reply-in-Store-clause-played
@@ -12,10 +12,10 @@ returns-in_err-put_store_reply-in-Store-clause-played g c =
     let p = err_from_is_err_and c.from_residual-in_err-put_store_reply-in-Store.result c.from_residual-in_err-put_store_reply-in-Store.ensures.1 in
     rw (c.in-Store.is, p.1, p.2) (does_front (λ s. s.book) _ _ _ _ _ _ c.in_ok-reply-in-Store.ensures.answered c.in_err-put_store_reply-in-Store.ensures)
 
-pub returns-in_err-put_flush_reply-in-Flush-clause-played : goal.returns-in_err-put_flush_reply-in-Flush-clause-played
-returns-in_err-put_flush_reply-in-Flush-clause-played g c =
-    let p = err_from_is_err_and c.from_residual-in_err-put_flush_reply-in-Flush.result c.from_residual-in_err-put_flush_reply-in-Flush.ensures.1 in
-    rw (c.in-Flush.is, p.1, p.2) (does_front (λ s. s.book) _ _ _ _ _ _ c.flush-reply.ensures.answered c.in_err-put_flush_reply-in-Flush.ensures)
+pub returns-in_err-put_flushed-in-Flush-clause-played : goal.returns-in_err-put_flushed-in-Flush-clause-played
+returns-in_err-put_flushed-in-Flush-clause-played g c =
+    let p = err_from_is_err_and c.from_residual-in_err-put_flushed-in-Flush.result c.from_residual-in_err-put_flushed-in-Flush.ensures.1 in
+    rw (c.in-Flush.is, p.1, p.2) (does_front (λ s. s.book) _ _ _ _ _ _ c.flush-reply.ensures.answered c.in_err-put_flushed-in-Flush.ensures)
 
 pub returns-in_err-reply-in-Refine-clause-played : goal.returns-in_err-reply-in-Refine-clause-played
 returns-in_err-reply-in-Refine-clause-played g c =
@@ -40,8 +40,8 @@ returns-in_err-put_work_reply-in-Work-clause-played g c =
 pub returns-in_ok-put_store_reply-in-Store-clause-played : goal.returns-in_ok-put_store_reply-in-Store-clause-played
 returns-in_ok-put_store_reply-in-Store-clause-played g c = rw c.in-Store.is (does_answer (λ s. s.book) _ _ _ _ _ _ c.in_ok-reply-in-Store.ensures.answered c.in_ok-put_store_reply-in-Store.ensures)
 
-pub returns-in_ok-put_flush_reply-in-Flush-clause-played : goal.returns-in_ok-put_flush_reply-in-Flush-clause-played
-returns-in_ok-put_flush_reply-in-Flush-clause-played g c = rw c.in-Flush.is (does_answer (λ s. s.book) _ _ _ _ _ _ c.flush-reply.ensures.answered c.in_ok-put_flush_reply-in-Flush.ensures)
+pub returns-in_ok-put_flushed-in-Flush-clause-played : goal.returns-in_ok-put_flushed-in-Flush-clause-played
+returns-in_ok-put_flushed-in-Flush-clause-played g c = rw c.in-Flush.is (does_answer (λ s. s.book) _ _ _ _ _ _ c.flush-reply.ensures.answered c.in_ok-put_flushed-in-Flush.ensures)
 
 pub returns-in_ok-put_refine_reply-in-Refine-clause-played : goal.returns-in_ok-put_refine_reply-in-Refine-clause-played
 returns-in_ok-put_refine_reply-in-Refine-clause-played g c = rw c.in-Refine.is (does_answer (λ s. s.book) _ _ _ _ _ _ c.in_ok-reply-in-Refine.ensures.answered c.in_ok-put_refine_reply-in-Refine.ensures)

@@ -1,5 +1,5 @@
-use Rattle.std.proofs.Common.{rules}
-use Rattle.g1_steps.proofs.ServedLemmas.{served_store}
+use Rattle.g1_steps.specs.{rules}
+use Rattle.g1_steps.proofs.{served_store}
 use Rattle.g1_steps.proofs.crew.local_desk.LocalDeskDesk.store.Goals as goal
 
 pub returns-clause-ok : goal.returns-clause-ok

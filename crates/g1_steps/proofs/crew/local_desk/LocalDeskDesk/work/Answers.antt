@@ -1,5 +1,5 @@
-use Rattle.std.proofs.Common.{rules}
-use Rattle.g1_steps.proofs.ServedLemmas.{served_round}
+use Rattle.g1_steps.specs.{rules}
+use Rattle.g1_steps.proofs.{served_round}
 use Rattle.g1_steps.proofs.crew.local_desk.LocalDeskDesk.work.Goals as goal
 
 pub returns-clause-ok : goal.returns-clause-ok

@@ -1,11 +1,6 @@
-use Rattle.std.proofs.Common.{rules, ◌≡◌, ◌∷◌, [], ◌++◌, ℕ, List, Option, subst, ◌∙◌}
-use Rattle.std.specs.Prelude.{IfSome, IsSome}
-use Rattle.g1_layout.specs.Shape.{card_of}
-use Rattle.g1_layout.specs.declared.kind.Kind.TheVariants.{Logged}
-use Rattle.g1_steps.specs.declared.steps.mutator.Mutator.{Mutator}
-use Rattle.g1_steps.specs.Made.{Stored}
-use Rattle.g1_steps.specs.Steps.{IsPassed, IsStored, help_calls, filled}
-use Rattle.g1_steps.proofs.StepLemmas.{handed_some, store_passed}
+use Rattle.std.specs.Prelude.{◌≡◌, ◌∷◌, ◌++◌}
+use Rattle.g1_steps.specs.{rules, [], ℕ, List, Option, subst, ◌∙◌, IfSome, IsSome, card_of, Logged, Mutator, Stored, IsPassed, IsStored, help_calls, filled}
+use Rattle.g1_steps.proofs.{handed_some, store_passed}
 use Rattle.g1_steps.proofs.steps.mutator.Mutator.store.Goals as goal
 
 pub returns : goal.returns

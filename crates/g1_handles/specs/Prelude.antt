@@ -1,0 +1,86 @@
+-- What the crate takes from the libraries below it.
+pub use Rattle.std.proofs.Common.{[], ap, arith, Box, cond, inl, inr, length-append, List, lit<}
+pub use Rattle.std.proofs.Common.{map, refl, rules, set, slice_index_or, subst, suc, sym, take}
+pub use Rattle.std.proofs.Common.{zero, ℕ, ◌∙◌}
+pub use Rattle.std.proofs.Math.ListN.{get_or-map}
+pub use Rattle.std.proofs.Math.Seq.{map-set_same, take-suc}
+pub use Rattle.std.proofs.Props.{props}
+pub use Rattle.std.proofs.lemmas.Bool.{cases_lt, eqb-false, eqb-true, not-true}
+pub use Rattle.std.proofs.lemmas.List.{append-nil, append_assoc, drop-set-lt, get_or-set_other}
+pub use Rattle.std.proofs.lemmas.List.{get_or-set_same, get_or-take, get_or_default, length-map}
+pub use Rattle.std.proofs.lemmas.List.{length-replicate, length-set, length-take, length_push}
+pub use Rattle.std.proofs.lemmas.List.{map-append, take_more_set}
+pub use Rattle.std.proofs.lemmas.List.Elements.{All-contains, All-from_all_within, All-map, All-nil}
+pub use Rattle.std.proofs.lemmas.List.Elements.{All-push, All-take, AllWithin-more_set}
+pub use Rattle.std.proofs.lemmas.List.Elements.{AllWithin-upto}
+pub use Rattle.std.specs.Arc.{arc_value}
+pub use Rattle.std.specs.Coded.{coded_option}
+pub use Rattle.std.specs.Fn.{FnOnceReturnsAtMut}
+pub use Rattle.std.specs.Global.{Global}
+pub use Rattle.std.specs.List.{AllWithin}
+pub use Rattle.std.specs.Option.{ForSome}
+pub use Rattle.std.specs.Prelude.{All, Any, Bool, Contains, Err, false, fold, IfErr, IfNone, IfOk}
+pub use Rattle.std.specs.Prelude.{IfSome, IsErrAnd, IsOk, IsOkAnd, IsSome, IsSomeAnd, IsTrue}
+pub use Rattle.std.specs.Prelude.{length, MatchOption, min, None, not, Ok, OnErr, OnOk, Option}
+pub use Rattle.std.specs.Prelude.{replicate, Result, slice_set, Some, SomeIff, Vec, vec_capacity}
+pub use Rattle.std.specs.Prelude.{vec_len, ⊤}
+pub use Rattle.std.specs.contracts.impls.GlobalAllocator.TheImpl.{ghosts}
+pub use Rattle.std_alloc.specs.Box.Ownership.{box_owns}
+pub use base.Fml.{feq, fex, flft, Fml, fsep, ftrue}
+pub use base.Logic.{emp, ent, fst∗, guard, guard_i, id⊢, never, sep, snd∗, SProp, via}
+pub use contract.Monad.{fact, fact_i, fact_use}
+pub use contract.Running.{tables}
+pub use denote.Builtin.{RawPtr}
+pub use denote.RawPtr.{block_ptr, in_a_block, lies_at, null_ptr, Ptr, ptr_val, Testable, tests_null}
+pub use lib.Dec.{T}
+pub use lib.ListN.{get_elem?}
+pub use mathlib.Core.Bool.{true}
+pub use mathlib.Core.HLevel.{is_prop→PathP}
+pub use prog.Wp.{Calls, Loops, WpFn}
+pub use seplogic.Ra.Ura.{Ura}
+pub use Rattle.arrayvec.specs.ArrayVec.{array_vec_len}
+pub use Rattle.atomic_table.specs.Seated.{TableId}
+pub use Rattle.g1_core.specs.Barrier.{stored_machine}
+pub use Rattle.g1_core.specs.Calls.{clear_entry, drain_cards, drain_entry, drain_refined}
+pub use Rattle.g1_core.specs.Calls.{members_entry, pending_entry, redirect_entry, redirect_refined}
+pub use Rattle.g1_core.specs.Calls.{refine_entry, status_entry, store_entry, target_entry}
+pub use Rattle.g1_core.specs.Copying.{copied}
+pub use Rattle.g1_core.specs.Machine.{IsLater, IsOnlyRead, IsSound, Machine, machine_code}
+pub use Rattle.g1_core.specs.Machine.{new_machine, State}
+pub use Rattle.g1_core.specs.Pause.{IsDrainOf}
+pub use Rattle.g1_core.specs.Run.{drained, IsStep, kind_of, stored}
+pub use Rattle.g1_core.specs.Settings.{AreSettings}
+pub use Rattle.g1_core.specs.Table.{AreMembers, AreRefinable, Crosses, IsCovered, IsPending}
+pub use Rattle.g1_core.specs.Table.{IsRecorded, opening, Table, target_of}
+pub use Rattle.g1_core.specs.Verify.{Differs, IsFirst, IsMissing}
+pub use Rattle.g1_core.specs.declared.config.Settings.{Settings}
+pub use Rattle.g1_core.specs.declared.reply.ClearReply.{ClearReply}
+pub use Rattle.g1_core.specs.declared.reply.ClearReply.TheVariants.{Cleared, Pending}
+pub use Rattle.g1_core.specs.declared.reply.ClearReply.TheVariants.{StillReferenced}
+pub use Rattle.g1_core.specs.declared.reply.Drained.{Drained}
+pub use Rattle.g1_core.specs.declared.reply.Status.{Status}
+pub use Rattle.g1_layout.proofs.ShapeLemmas.{card_count_limit, region_of-offset}
+pub use Rattle.g1_layout.specs.Shape.{card_count, card_of, IsShape, region_of, Shape, slot_count}
+pub use Rattle.g1_layout.specs.declared.kind.Kind.{Kind}
+pub use Rattle.g1_layout.specs.declared.kind.Kind.TheVariants.{AlreadyDirty, Logged, Null}
+pub use Rattle.g1_layout.specs.declared.kind.Kind.TheVariants.{SameRegion}
+pub use Rattle.g1_race.specs.Evacuating.{AreAllRefined, copied_word, forgotten, IsExactAtPause}
+pub use Rattle.g1_race.specs.Evacuating.{IsKept, IsRefinedRace, IsSameRace, one_word, plain_reply}
+pub use Rattle.g1_race.specs.Evacuating.{same_word, SlotsBecome, wiped, wiped_word}
+pub use Rattle.g1_race.specs.Members.{HasDiffered, HasNotStored, HasOverwritten, HasStored}
+pub use Rattle.g1_race.specs.Members.{is_logged, IsKind, IsNewRacer, IsNewSweeper, race_begun}
+pub use Rattle.g1_race.specs.Members.{race_id, race_layout, race_shape, race_words, racer_log}
+pub use Rattle.g1_race.specs.Members.{racer_race, racer_view, sweeper_race, sweeper_start}
+pub use Rattle.g1_race.specs.Members.{sweeper_view}
+pub use Rattle.g1_race.specs.Over.{Ended, ended, ended_of, Pause, start_at, table_at, table_of}
+pub use Rattle.g1_race.specs.Race.{IsKnown, IsOver, stored_view, word_of}
+pub use Rattle.g1_race.specs.Reading.{IsNextMember, IsReaderOf, Known, known, reader_race}
+pub use Rattle.g1_race.specs.Reading.{table_read}
+pub use Rattle.g1_race.specs.Telling.{marked_cards}
+pub use Rattle.g1_race.specs.declared.race.Race.{Race}
+pub use Rattle.g1_race.specs.declared.race.Racer.{Racer}
+pub use Rattle.g1_race.specs.declared.race.Sweeper.{Sweeper}
+pub use Rattle.g1_race_words.specs.Begin.{Start}
+pub use Rattle.g1_race_words.specs.Rule.{beginning, IsWord, slot_card}
+pub use Rattle.g1_race_words.specs.Seats.{IsFound}
+pub use Rattle.g1_race_words.specs.declared.view.View.{View}
