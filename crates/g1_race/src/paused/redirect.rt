@@ -53,8 +53,9 @@ impl<R: Holds> Paused<R> {
             IsStep (table_at self.old) (redirect_entry caller from to answer) (table_at self.new)) }
         ensures err { OnErr result (self.new ≡ self.old) }
     {
-        let refined = CardList::of(self.dirty_cards(alloc)?);
+        let refined = self.dirty_cards(alloc)?;
         let slots = self.redirect_in_place(from, to);
+        let refined = CardList::of(refined);
         Ok(Redirected::Moved { slots, refined })
     }
 
