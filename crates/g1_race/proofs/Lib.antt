@@ -29,6 +29,7 @@ pub mod LeastInto
 pub mod Forgetting
 pub mod ForgottenTable
 pub mod PauseRun
+pub mod Rules
 pub mod Moving
 pub mod MovedCards
 pub mod MovedTargets
@@ -47,6 +48,7 @@ use Forgetting.*
 use Held.*
 use MovedCards.*
 use NextCards.*
+use Rules.*
 use PauseStores.*
 use PauseTable.*
 use PauseWords.*

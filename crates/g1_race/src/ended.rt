@@ -58,6 +58,7 @@ impl Drop for Closed {
 
 impl Closed {
     /// Returns what a slot refers to, or `None` for null. Reads one word.
+    #[tactic(auto, using(crate::specs::reads_as))]
     pub fn target(&self, slot: Slot) -> Option<Slot>
         requires { slot < slot_count self.now.layout }
         ensures target { result ≡ target_of (table_of self.now) slot }
@@ -68,6 +69,7 @@ impl Closed {
 
     /// Returns whether a card is dirty: stored to since it was last refined, or dirty from the
     /// beginning. Reads one word.
+    #[tactic(auto, using(crate::proofs::of_a_flag))]
     pub fn marked(&self, card: Card) -> bool
         requires { card < card_count self.now.layout }
         ensures { IsTrue result ↔ IsPending (table_of self.now) card }
@@ -100,6 +102,7 @@ impl Closed {
     }
 
     // As `marked`, by the number of the card.
+    #[tactic(auto, using(crate::specs::at_take, crate::proofs::marks_here))]
     pub(crate) fn marked_at(&self, card: usize) -> bool
         requires { card < card_count self.now.layout }
         ensures { get_elem? (marks_of self.now) card ≡ some result }

@@ -46,6 +46,7 @@ pub(crate) fn refers_to(layout: Layout, word: u64) -> Option<Slot>
 // The pair of a slot's word: the slot's card, and the region that the word refers into if that is
 // another region.
 #[inline(always)]
+#[tactic(auto, using(crate::specs::card_below))]
 pub(crate) fn pair_of(race: &Race, card: usize, slot: usize, word: u64) -> Option<(usize, usize)>
     requires slot { slot < slot_count race.now.layout }
     requires card { card ≡ slot_card race.now.shape slot }

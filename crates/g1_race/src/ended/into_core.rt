@@ -30,6 +30,7 @@ impl Closed {
 
     /// Makes a core as [`Closed::into_core`] does, and the race stays. It is for a caller that
     /// drops the race only once it has the memory for all that it does with the core.
+    #[tactic(auto, using(crate::proofs::Parts::parts_fit))]
     pub fn to_core(&self, alloc: Global, config: Config) -> Result<Core, NoMemory>
         ensures { IfOk result (λ core. core ≡ core_of self.now config) }
     {
@@ -50,6 +51,7 @@ impl Closed {
     }
 
     // What each slot refers to.
+    #[tactic(auto, using(crate::specs::take_next))]
     fn refs(&self, alloc: Global) -> Result<Vec<Option<Slot>>, NoMemory>
         ensures { IfOk result (λ refs. refs.items ≡ refs_of self.now) }
     {
@@ -62,6 +64,7 @@ impl Closed {
     }
 
     // Whether each card is dirty.
+    #[tactic(auto, using(crate::specs::take_next))]
     fn marks(&self, alloc: Global) -> Result<Vec<bool>, NoMemory>
         ensures { IfOk result (λ marks. marks.items ≡ marks_of self.now) }
     {

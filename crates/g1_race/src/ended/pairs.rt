@@ -12,6 +12,7 @@ use g1_race_words::Shape;
 use std::alloc::Global;
 
 // Whether the pair's bit is set.
+#[tactic(auto, using(crate::specs::shr_and_one, crate::specs::read_is))]
 pub(crate) fn has_bit(words: &Closed<(), Global>, shape: Shape, card: usize, region: usize) -> bool
     requires shape { IsWholeShape shape }
     requires pair { IsPair shape (card, region) }
@@ -85,6 +86,7 @@ fn note_regions(
 }
 
 // Adds the pairs of a card with these regions, which are all that it can have one with.
+#[tactic(auto, using(crate::proofs::of_a_block))]
 fn list_card(
     words: &Closed<(), Global>,
     layout: Layout,

@@ -46,6 +46,7 @@ impl Paused {
     }
 
     // Places the core's table into a heap of nulls.
+    #[tactic(auto, using(crate::proofs::of_a_copy))]
     fn place(&mut self, core: &mut Core, pairs: &[(Card, Region)])
         requires layout { self.old.layout ≡ core.old.state.table.layout }
         requires null { start_at self.old ≡ null_of self.old.shape }

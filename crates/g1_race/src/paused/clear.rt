@@ -22,6 +22,7 @@ impl<R: Holds> Paused<R> {
     ///
     /// Returns `Pending` with the number of dirty cards, or `StillReferenced` with the least slot
     /// of the whole heap that lies outside the region and refers into it. Then nothing has changed.
+    #[tactic(auto, using(crate::proofs::of_a_pause))]
     pub fn clear(&mut self, region: Region) -> ClearReply
         requires { region < self.old.layout.regions }
         ensures race { IsSameRace self.old self.new }

@@ -36,6 +36,7 @@ impl<R: Holds> Paused<R> {
     }
 
     // Stores the word of a slot into another one.
+    #[tactic(auto, using(crate::specs::read_is))]
     fn copy_slot(&mut self, from: Slot, to: Slot)
         requires from { from < slot_count self.old.layout }
         requires to { to < slot_count self.old.layout }

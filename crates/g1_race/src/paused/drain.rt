@@ -31,6 +31,7 @@ impl<R: Holds> Paused<R> {
     /// `NoMemory` if that room was refused: nothing has changed. A drain is never `Short`.
     ///
     /// [`Paused::refine_all`] and [`Paused::next_member`] do the same without a list.
+    #[tactic(auto, using(crate::proofs::members_room))]
     pub fn drain(&mut self, alloc: Global, region: Region) -> Result<Drained, NoMemory>
         requires { region < self.old.layout.regions }
         ensures race { IfOk result (λ answer. IsRefinedRace self.old self.new) }
@@ -84,6 +85,7 @@ pub(crate) fn clear_logs(racers: &mut Vec<Racer>)
 }
 
 // Refines the dirty cards. No flag is set then.
+#[tactic(auto, using(crate::proofs::unflagged))]
 pub(crate) fn refine_cards(race: &Race, seat: &mut RaceSeat)
     requires seat { IsAtPause race.now seat.old }
     ensures seat { IsAtPause race.now seat.new }
@@ -132,6 +134,7 @@ fn note_slot(race: &Race, seat: &mut RaceSeat, card: usize, slot: usize, word: u
 }
 
 // Makes sure that the bit of the pair is set, or in the row of flags the card's flag.
+#[tactic(auto, using(crate::proofs::of_a_bit))]
 pub(crate) fn set_bit(race: &Race, seat: &mut RaceSeat, card: usize, region: usize)
     requires seat { IsAtPause race.now seat.old }
     requires card { card < race.now.shape.cards }

@@ -17,6 +17,7 @@ impl<R: Holds> Paused<R> {
     /// Removes the region's cards from the remembered sets of all regions. No slot of the region
     /// may refer out of it, as after [`Paused::wipe`]. Later drains then return no card of the
     /// region until one is stored to. Takes no memory.
+    #[tactic(auto, using(crate::proofs::front_words, crate::proofs::lent_view))]
     pub fn forget(&mut self, region: Region)
         requires region { region < self.old.layout.regions }
         requires closed { (slot place : ℕ) → Crosses (table_at self.old) slot place
@@ -33,6 +34,7 @@ impl<R: Holds> Paused<R> {
 }
 
 // Clears the bits of the cards from one on, up to another, in the row of each region.
+#[tactic(auto, using(crate::proofs::slot_back))]
 fn forget_cards(race: &Race, seat: &mut RaceSeat, first: usize, end: usize)
     requires seat { IsAtPause race.now seat.old }
     requires within { (first ≤ end) × (end ≤ race.now.shape.cards) }
@@ -49,6 +51,7 @@ fn forget_cards(race: &Race, seat: &mut RaceSeat, first: usize, end: usize)
 }
 
 // Clears the bits of these cards in the row of a region.
+#[tactic(auto, using(crate::proofs::row_next, crate::proofs::row_past, crate::proofs::slot_back))]
 fn forget_row(race: &Race, seat: &mut RaceSeat, first: usize, end: usize, region: usize)
     requires seat { IsAtPause race.now seat.old }
     requires within { (first ≤ end) × (end ≤ race.now.shape.cards) }

@@ -48,6 +48,7 @@ impl<R: Holds> Paused<R> {
 
     /// Returns how many cards are dirty. Reads a word for each 64 cards of the heap, and the marks
     /// of each eight cards of which one was dirtied since all were last refined at a pause.
+    #[tactic(auto, using(crate::proofs::of_a_pause))]
     pub fn pending_count(&mut self) -> u32
         ensures count { result ≡ set.len (table_at self.old).pending }
         ensures same { self.new ≡ self.old }
@@ -58,6 +59,7 @@ impl<R: Holds> Paused<R> {
     /// Returns how many cards are dirty, and how many pairs are recorded. Reads what
     /// [`Paused::pending_count`] reads, for each region a word for each 64 cards of the heap, and
     /// one more word for each recorded pair.
+    #[tactic(auto, using(crate::proofs::of_a_pause))]
     pub fn status(&mut self) -> Status
         ensures pending { result.pending ≡ set.len (table_at self.old).pending }
         ensures recorded { result.recorded ≡ set.len (table_at self.old).recorded }
@@ -98,6 +100,7 @@ impl<R: Holds> Paused<R> {
     }
 
     // The dirty cards, ascending.
+    #[tactic(auto, using(crate::proofs::few, crate::proofs::cards_fit))]
     pub(crate) fn dirty_cards(&mut self, alloc: Global) -> Result<Vec<Card>, NoMemory>
         ensures cards { IfOk result (λ cards.
             cards.items ≡ marked_cards self.old.shape self.old.words) }
@@ -112,6 +115,7 @@ impl<R: Holds> Paused<R> {
     }
 
     // How many cards the region's set has.
+    #[tactic(auto, using(crate::proofs::few, crate::proofs::cards_fit))]
     pub(crate) fn member_count(&mut self, region: Region) -> usize
         requires { region < self.old.layout.regions }
         ensures count { result ≡ length (member_cards self.old.shape self.old.words region) }
@@ -122,6 +126,7 @@ impl<R: Holds> Paused<R> {
     }
 
     // Lists the cards of the region's set.
+    #[tactic(auto, using(crate::proofs::few, crate::proofs::lent_view))]
     pub(crate) fn gather(&mut self, region: Region, cards: &mut Vec<Card>)
         requires region { region < self.old.layout.regions }
         requires empty { cards.old.items ≡ [] }
@@ -141,6 +146,7 @@ impl<R: Holds> Paused<R> {
 }
 
 // The least dirty card from one on.
+#[tactic(auto, using(crate::proofs::of_a_mark))]
 pub(crate) fn next_dirty_from(race: &Race, seat: &mut RaceSeat, from: u32) -> Option<Card>
     requires seat { MayRead race.now seat.old }
     ensures dirty { IsNextPending (table_known race.now seat.old) from result }
@@ -189,6 +195,7 @@ pub(crate) fn is_recorded(race: &Race, seat: &mut RaceSeat, card: Card, region: 
 }
 
 // The cards of the region's set.
+#[tactic(auto, using(crate::proofs::few))]
 pub(crate) fn members_of(
     race: &Race,
     seat: &mut RaceSeat,

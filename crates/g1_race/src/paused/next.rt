@@ -28,6 +28,7 @@ pub(crate) fn next_marked(race: &Race, seat: &mut RaceSeat, from: usize) -> Opti
 
 // A card from one on before which none is dirty: the first of the next eight that have their flag
 // set, or the card itself where it is not the first of its eight.
+#[tactic(auto, using(crate::proofs::skips_none))]
 fn next_flagged(race: &Race, seat: &mut RaceSeat, from: usize) -> Option<usize>
     requires { MayRead race.now seat.old }
     ensures next { let words = seat.old.me.0.began_words in
@@ -46,6 +47,7 @@ fn next_flagged(race: &Race, seat: &mut RaceSeat, from: usize) -> Option<usize>
 
 // The least card from one on that is of the region's set, or in the row of flags the least whose
 // flag is set.
+#[tactic(auto, using(crate::proofs::next_past, crate::proofs::none_of_word))]
 pub(crate) fn next_member(
     race: &Race,
     seat: &mut RaceSeat,
@@ -73,6 +75,7 @@ pub(crate) fn next_member(
 }
 
 // How many cards are dirty.
+#[tactic(auto, using(crate::proofs::cards_fit, crate::proofs::few))]
 pub(crate) fn count_marked(race: &Race, seat: &mut RaceSeat) -> usize
     requires { MayRead race.now seat.old }
     ensures count { result ≡ length (marked_cards race.now.shape seat.old.me.0.began_words) }
@@ -104,6 +107,7 @@ pub(crate) fn list_marked(race: &Race, seat: &mut RaceSeat, cards: &mut Vec<Card
 }
 
 // How many cards the region's set has.
+#[tactic(auto, using(crate::proofs::cards_fit, crate::proofs::few))]
 pub(crate) fn count_members(race: &Race, seat: &mut RaceSeat, region: usize) -> usize
     requires seat { MayRead race.now seat.old }
     requires region { region < race.now.shape.regions }

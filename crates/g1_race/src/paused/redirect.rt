@@ -78,6 +78,7 @@ impl<R: Holds> Paused<R> {
 
     // Moves the references into the region, and returns how many slots have changed. No card is
     // dirty.
+    #[tactic(auto, using(crate::proofs::of_a_pause, crate::proofs::MovedTable::moved_is))]
     fn move_all(&mut self, from: Region, to: Region) -> u32
         requires from { from < self.old.layout.regions }
         requires to { to < self.old.layout.regions }
@@ -98,6 +99,7 @@ impl<R: Holds> Paused<R> {
 
 // Moves the references into the region, empties its row of bits, and returns how many slots have
 // changed. No card is dirty.
+#[tactic(auto, using(crate::proofs::passed_count))]
 fn move_references(race: &Race, seat: &mut RaceSeat, from: usize, to: usize) -> u32
     requires seat { IsAtPause race.now seat.old }
     requires from { from < race.now.shape.regions }

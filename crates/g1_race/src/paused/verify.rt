@@ -43,6 +43,7 @@ impl<R: Holds> Paused<R> {
     /// which looks whether a runtime whose fields these words are has written to them itself
     /// (HotSpot's `VerifyRememberedSets` looks for the same). Takes time in proportion to the
     /// slots, each of which is read, and no memory.
+    #[tactic(auto, using(crate::specs::below_more))]
     pub fn first_missing(&mut self, first: Slot, count: u32) -> Option<Slot>
         requires { first + count ≤ slot_count self.old.layout }
         ensures first { IsFirst (IsMissing (table_at self.old)) first count result }

@@ -13,6 +13,7 @@ use g1_race_words::RaceSeat;
 impl<R: Holds> Paused<R> {
     /// Stores null into each slot of the region, ascending, also where it has data. Takes no
     /// memory.
+    #[tactic(auto, using(crate::proofs::wiped_words, crate::proofs::lent_view))]
     pub fn wipe(&mut self, region: Region)
         requires { region < self.old.layout.regions }
         ensures race { IsSameRace self.old self.new }

@@ -1,13 +1,7 @@
 -- A clear reads the words that it began with, until it empties the row.
-use Rattle.g1_race.specs.{ℕ, List, length, ap, ◌∙◌, subst, arith, Cleared, Pending, StillReferenced, IsStep, clear_entry, is_marked, marked_cards, Pause, WordsBecome, same_word, Into}
-use Rattle.g1_race.proofs.{few, cards_fit, none_marked, clear_granted, clear_pending, clear_refused, front_words, unchanged_words, at_pause, lent_begun, lent_numbers, lent_view}
+use Rattle.g1_race.specs.{ℕ, List, ap, subst, arith, Cleared, Pending, StillReferenced, IsStep, clear_entry, Into}
+use Rattle.g1_race.proofs.{clear_granted, clear_pending, clear_refused, at_pause, lent_begun, lent_numbers}
 use Rattle.g1_race.proofs.paused.Paused.clear.Goals as goal
-
-pub overflow_cast-result : goal.overflow_cast-result
-overflow_cast-result g c =
-    let race = c.race-race.result.now in
-    let a = few (is_marked race.shape c.self.inside.seat.me.0.began_words) race.shape.cards in
-    omega (arith, a, c.count_marked-pending.ensures.count, cards_fit race.shape race.shaped)
 
 pub returns-then-pending-gt0-clause-step : goal.returns-then-pending-gt0-clause-step
 returns-then-pending-gt0-clause-step g c = λ caller.
@@ -15,12 +9,6 @@ returns-then-pending-gt0-clause-step g c = λ caller.
     at_pause (λ t u. IsStep t (clear_entry caller c.args.region (Pending c.count_marked-pending.result)) u) c.count_marked-pending.new.seat.me.0.began_words c.race-race.ensures c.self.view_is
     (clear_pending race.shape race.layout race.laid c.self.inside.seat.me.0.began_words _ (lent_begun c.race-race.ensures c.self.invariant.0.begun) (ap (λ m. m.0.began_words) c.count_marked-pending.ensures.seat.1) caller c.args.region (lent_numbers c.race-race.ensures c.self.view_is c.requires)
     c.count_marked-pending.result c.count_marked-pending.ensures.count (omega (arith, c.if-pending-gt0.true)))
-
-pub entering-requires-clause-clean : goal.entering-requires-clause-clean
-entering-requires-clause-clean g c =
-    let race = c.race-race.result.now in
-    let same = ap (λ (ws : List ℕ). length (marked_cards race.shape ws)) (ap (λ m. m.0.began_words) c.count_marked-pending.ensures.seat.1) in
-    none_marked race.shape race.layout race.laid c.count_marked-pending.new.seat.me.0.began_words (omega (arith, same, c.count_marked-pending.ensures.count, c.if-pending-gt0.false))
 
 pub returns-in-Some-clause-step : goal.returns-in-Some-clause-step
 returns-in-Some-clause-step g c = λ caller.
@@ -40,21 +28,3 @@ returns-clause-step g c = λ caller.
     at_pause (λ t u. IsStep t (clear_entry caller c.args.region Cleared) u) new c.race-race.ensures c.self.view_is
     (clear_granted race.shape race.layout race.laid c.self.inside.seat.me.0.began_words _ (lent_begun c.race-race.ensures c.self.invariant.0.begun) (ap (λ m. m.0.began_words) c.count_marked-pending.ensures.seat.1) caller c.args.region (lent_numbers c.race-race.ensures c.self.view_is c.requires)
     c.count_marked-pending.result c.count_marked-pending.ensures.count c.if-pending-gt0.false c.number-number.result c.number-number.ensures _ new (ap (λ m. m.0.began_words) c.entering.ensures.seat.1) c.in_default.ensures.least c.empty_row.ensures.seat.begun c.empty_row.ensures.emptied)
-
-pub returns-then-pending-gt0-clause-words : goal.returns-then-pending-gt0-clause-words
-returns-then-pending-gt0-clause-words g c =
-    let new = c.count_marked-pending.new.seat.me.0.began_words in
-    subst (λ (h : Pause). WordsBecome same_word h.shape h.words new) (lent_view c.race-race.ensures c.self.view_is)
-    (unchanged_words c.race-race.result.now.shape c.self.inside.seat.me.0.began_words new (ap (λ m. m.0.began_words) c.count_marked-pending.ensures.seat.1))
-
-pub returns-in-Some-clause-words : goal.returns-in-Some-clause-words
-returns-in-Some-clause-words g c =
-    let new = c.entering.new.seat.me.0.began_words in
-    subst (λ (h : Pause). WordsBecome same_word h.shape h.words new) (lent_view c.race-race.ensures c.self.view_is)
-    (unchanged_words c.race-race.result.now.shape c.self.inside.seat.me.0.began_words new (ap (λ m. m.0.began_words) (c.entering.ensures.seat.1 ∙ c.count_marked-pending.ensures.seat.1)))
-
-pub returns-clause-words : goal.returns-clause-words
-returns-clause-words g c =
-    let new = c.empty_row.new.seat.me.0.began_words in
-    subst (λ (h : Pause). WordsBecome same_word h.shape h.words new) (lent_view c.race-race.ensures c.self.view_is)
-    (subst (λ (ws : List ℕ). WordsBecome same_word c.race-race.result.now.shape ws new) (ap (λ m. m.0.began_words) (c.entering.ensures.seat.1 ∙ c.count_marked-pending.ensures.seat.1)) (front_words c.race-race.result.now.shape _ new c.empty_row.ensures.emptied.front))

@@ -15,11 +15,6 @@ reads pause laid slot word lt at = slot_gives pause.shape pause.layout pause.wor
 stores : (old read new : Pause) (to word stored : ℕ) → read ≡ old → stored ≡ word → SlotsBecome (one_word to stored) read new → SlotsBecome (one_word to word) old new
 stores old read new to word stored same is = subst (λ (x : Pause × ℕ). SlotsBecome (one_word to x.1) x.0 new) (λ i. (same i, is i))
 
-pub returns-then-word-clause-words : goal.returns-then-word-clause-words
-returns-then-word-clause-words g c =
-    stores c.args.self.now c.word-word.new.self c.store_data.new.self c.args.to _ c.word-word.result c.word-word.ensures.same
-    (sym (read_is c.args.self.now.words c.args.from c.word-word.result c.word-word.ensures.word)) c.store_data.ensures.words
-
 pub returns-then-word-clause-table : goal.returns-then-word-clause-table
 returns-then-word-clause-table g c =
     let laid : IsLaid c.args.self.now = subst IsLaid (lent_view c.race.ensures c.self.view_is) c.race.result.now.laid in

@@ -1,29 +1,9 @@
 -- The cards from the first of the region on are the region's.
 use Rattle.std.specs.Prelude.{◌≢◌}
-use Rattle.g1_race.specs.{ℕ, refl, sym, ◌∙◌, subst, arith, region_of, Crosses, WordsBecome, forgotten, same_word, Pause, table_at}
-use Rattle.g1_race.proofs.{cards_fit, front_words, held_table, lent_begun, lent_region, lent_view}
-use Rattle.g1_race.proofs.ForgottenTable.{cards_within, closed_words, forgotten_is}
+use Rattle.g1_race.specs.{ℕ, sym, ◌∙◌, subst, region_of, Crosses, forgotten, Pause, table_at}
+use Rattle.g1_race.proofs.{held_table, lent_begun, lent_region, lent_view}
+use Rattle.g1_race.proofs.ForgottenTable.{closed_words, forgotten_is}
 use Rattle.g1_race.proofs.paused.Paused.forget.Goals as goal
-
-pub nonzero_div-cards : goal.nonzero_div-cards
-nonzero_div-cards g c = let low = lent_region c.race-race.ensures c.self.view_is refl c.requires.region in omega (arith, low)
-
-pub overflow_mul-first : goal.overflow_mul-first
-overflow_mul-first g c =
-    let race = c.race-race.result.now in
-    let within = cards_within race.shape race.layout race.laid race.shaped c.number.result (lent_region c.race-race.ensures c.self.view_is c.number.ensures c.requires.region) in
-    omega (arith, within, cards_fit race.shape race.shaped)
-
-pub overflow_add-first : goal.overflow_add-first
-overflow_add-first g c =
-    let race = c.race-race.result.now in
-    let within = cards_within race.shape race.layout race.laid race.shaped c.number.result (lent_region c.race-race.ensures c.self.view_is c.number.ensures c.requires.region) in
-    omega (arith, within, cards_fit race.shape race.shaped)
-
-pub forget_cards-requires-clause-within : goal.forget_cards-requires-clause-within
-forget_cards-requires-clause-within g c =
-    let race = c.race-race.result.now in
-    (omega arith, cards_within race.shape race.layout race.laid race.shaped c.number.result (lent_region c.race-race.ensures c.self.view_is c.number.ensures c.requires.region))
 
 pub forget_cards-requires-clause-closed : goal.forget_cards-requires-clause-closed
 forget_cards-requires-clause-closed g c =
@@ -38,9 +18,3 @@ returns-clause-table g c =
     let new = c.forget_cards.new.seat.me.0.began_words in
     sym (held_table new c.race-race.ensures) ∙ (forgotten_is race.shape race.layout race.laid race.shaped c.number.result (lent_region c.race-race.ensures c.self.view_is c.number.ensures c.requires.region) c.self.inside.seat.me.0.began_words new
     (lent_begun c.race-race.ensures c.self.invariant.0.begun) c.forget_cards.ensures.seat.begun c.forget_cards.ensures.unset ∙ (λ i. forgotten (c.number.ensures i) (table_at ((lent_view c.race-race.ensures c.self.view_is) i))))
-
-pub returns-clause-words : goal.returns-clause-words
-returns-clause-words g c =
-    let new = c.forget_cards.new.seat.me.0.began_words in
-    subst (λ (h : Pause). WordsBecome same_word h.shape h.words new) (lent_view c.race-race.ensures c.self.view_is)
-    (front_words c.race-race.result.now.shape c.self.inside.seat.me.0.began_words new c.forget_cards.ensures.unset.front)

@@ -3,8 +3,8 @@ use Rattle.std.specs.Prelude.{◌≡◌}
 use Rattle.g1_race.specs.{ℕ, true, sym, ap, ◌∙◌, subst, nat_cmp, true≢false, CardSet, moved, moved_count, word_after, Pause, table_at, WordsBecome, AreUnflagged}
 use Rattle.std.specs.FinSet as set
 use Rattle.g1_race.specs.declared.race.Race.{Race}
-use Rattle.g1_race.proofs.{still_unflagged, word_pending, moved_words, held_table, lent_begun, lent_region, lent_view}
-use Rattle.g1_race.proofs.MovedTable.{count_is, moved_is}
+use Rattle.g1_race.proofs.{still_unflagged, word_pending, moved_words, lent_begun, lent_region, lent_view}
+use Rattle.g1_race.proofs.MovedTable.{count_is}
 use Rattle.g1_race.proofs.paused.Paused.move_all.Goals as goal
 
 pub move_references-requires-clause-clean : goal.move_references-requires-clause-clean
@@ -13,14 +13,6 @@ move_references-requires-clause-clean g c d lt at =
     let words = c.self.inside.seat.me.0.began_words in
     let is = subst (λ (h : Pause). set.contains (table_at h).pending d ≡ true) (lent_view c.race-race.ensures c.self.view_is) (word_pending race.shape race.layout race.laid words d lt at) in
     true≢false (sym is ∙ (ap (λ (s : CardSet). set.contains s d) c.requires.clean ∙ set.contains-empty nat_cmp d))
-
-pub returns-clause-moved : goal.returns-clause-moved
-returns-clause-moved g c =
-    let race = c.race-race.result.now in
-    let old = c.self.inside.seat.me.0.began_words in
-    let new = c.move_references.new.seat.me.0.began_words in
-    sym (held_table new c.race-race.ensures) ∙ (moved_is race.shape race.layout race.laid old new c.number.result c.number-2.result (lent_begun c.race-race.ensures c.self.invariant.0.begun) c.move_references.ensures.seat.begun c.move_references.ensures.moved (lent_region c.race-race.ensures c.self.view_is c.number-2.ensures c.requires.to)
-    ∙ (λ i. moved (c.number.ensures i) (c.number-2.ensures i) (table_at (lent_view c.race-race.ensures c.self.view_is i))))
 
 pub returns-clause-count : goal.returns-clause-count
 returns-clause-count g c =

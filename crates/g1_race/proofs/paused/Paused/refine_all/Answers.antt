@@ -1,5 +1,5 @@
-use Rattle.g1_race.specs.{subst, Table, Pause, ended, table_at, table_of, WordsBecome, same_word, AreAllRefined, marked_cards}
-use Rattle.g1_race.proofs.{all_refined, refined_words, held_table, lent_begun, lent_view}
+use Rattle.g1_race.specs.{subst, Table, Pause, ended, table_at, table_of, AreAllRefined, marked_cards}
+use Rattle.g1_race.proofs.{all_refined, held_table, lent_begun, lent_view}
 use Rattle.g1_race.proofs.paused.Paused.refine_all.Goals as goal
 
 pub returns-clause-refined : goal.returns-clause-refined
@@ -11,10 +11,3 @@ returns-clause-refined g c =
     let all = all_refined k race.layout race.laid old new (lent_begun c.race-race.ensures c.self.invariant.0.begun) c.refine_cards.ensures.seat.begun c.refine_cards.ensures.refined in
     subst (λ (h : Pause). AreAllRefined (table_at h) (marked_cards h.shape h.words) (table_of (ended (g.R.Holds.held c.self.inside.race).layout (g.R.Holds.held c.self.inside.race).shape new))) (lent_view c.race-race.ensures c.self.view_is)
     (subst (λ (t : Table). AreAllRefined (table_of (ended race.layout k old)) (marked_cards k old) t) (held_table new c.race-race.ensures) all)
-
-pub returns-clause-words : goal.returns-clause-words
-returns-clause-words g c =
-    let k = c.race-race.result.now.shape in
-    let new = c.refine_cards.new.seat.me.0.began_words in
-    subst (λ (h : Pause). WordsBecome same_word h.shape h.words new) (lent_view c.race-race.ensures c.self.view_is)
-    (refined_words k c.self.inside.seat.me.0.began_words new k.cards c.refine_cards.ensures.refined)

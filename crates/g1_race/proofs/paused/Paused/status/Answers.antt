@@ -1,26 +1,14 @@
 use Rattle.std.specs.Prelude.{◌≡◌}
-use Rattle.g1_race.specs.{ℕ, List, sym, ap, ◌∙◌, subst, arith, Table, IsStep, status_entry, status_step, is_marked, pair_count, Pause, table_at}
+use Rattle.g1_race.specs.{ℕ, List, sym, ap, ◌∙◌, subst, Table, IsStep, status_entry, status_step, pair_count, Pause, table_at}
 use Rattle.std.specs.FinSet as set
 use Rattle.g1_core.specs.declared.reply.Status.{Status}
-use Rattle.g1_race.proofs.{few, cards_fit, pending_len, lent_begun, lent_view, read_table}
-use Rattle.g1_race.proofs.Counting.{count_is, few_recorded}
+use Rattle.g1_race.proofs.{pending_len, lent_begun, lent_view, read_table}
+use Rattle.g1_race.proofs.Counting.{count_is}
 use Rattle.g1_race.proofs.paused.Paused.status.Goals as goal
-
-pub overflow_cast-pending : goal.overflow_cast-pending
-overflow_cast-pending g c =
-    let race = c.race-race.result.now in
-    let a = few (is_marked race.shape c.self.inside.seat.me.0.began_words) race.shape.cards in
-    omega (arith, a, c.count_marked-pending.ensures.count, cards_fit race.shape race.shaped)
 
 -- the pairs are those of the words as they were
 counted_is : (g : _) (c : goal.After-count_pairs-recorded g) → c.count_pairs-recorded.result ≡ pair_count c.race-race.result.now.shape c.self.inside.seat.me.0.began_words c.race-race.result.now.shape.regions
 counted_is g c = c.count_pairs-recorded.ensures.count ∙ ap (λ (ws : List ℕ). pair_count c.race-race.result.now.shape ws c.race-race.result.now.shape.regions) (ap (λ m. m.0.began_words) c.count_marked-pending.ensures.seat.1)
-
-pub overflow_cast-recorded : goal.overflow_cast-recorded
-overflow_cast-recorded g c =
-    let race = c.race-race.result.now in
-    let a = few_recorded race.shape race.layout race.laid c.self.inside.seat.me.0.began_words (lent_begun c.race-race.ensures c.self.invariant.0.begun) c.counts-counts.ensures.shape in
-    omega (arith, counted_is g c, a)
 
 pub returns-clause-pending : goal.returns-clause-pending
 returns-clause-pending g c = c.count_marked-pending.ensures.count ∙ (pending_len c.race-race.result.now.shape c.race-race.result.now.layout c.race-race.result.now.laid c.self.inside.seat.me.0.began_words (lent_begun c.race-race.ensures c.self.invariant.0.begun) ∙ ap (λ (h : Pause). set.len (table_at h).pending) (lent_view c.race-race.ensures c.self.view_is))

@@ -1,10 +1,7 @@
 use Rattle.std.specs.Prelude.{◌≡◌, ◌+◌, ◌*◌, ◌/◌, ◌%◌, ◌<◌}
-use Rattle.g1_race.specs.{ℕ, mod-lt, div-add-mod', sym, ap, ◌∙◌, subst, some, get_elem?, Table, target_of, Shape, Pause, table_at, WordsBecome, wiped, wiped_word}
-use Rattle.g1_race.proofs.{slot_in, slot_gives, wiped_words, held_table, lent_region, lent_view}
+use Rattle.g1_race.specs.{ℕ, mod-lt, div-add-mod', sym, ap, ◌∙◌, subst, some, get_elem?, Table, target_of, Shape, Pause}
+use Rattle.g1_race.proofs.{slot_in, slot_gives, held_table, lent_region, lent_view}
 use Rattle.g1_race.proofs.paused.Paused.wipe.Goals as goal
-
-pub returns-clause-table : goal.returns-clause-table
-returns-clause-table g c = sym (held_table _ c.race.ensures) ∙ (c.wipe_slots.ensures.table ∙ (λ i. wiped (c.number.ensures i) (table_at ((lent_view c.race.ensures c.self.view_is) i))))
 
 pub returns-clause-null : goal.returns-clause-null
 returns-clause-null g c =
@@ -18,12 +15,3 @@ returns-clause-null g c =
     let is : c.number.result * k.span + slot % k.span ≡ slot = ap (λ (r : ℕ). r * k.span + slot % k.span) (sym on) ∙ div-add-mod' slot k.span in
     let below : slot % k.span < k.span = mod-lt slot race.shaped.2 in
     ap (λ (t : Table). target_of t slot) (sym (held_table words c.race.ensures)) ∙ slot_gives k race.layout words slot 0 race.laid (subst (λ (s : ℕ). s < k.slots) is (slot_in k c.number.result (slot % k.span) race.shaped low below)) (subst (λ (s : ℕ). get_elem? words s ≡ some 0) is (c.wipe_slots.ensures.null (slot % k.span) below))
-
-pub returns-clause-words : goal.returns-clause-words
-returns-clause-words g c =
-    let k = c.race.result.now.shape in
-    let old = c.self.inside.seat.me.0.began_words in
-    let new = c.wipe_slots.new.seat.me.0.began_words in
-    subst (λ (h : Pause). WordsBecome (wiped_word h.shape c.args.region) h.shape h.words new) (lent_view c.race.ensures c.self.view_is)
-    (subst (λ (r : ℕ). WordsBecome (wiped_word k r) k old new) c.number.ensures
-    (wiped_words k old new c.number.result c.race.result.now.shaped.2 c.wipe_slots.ensures.null c.wipe_slots.ensures.other))

@@ -5,6 +5,3 @@ use Rattle.g1_race.proofs.paused.access.dirty.Goals as goal
 pub put-requires-clause-begun : goal.put-requires-clause-begun
 put-requires-clause-begun c = let k = c.args.race.now.shape in
     begun_marked k c.set_bit.new.seat.me.0.began_words c.args.card c.requires.card (c.set_bit.ensures.notes.has (flag k c.args.card) (inl refl)) c.set_bit.ensures.seat.begun
-
-pub returns-clause-dirtied : goal.returns-clause-dirtied
-returns-clause-dirtied c = record { mid = c.set_bit.new.seat.me.0.began_words; flagged = c.set_bit.ensures.notes; begun = c.set_bit.ensures.seat.begun; marked = c.put.ensures.words }

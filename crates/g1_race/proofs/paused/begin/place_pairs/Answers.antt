@@ -1,5 +1,5 @@
 use Rattle.std.specs.Prelude.{◌≡◌, ◌<◌, ◌∷◌}
-use Rattle.g1_race.specs.{ℕ, [], List, length, get_or, take, sym, ap, ◌∙◌, subst, arith, some, get_elem?, In, IsOfCrossing, Notes, at_read, contains_in, take_next, take_all}
+use Rattle.g1_race.specs.{ℕ, [], List, length, get_or, take, sym, ap, ◌∙◌, subst, arith, some, get_elem?, In, IsOfCrossing, Notes, at_read, contains_in, take_next}
 use Rattle.g1_race.proofs.{notes_then}
 use Rattle.g1_race.proofs.paused.begin.place_pairs.Goals as goal
 
@@ -43,8 +43,3 @@ loop-pair-preserved c =
       notes = subst (λ (xs : List (ℕ × ℕ)). Notes k old new xs) (sym (take_next pairs n x (item pairs n x c.loop-pair-test.true c.pair-item.is)))
           (notes_then k old mid new (take n pairs) (x ∷ []) c.loop-pair.invariant.notes (subst (λ (y : ℕ × ℕ). Notes k mid new (y ∷ [])) same c.set_bit.ensures.notes));
     }
-
-pub returns-clause-notes : goal.returns-clause-notes
-returns-clause-notes c =
-    let k = c.args.race.now.shape in
-    subst (λ (xs : List (ℕ × ℕ)). Notes k c.args.seat.now.me.0.began_words c.loop-pair.seat.me.0.began_words xs) (take_all c.args.pairs.now c.loop-pair.pair-index (omega (arith, c.loop-pair-test.false))) c.loop-pair.invariant.notes

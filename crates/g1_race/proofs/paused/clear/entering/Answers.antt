@@ -1,20 +1,12 @@
 -- No slot of a card before the one that is looked at refers into the region.
-use Rattle.g1_race.specs.{ap, ◌∙◌, arith}
-use Rattle.g1_race.proofs.LeastInto.{least_found, none_left, none_past}
+use Rattle.g1_race.specs.{ap}
+use Rattle.g1_race.proofs.LeastInto.{least_found, none_left}
 use Rattle.g1_race.proofs.paused.clear.entering.Goals as goal
 
 pub returns-in-Some-entering_on-clause-least : goal.returns-in-Some-entering_on-clause-least
 returns-in-Some-entering_on-clause-least c =
     let i = c.loop-card.invariant in
     least_found c.args.race.now.shape (ap (λ m. m.0.began_words) i.me) c.args.region c.loop-card.from c.requires.seat.begun c.requires.clean i.none c.in-Some.card c.in-Some.ensures.next (ap (λ m. m.0.began_words) c.next_member.ensures.seat.1) c.in-Some-entering_on.slot c.in-Some-entering_on.ensures.least
-
-pub loop-card-preserved : goal.loop-card-preserved
-loop-card-preserved c = let i = c.loop-card.invariant in record {
-  table = c.entering_on.ensures.seat.0 ∙ (c.next_member.ensures.seat.0 ∙ i.table);
-  me = c.entering_on.ensures.seat.1 ∙ (c.next_member.ensures.seat.1 ∙ i.me);
-  within = omega (arith, c.in-Some.ensures.next.1);
-  none = none_past c.args.race.now.shape (ap (λ m. m.0.began_words) i.me) c.args.region c.loop-card.from c.requires.seat.begun c.requires.clean i.none c.in-Some.card c.in-Some.ensures.next (ap (λ m. m.0.began_words) c.next_member.ensures.seat.1) c.in_default-entering_on.ensures.least;
-}
 
 pub returns-clause-least : goal.returns-clause-least
 returns-clause-least c = let i = c.loop-card.invariant in none_left c.args.race.now.shape (ap (λ m. m.0.began_words) i.me) c.args.region c.loop-card.from c.requires.seat.begun c.requires.clean i.none c.in_default.ensures.next

@@ -1,21 +1,12 @@
 -- The card's slots are noted one after another, and then its mark is cleared.
 use Rattle.std.specs.Prelude.{◌≡◌, ◌+◌, ◌*◌, ◌<◌, ◌++◌}
-use Rattle.g1_race.specs.{ℕ, suc, List, get_or, sym, ap, ◌∙◌, subst, arith, some, get_elem?, Shape, pair_at, Notes, RefinesCard, card_pairs, reads_as}
+use Rattle.g1_race.specs.{ℕ, suc, List, get_or, sym, ap, ◌∙◌, subst, arith, some, get_elem?, pair_at, Notes, RefinesCard, card_pairs, reads_as}
 use Rattle.g1_race.proofs.{slot_below, notes_then, begun_cleaned, refined_is}
 use Rattle.g1_race.proofs.paused.drain.refine_card.Goals.{After-loop-i, In-loop-i}
 use Rattle.g1_race.proofs.paused.drain.refine_card.Goals as goal
 
 below : (c : In-loop-i) → c.args.card * c.args.race.now.shape.size + c.loop-i.i < c.args.race.now.shape.slots
 below c = slot_below c.args.race.now.shape c.args.card c.loop-i.i c.args.race.now.shaped c.requires.card c.loop-i-test.true
-
-pub see-word-requires-clause-word : goal.see-word-requires-clause-word
-see-word-requires-clause-word c = let lt = below ((goal.at.see-word-requires-clause-word c).In-loop-i) in omega (arith, lt)
-
-pub note_slot-requires-clause-slot : goal.note_slot-requires-clause-slot
-note_slot-requires-clause-slot c = subst (λ (n : ℕ). c.args.card * c.args.race.now.shape.size + c.loop-i.i < n) (ap (λ (k : Shape). k.slots) c.args.race.now.laid) (below ((goal.at.note_slot-requires-clause-slot c).In-loop-i))
-
-pub note_slot-requires-clause-word : goal.note_slot-requires-clause-word
-note_slot-requires-clause-word c = c.loop-i.invariant.seat.begun.bounded (c.args.card * c.args.race.now.shape.size + c.loop-i.i) c.see-word.result (below ((goal.at.note_slot-requires-clause-word c).In-loop-i)) c.see-word.ensures.word
 
 pub loop-i-preserved : goal.loop-i-preserved
 loop-i-preserved c =

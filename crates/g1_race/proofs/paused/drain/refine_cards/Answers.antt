@@ -1,7 +1,7 @@
 -- The cards before the one that is looked at are refined, and at the end the flags are cleared.
 use Rattle.std.specs.Prelude.{◌≡◌}
 use Rattle.g1_race.specs.{ℕ, List, ap, subst, arith, some, get_elem?, mark_word, IsEmptied, AreRefined, RefinesCard, never_both}
-use Rattle.g1_race.proofs.{none_behind, paused_same, marked_word, unmarked_word, refined_next, refined_past, refined_emptied, unflagged}
+use Rattle.g1_race.proofs.{none_behind, paused_same, marked_word, unmarked_word, refined_next, refined_past, refined_emptied}
 use Rattle.g1_race.proofs.paused.drain.refine_cards.Goals.{In_default}
 use Rattle.g1_race.proofs.paused.drain.refine_cards.Goals as goal
 
@@ -44,6 +44,3 @@ returns-clause-refined c =
     let k = c.args.race.now.shape in
     let new = c.empty_row.new.seat.me.0.began_words in
     refined_emptied k c.args.seat.now.me.0.began_words c.loop-card.seat.me.0.began_words new k.cards (all ((goal.at.returns-clause-refined c).In_default)) (subst (λ (l : List ℕ). IsEmptied k l new k.regions k.row) (ap (λ m. m.0.began_words) c.next_marked.ensures.seat.1) c.empty_row.ensures.emptied)
-
-pub returns-clause-flags : goal.returns-clause-flags
-returns-clause-flags c = unflagged c.args.race.now.shape c.next_marked.new.seat.me.0.began_words c.empty_row.new.seat.me.0.began_words c.args.race.now.shaped c.empty_row.ensures.emptied

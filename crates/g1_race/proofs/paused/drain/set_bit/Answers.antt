@@ -1,16 +1,8 @@
 -- The pair's bit is set in its word.
-use Rattle.std.specs.Prelude.{◌≡◌, ◌∷◌}
-use Rattle.g1_race.specs.{ℕ, [], List, sym, ap, ◌∙◌, subst, ⊎_elim, shr_and_one, IsBegun, HasBit, started, Notes}
-use Rattle.g1_race.proofs.{begun_bit, notes_bit, notes_same, with_found, bit_read}
+use Rattle.std.specs.Prelude.{◌∷◌}
+use Rattle.g1_race.specs.{ℕ, [], List, sym, ap, ◌∙◌, subst, IsBegun, started, Notes}
+use Rattle.g1_race.proofs.{begun_bit, notes_bit, with_found}
 use Rattle.g1_race.proofs.paused.drain.set_bit.Goals as goal
-
-pub returns-then-found-place-eq1-clause-notes : goal.returns-then-found-place-eq1-clause-notes
-returns-then-found-place-eq1-clause-notes c =
-    let k = c.args.race.now.shape in
-    let words = c.args.seat.now.me.0.began_words in
-    let x : ℕ × ℕ = (c.args.card, c.args.region) in
-    let set : HasBit k words x = sym (bit_read k words x c.bit_of-at.result.0 c.bit_of-at.result.1 c.see-found.result c.bit_of-at.ensures.word c.bit_of-at.ensures.place c.see-found.ensures.word) ∙ (sym (shr_and_one c.see-found.result c.bit_of-at.result.1) ∙ c.if-found-place-eq1.true) in
-    notes_same k words c.see-found.new.seat.me.0.began_words (x ∷ []) (ap (λ m. m.0.began_words) c.see-found.ensures.seat.1) (λ y i. ⊎_elim (λ (e : x ≡ y). subst (HasBit k words) e set) (λ (n : ⊥). absurd n) i)
 
 pub put-requires-clause-begun : goal.put-requires-clause-begun
 put-requires-clause-begun c = subst (λ (l : List ℕ). IsBegun (started c.args.race.now.shape l)) (sym (with_found c.args.race.now.shape c.args.seat.now.me.0.began_words _ (c.args.card, c.args.region) c.bit_of-at.result.0 c.bit_of-at.result.1 c.see-found.result (ap (λ m. m.0.began_words) c.see-found.ensures.seat.1) c.bit_of-at.ensures.word c.bit_of-at.ensures.place c.see-found.ensures.word))

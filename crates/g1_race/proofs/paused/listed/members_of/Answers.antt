@@ -1,7 +1,7 @@
 -- The list is that of the members by the region's number.
 use Rattle.std.specs.Prelude.{◌≡◌}
-use Rattle.g1_race.specs.{ℕ, length, List, sym, ap, ◌∙◌, subst, arith, AreMembers, Shape, is_member, member_cards, ended, table_of}
-use Rattle.g1_race.proofs.{few, members_are}
+use Rattle.g1_race.specs.{ℕ, List, sym, ap, ◌∙◌, subst, arith, AreMembers, Shape, member_cards, ended, table_of}
+use Rattle.g1_race.proofs.{members_are}
 use Rattle.g1_race.proofs.paused.listed.members_of.Goals as goal
 
 -- the cards are those of the words as they were
@@ -14,9 +14,3 @@ returns-clause-members c =
     let words = c.args.seat.now.me.0.began_words in
     subst (λ (cs : List ℕ). AreMembers (table_of (ended race.layout race.shape words)) c.args.region cs) (sym (cards_are c))
     (members_are race.shape race.layout race.laid words c.args.region c.number-number.result c.requires.seat.begun c.number-number.ensures (omega (arith, c.requires.region, c.number-number.ensures, ap (λ (s : Shape). s.regions) race.laid)))
-
-pub returns-clause-few : goal.returns-clause-few
-returns-clause-few c =
-    let race = c.args.race.now in
-    let a = few (is_member race.shape c.args.seat.now.me.0.began_words c.number-number.result) race.shape.cards in
-    omega (arith, a, ap (λ (l : List ℕ). length l) (cards_are c), ap (λ (s : Shape). s.cards) race.laid)

@@ -1,13 +1,7 @@
 -- The count rises by one at each card that is found.
 use Rattle.g1_race.specs.{ℕ, List, ap, ◌∙◌, arith, is_member}
-use Rattle.g1_race.proofs.{cards_fit, count_end, count_on, few}
+use Rattle.g1_race.proofs.{count_end, count_on}
 use Rattle.g1_race.proofs.paused.next.count_members.Goals as goal
-
-pub overflow_add-count : goal.overflow_add-count
-overflow_add-count c =
-    let i = c.loop-card.invariant in
-    let next = c.in-Some.ensures.next in
-    omega (arith, few (is_member c.args.race.now.shape c.args.seat.now.me.0.began_words c.args.region) c.loop-card.from, i.counted, i.within, next.0, next.1, cards_fit c.args.race.now.shape c.args.race.now.shaped)
 
 pub loop-card-preserved : goal.loop-card-preserved
 loop-card-preserved c = let i = c.loop-card.invariant in record {

@@ -1,6 +1,6 @@
 -- The count is that of the regions before the one that is looked at.
 use Rattle.std.specs.Prelude.{◌≡◌, ◌+◌}
-use Rattle.g1_race.specs.{ℕ, List, length, sym, ap, ◌∙◌, arith, member_cards}
+use Rattle.g1_race.specs.{ℕ, List, length, ap, ◌∙◌, arith, member_cards}
 use Rattle.g1_race.proofs.Counting.{counted, fits}
 use Rattle.g1_race.proofs.paused.next.count_pairs.Goals.{After-count_members-count}
 use Rattle.g1_race.proofs.paused.next.count_pairs.Goals as goal
@@ -12,10 +12,3 @@ pub overflow_add-count : goal.overflow_add-count
 overflow_add-count c =
     let r = c.loop-region.region in
     omega (arith, c.loop-region.invariant.counted, more ((goal.at.overflow_add-count c).After-count_members-count), counted c.args.race.now.shape c.args.seat.now.me.0.began_words r, fits c.args.race.now.shape c.args.seat.now.me.0.began_words (r + 1) c.args.race.now.shaped (omega (arith, c.loop-region-test.true)))
-
-pub loop-region-preserved : goal.loop-region-preserved
-loop-region-preserved c = let i = c.loop-region.invariant in record {
-  table = c.count_members-count.ensures.seat.0 ∙ i.table;
-  me = c.count_members-count.ensures.seat.1 ∙ i.me;
-  counted = (λ j. i.counted j + more ((goal.at.loop-region-preserved c).After-count_members-count) j) ∙ sym (counted c.args.race.now.shape c.args.seat.now.me.0.began_words c.loop-region.region);
-}

@@ -1,7 +1,7 @@
 -- No card is dirty before the one that is looked at.
 use Rattle.std.specs.Prelude.{◌≡◌}
 use Rattle.g1_race.specs.{List, ℕ, ap, ◌∙◌, subst, arith, some, get_elem?, mark_word}
-use Rattle.g1_race.proofs.{clean_after, clean_past, marked_next}
+use Rattle.g1_race.proofs.{clean_past, marked_next}
 use Rattle.g1_race.proofs.paused.next.next_marked.Goals as goal
 
 pub returns-then-see-eq1-clause-next : goal.returns-then-see-eq1-clause-next
@@ -22,6 +22,3 @@ loop-card-preserved c =
       past = omega (arith, i.past, c.in-Some.ensures.next.0);
       none = clean_past k c.args.from c.loop-card.next (ap (λ m. m.0.began_words) i.me) i.none c.in-Some.card c.see.result c.in-Some.ensures.next at c.if-see-eq1.false;
     }
-
-pub returns-clause-next : goal.returns-clause-next
-returns-clause-next c = clean_after c.args.race.now.shape c.args.from c.loop-card.next (ap (λ m. m.0.began_words) c.loop-card.invariant.me) c.loop-card.invariant.none c.in_default.ensures.next

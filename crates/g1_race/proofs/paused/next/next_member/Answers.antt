@@ -1,6 +1,6 @@
 -- No card of the set is before the one that is looked at, whose word is read.
-use Rattle.g1_race.specs.{ap, ◌∙◌, arith}
-use Rattle.g1_race.proofs.{next_found, next_past, none_of_word}
+use Rattle.g1_race.specs.{ap, arith}
+use Rattle.g1_race.proofs.{next_found}
 use Rattle.g1_race.proofs.paused.next.next_member.Goals as goal
 
 pub returns-then-next-cards-clause-next : goal.returns-then-next-cards-clause-next
@@ -8,17 +8,3 @@ returns-then-next-cards-clause-next c =
     let i = c.loop-card.invariant in
     next_found c.args.race.now.shape (ap (λ m. m.0.began_words) i.me) c.args.from c.loop-card.card c.args.region c.bit_of-at.result.0 c.bit_of-at.result.1 c.see.result c.bit_of-at.ensures.word c.bit_of-at.ensures.place c.see.ensures.word i.none
     c.if-rest-ne0.true (omega arith) c.args.race.now.shape.cards i.past c.if-next-cards.true
-
-pub returns-else-next-cards-clause-next : goal.returns-else-next-cards-clause-next
-returns-else-next-cards-clause-next c =
-    let i = c.loop-card.invariant in
-    next_past c.args.race.now.shape (ap (λ m. m.0.began_words) i.me) c.args.from c.loop-card.card c.args.region c.bit_of-at.result.0 c.bit_of-at.result.1 c.see.result c.bit_of-at.ensures.word c.bit_of-at.ensures.place c.see.ensures.word i.none
-    c.if-rest-ne0.true (omega arith) c.args.race.now.shape.cards c.if-next-cards.false
-
-pub loop-card-preserved : goal.loop-card-preserved
-loop-card-preserved c = let i = c.loop-card.invariant in record {
-  table = c.see.ensures.seat.0 ∙ i.table;
-  me = c.see.ensures.seat.1 ∙ i.me;
-  past = omega (arith, i.past);
-  none = none_of_word c.args.race.now.shape (ap (λ m. m.0.began_words) i.me) c.args.from c.loop-card.card c.args.region c.bit_of-at.result.0 c.bit_of-at.result.1 c.see.result c.bit_of-at.ensures.word c.bit_of-at.ensures.place c.see.ensures.word i.none c.if-rest-ne0.false;
-}

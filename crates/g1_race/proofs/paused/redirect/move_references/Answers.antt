@@ -1,6 +1,6 @@
 -- The slots of the cards before the one that is looked at are moved.
-use Rattle.g1_race.specs.{ℕ, List, sym, ap, ◌∙◌, subst, arith, Into, AreMoved, into_count}
-use Rattle.g1_race.proofs.{paused_same, none_into, on_card, passed, passed_count}
+use Rattle.g1_race.specs.{ℕ, List, sym, ap, subst, arith, Into, AreMoved}
+use Rattle.g1_race.proofs.{paused_same, none_into, on_card, passed}
 use Rattle.g1_race.proofs.paused.redirect.move_references.Goals.{In_default}
 use Rattle.g1_race.proofs.paused.redirect.move_references.Goals as goal
 
@@ -34,10 +34,3 @@ returns-clause-moved c =
       moved = subst (λ (ws : List ℕ). AreMoved race.shape c.args.seat.now.me.0.began_words ws c.args.from c.args.to 0 race.shape.slots) (sym (ap (λ m. m.0.began_words) c.next_member.ensures.seat.1)) (all ((goal.at.returns-clause-moved c).In_default));
       emptied = c.empty_row.ensures.emptied;
     }
-
-pub returns-clause-count : goal.returns-clause-count
-returns-clause-count c =
-    let race = c.args.race.now in
-    let i = c.loop-card.invariant in
-    i.counted ∙ (sym (passed_count race.shape c.args.seat.now.me.0.began_words c.loop-card.seat.me.0.began_words c.args.from c.args.to c.loop-card.next race.shape.cards c.requires.seat.begun c.requires.apart i.within (omega arith) c.requires.clean i.moved c.in_default.ensures.next)
-    ∙ ap (into_count race.shape c.args.seat.now.me.0.began_words c.args.from 0) (sym race.shaped.0))

@@ -1,5 +1,5 @@
 use Rattle.std.specs.Prelude.{◌≢◌, ◌⊎◌, ◌≤◌, ◌≡◌, ◌+◌, ◌*◌, ◌<◌}
-use Rattle.g1_race.specs.{inl, inr, ℕ, suc, List, set, None, refl, ap, ◌∙◌, arith, get_elem?, cases_eq, set_else, set_here, Null, Shape, ended, table_of, nulled}
+use Rattle.g1_race.specs.{inl, inr, ℕ, suc, List, set, None, refl, ap, ◌∙◌, arith, get_elem?, cases_eq, set_else, set_here, Null, ended, table_of, nulled}
 use Rattle.g1_race.proofs.{begun_placed, null_crosses, kind_null, quiet_store, slot_in}
 use Rattle.g1_race.proofs.paused.wipe.wipe_slots.Goals as goal
 
@@ -7,9 +7,6 @@ use Rattle.g1_race.proofs.paused.wipe.wipe_slots.Goals as goal
 out_of : (first i q : ℕ) → (q < first) ⊎ (first + (i + 1) ≤ q) → (q ≢ first + i) × ((q < first) ⊎ (first + i ≤ q))
 out_of first i q (inl low) = ((λ e. absurd (omega (arith, low, e))), inl low)
 out_of first i q (inr high) = ((λ e. absurd (omega (arith, high, e))), inr (omega (arith, high)))
-
-pub put-requires-clause-word : goal.put-requires-clause-word
-put-requires-clause-word c = let a = slot_in c.args.race.now.shape c.args.region c.loop-i.i c.args.race.now.shaped c.requires.region c.loop-i-test.true in omega (arith, a)
 
 pub put-requires-clause-begun : goal.put-requires-clause-begun
 put-requires-clause-begun c =
@@ -38,10 +35,3 @@ loop-i-preserved c =
       ];
       other = λ q out. ap (λ (ws : List ℕ). get_elem? ws q) c.put.ensures.words ∙ (set_else words p q 0 (out_of first c.loop-i.i q out).0 ∙ i.other q (out_of first c.loop-i.i q out).1);
     }
-
-pub returns-clause-table : goal.returns-clause-table
-returns-clause-table c =
-    let race = c.args.race.now in
-    let k = race.shape in
-    let old = table_of (ended race.layout k c.args.seat.now.me.0.began_words) in
-    c.loop-i.invariant.table ∙ ap (λ (n : ℕ). nulled (c.args.region * k.span) n old) (let e : c.loop-i.i ≡ k.span = omega (arith, c.loop-i-test.false) in e) ∙ ap (λ (s : Shape). nulled (c.args.region * s.span) s.span old) race.laid

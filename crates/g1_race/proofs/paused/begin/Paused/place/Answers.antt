@@ -3,7 +3,7 @@ use Rattle.std.specs.Prelude.{◌≡◌}
 use Rattle.g1_race.specs.{All, sym, ap, ◌∙◌, subst, IsPairOf, Start, Pause, start_at, null_of, word_count, zeros}
 use Rattle.g1_layout.specs.Shape as layout
 use Rattle.g1_race.proofs.Placing.{listed_cross}
-use Rattle.g1_race.proofs.CopiedTable.{clean_marks, null_slots, slots_covered, table_copied}
+use Rattle.g1_race.proofs.CopiedTable.{slots_covered}
 use Rattle.g1_race.proofs.paused.begin.Paused.place.Goals as goal
 
 null_words : (h i : Pause) → h ≡ i → start_at i ≡ null_of i.shape → h.words ≡ zeros (word_count h.shape)
@@ -14,22 +14,7 @@ place_pairs-requires-clause-pairs c =
     let race = c.self.inside.race in
     listed_cross race.layout race.shape c.args.pairs.now race.laid race.shaped (subst (λ (l : layout.Shape). All (IsPairOf l) c.args.pairs.now) (sym (ap (λ (h : Pause). h.layout) c.self.view_is ∙ c.requires.layout)) c.requires.within)
 
-pub place_marks-requires-clause-clean : goal.place_marks-requires-clause-clean
-place_marks-requires-clause-clean c =
-    let race = c.self.inside.race in
-    clean_marks c.args.core.now.state race.layout race.shape c.self.inside.seat.me.0.began_words c.place_pairs.new.seat.me.0.began_words c.place_pairs.new.seat.me.0.began_words c.args.pairs.now (ap (λ (h : Pause). h.layout) c.self.view_is ∙ c.requires.layout) race.laid c.layout-layout.ensures.sound race.shaped (null_words _ _ c.self.view_is c.requires.null) c.requires.pairs c.place_pairs.ensures.notes
-
-pub place_slots-requires-clause-null : goal.place_slots-requires-clause-null
-place_slots-requires-clause-null c =
-    let race = c.self.inside.race in
-    null_slots c.args.core.now.state race.layout race.shape c.self.inside.seat.me.0.began_words c.place_pairs.new.seat.me.0.began_words c.place_marks.new.seat.me.0.began_words c.args.pairs.now (ap (λ (h : Pause). h.layout) c.self.view_is ∙ c.requires.layout) race.laid c.layout-layout.ensures.sound race.shaped (null_words _ _ c.self.view_is c.requires.null) c.requires.pairs c.place_pairs.ensures.notes c.place_marks.ensures.marks
-
 pub place_slots-requires-clause-covered : goal.place_slots-requires-clause-covered
 place_slots-requires-clause-covered c =
     let race = c.self.inside.race in
     slots_covered c.args.core.now.state race.layout race.shape c.self.inside.seat.me.0.began_words c.place_pairs.new.seat.me.0.began_words c.place_marks.new.seat.me.0.began_words c.args.pairs.now (ap (λ (h : Pause). h.layout) c.self.view_is ∙ c.requires.layout) race.laid c.layout-layout.ensures.sound race.shaped (null_words _ _ c.self.view_is c.requires.null) c.requires.pairs c.place_pairs.ensures.notes c.place_marks.ensures.marks
-
-pub returns-clause-table : goal.returns-clause-table
-returns-clause-table c =
-    let race = c.self.inside.race in
-    table_copied c.args.core.now.state race.layout race.shape c.self.inside.seat.me.0.began_words c.place_pairs.new.seat.me.0.began_words c.place_marks.new.seat.me.0.began_words c.args.pairs.now (ap (λ (h : Pause). h.layout) c.self.view_is ∙ c.requires.layout) race.laid c.layout-layout.ensures.sound race.shaped (null_words _ _ c.self.view_is c.requires.null) c.requires.pairs c.place_pairs.ensures.notes c.place_marks.ensures.marks c.place_slots.new.seat.me.0.began_words c.place_slots.ensures.seat.begun.sized c.place_slots.ensures.slots

@@ -1,10 +1,7 @@
 -- A heap that opens is one of nulls.
-use Rattle.g1_race.specs.{ap, ◌∙◌, arith, Shape, table_of, ended}
+use Rattle.g1_race.specs.{ap, ◌∙◌, table_of, ended}
 use Rattle.g1_race.proofs.Opening.{opening_table}
 use Rattle.g1_race.proofs.paused.open.Paused.open.Goals as goal
-
-pub invariant_of-result : goal.invariant_of-result
-invariant_of-result c = (c.in_ok-table.ensures.seat, omega (arith, c.in_ok-racers.ensures.len, c.in_ok-sweepers.ensures, ap (λ (x : Shape). x.members) c.shape_of-shape.ensures.shape))
 
 pub returns-clause-table : goal.returns-clause-table
 returns-clause-table c =
