@@ -35,6 +35,7 @@ pub mod ReadLemmas
 pub mod VerifyLemmas
 pub mod StoresApart
 pub mod CopyLemmas
+pub mod Rules
 use AdoptingLemmas.*
 use LeastSlotLemmas.*
 use MarkLemmas.*
@@ -43,6 +44,8 @@ use QueryLemmas.*
 use ReadLemmas.*
 use ReferenceLemmas.*
 use RefineLemmas.*
+use RefinedLemmas.*
+use Rules.*
 use SoundLemmas.*
 use StoreLemmas.*
 use WalkLemmas.*

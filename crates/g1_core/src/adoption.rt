@@ -115,6 +115,7 @@ fn add_pairs(pairs: &mut Vec<(Card, Region)>, sets: &Sets, region: Region) -> Re
 }
 
 // Records the pairs.
+#[tactic(auto, using(crate::proofs::record_next))]
 fn record_pairs(sets: &mut Sets, pairs: &[(Card, Region)]) -> Result<(), NoMemory>
     requires empty { sets.old.pairs ≡ set.empty }
     requires pairs { All (IsPairOf sets.old.layout) pairs.now }
@@ -129,6 +130,7 @@ fn record_pairs(sets: &mut Sets, pairs: &[(Card, Region)]) -> Result<(), NoMemor
 }
 
 // Writes every slot.
+#[tactic(auto, using(crate::proofs::put_next))]
 fn set_references(heap: &mut Heap, refs: &[Option<Slot>])
     requires slots { length refs.now ≡ slot_count heap.old.layout }
     requires places { All (λ target. IfSome target (λ place. place < slot_count heap.old.layout))

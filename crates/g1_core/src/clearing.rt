@@ -64,6 +64,7 @@ fn least_entering(heap: &mut Heap, sets: &Sets, region: Region) -> Option<Slot>
 }
 
 // The card of the least number, or `None` if there is no card.
+#[tactic(auto, using(crate::specs::cases_lt, std::proofs::Common::take_all))]
 fn first_of(layout: Layout, cards: &[Card]) -> Option<Card>
     requires { All (λ card. card < card_count layout) cards.now }
     ensures none { IfNone result (length cards.now ≡ 0) }

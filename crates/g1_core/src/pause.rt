@@ -80,6 +80,7 @@ impl Core {
     }
 
     /// Refines the dirty cards, ascending, and lists them after those that are there.
+    #[tactic(auto, using(crate::proofs::DrainLoopLemmas::dirty_none))]
     fn drain_dirty(&mut self, refined: &mut Vec<Card>) -> Result<(), NoMemory>
         requires room { vec_len refined.old + set.len self.old.state.table.pending
             ≤ vec_capacity refined.old }

@@ -56,6 +56,7 @@ impl Core {
     }
 
     /// Whether a card is pending: dirty, or held in the hot ring. Constant time.
+    #[tactic(auto, using(crate::proofs::of_a_mark))]
     pub fn is_pending(&self, card: Card) -> bool
         requires { card < card_count self.now.state.table.layout }
         ensures did { DoesPending card result self.now self.now }

@@ -30,6 +30,7 @@ struct Changes {
 }
 
 // Adds the changes of a card's slots, ascending.
+#[tactic(auto, using(crate::proofs::EnteringLemmas::changes_own))]
 fn add_changes_on(
     heap: &mut Heap,
     card: Card,
@@ -125,6 +126,7 @@ impl Core {
     // Moves every reference into a region, where nothing is pending, and returns how many slots
     // changed. The room for the changes and for the cards that they record is made first: if it is
     // refused, the members were only read.
+    #[tactic(auto, using(crate::proofs::RedirectLemmas::members_core))]
     fn move_references(&mut self, from: Region, to: Region) -> Result<u32, NoMemory>
         requires from { from < self.old.state.table.layout.regions }
         requires to { to < self.old.state.table.layout.regions }

@@ -40,6 +40,7 @@ impl Core {
     /// Reads the slots of each refined card once, and if it is short those of at most one card
     /// more. Takes memory for the list, with room for each card of the buffer, and for what the
     /// remembered sets gain.
+    #[tactic(auto, using(crate::proofs::LengthLemmas::turned_does))]
     pub fn refine(&mut self, buffer: Option<&Buffer>) -> Result<RefineReply, NoMemory>
         ensures did { IfOk result (λ reply.
             DoesRefine (option_map (λ b. b.now) buffer.entry) reply self.old self.new) }
@@ -81,6 +82,7 @@ impl Core {
 
     /// The turn of a card: what the ring does with it, or `None` if the card is not dirty. Memory
     /// comes first.
+    #[tactic(auto, using(crate::proofs::refined_none, crate::proofs::DrainCardLemmas::read_core))]
     fn turn(&mut self, card: Card) -> Result<Option<Offer>, NoMemory>
         ensures offer { IfOk result (λ offer. offer ≡ offer_to self.old.state card) }
         ensures state { IfOk result (λ offer.

@@ -51,6 +51,7 @@ impl Core {
     ///
     /// It is for a runtime's debug build: the mistake that is made most often is a store that was
     /// never reported. Takes time in proportion to the slots, each of which is read, and no memory.
+    #[tactic(auto, using(crate::proofs::of_a_slot))]
     pub fn first_differing<M: Reference>(&mut self, first: Slot, memory: &[M]) -> Option<Slot>
         requires { first + length memory.now ≤ slot_count self.old.state.table.layout }
         ensures first { IsFirst (Differs self.old.state.table first (map M.place memory.now))

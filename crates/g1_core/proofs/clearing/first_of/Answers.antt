@@ -1,6 +1,5 @@
-use Rattle.std.specs.Prelude.{◌≡◌, ◌<◌, ◌≤◌, ◌+◌, ◌∷◌, ◌++◌}
-use Rattle.g1_core.specs.{inl, inr, ℕ, List, [], length, Option, Some, None, refl, sym, ◌∙◌, subst, arith, take, All, Contains, IfNone, slice_get, SomeIff, cases_lt, All-push, Contains-append_left, Contains-append_right, slice_get_read, card_count}
-use Rattle.std.proofs.Common.{take_all}
+use Rattle.std.specs.Prelude.{◌≡◌, ◌≤◌, ◌+◌, ◌∷◌, ◌++◌}
+use Rattle.g1_core.specs.{inl, inr, ℕ, List, [], length, Some, refl, sym, ◌∙◌, subst, arith, take, All, Contains, slice_get, cases_lt, All-push, Contains-append_left, Contains-append_right, slice_get_read}
 use Rattle.g1_core.proofs.{itself, take_next}
 use Rattle.g1_core.proofs.clearing.first_of.Goals as goal
 
@@ -28,17 +27,3 @@ loop-card-preserved c =
             ]
       ];
     }
-
--- where a layout has no card of a number, the number is past its cards
-none_past : (o : Option ℕ) (number count : ℕ) (P : Type 0) → SomeIff o (number < count) number → ((number < count → ⊥) → P) → IfNone o P
-none_past None number count P h past = past h
-none_past (Some place) number count P h past = tt
-
-pub returns-clause-none : goal.returns-clause-none
-returns-clause-none c =
-    let all : All (λ card. c.loop-card.least ≤ card) c.args.cards.now = subst (λ (cards : List ℕ). All (λ card. c.loop-card.least ≤ card) cards)
-    (take_all c.loop-card.card-index c.args.cards.now c.loop-card-test.false) c.loop-card.invariant.least in
-    none_past c.card.result c.loop-card.least (card_count c.args.layout) (length c.args.cards.now ≡ 0) c.card.ensures (λ past. elim (cases_lt 0 (length c.args.cards.now)) [
-      | inl some ↦ absurd (past (omega (arith, all 0 0 some, c.requires 0 0 some)))
-      | inr none ↦ omega arith
-    ])

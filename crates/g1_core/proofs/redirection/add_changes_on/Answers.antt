@@ -1,11 +1,7 @@
-use Rattle.g1_core.specs.{sym, ap, ◌∙◌, arith, not, eqb-true, Shape, region_of_card, slot_at, same_offset, Cells}
+use Rattle.g1_core.specs.{ap, ◌∙◌, arith, not, Shape, region_of_card, slot_at, same_offset, Cells}
 use Rattle.g1_core.proofs.{lies_outside}
-use Rattle.g1_core.proofs.EnteringLemmas.{walked, changes_own, card_next, card_end}
+use Rattle.g1_core.proofs.EnteringLemmas.{walked, card_next, card_end}
 use Rattle.g1_core.proofs.redirection.add_changes_on.Goals as goal
-
-pub returns-then-eq-clause-changes : goal.returns-then-eq-clause-changes
-returns-then-eq-clause-changes c = changes_own c.args.heap.now.layout c.args.heap.now.refs c.args.from c.args.to c.args.card c.args.changes.now.items
-    (sym (ap (λ (l : Shape). region_of_card l c.args.card) c.layout-layout.ensures.layout) ∙ sym c.region_of_card.ensures.quotient ∙ eqb-true _ _ (sym c.eq.ensures ∙ c.if-eq.true))
 
 pub loop-next-preserved : goal.loop-next-preserved
 loop-next-preserved c =

@@ -1,7 +1,7 @@
-use Rattle.std.specs.Prelude.{◌≡◌, ◌<◌, ◌≤◌, ◌+◌}
-use Rattle.g1_core.specs.{ℕ, List, length, ap, sym, ◌∙◌, subst, arith, vec_items, All, All-push, card_count, list_at, changes_of, slots_of, slots_on, AreGaining}
+use Rattle.std.specs.Prelude.{◌≡◌, ◌<◌, ◌+◌}
+use Rattle.g1_core.specs.{ℕ, List, length, ap, sym, ◌∙◌, subst, arith, vec_items, All, All-push, card_count, list_at, changes_of, slots_of, AreGaining}
 use Rattle.std.proofs.Common.{take_all}
-use Rattle.g1_core.proofs.{read_next, read_all, read_one_more, read_layout, references_next, card_changes, gains_next, gains_none, lies_outside, lies_inside, member_below}
+use Rattle.g1_core.proofs.{read_next, read_one_more, read_layout, references_next, card_changes, gains_next, gains_none, lies_outside, lies_inside, member_below}
 use Rattle.g1_core.proofs.redirection.changes_into.Goals as goal
 use Rattle.g1_core.proofs.redirection.changes_into.Goals.{then-len-before+then-ne+in_ok-push, else-len-before, else-len-before-via-then-len-before+else-ne, else-len-before-via-else-len-before}
 
@@ -42,14 +42,6 @@ loop-index-preserved c =
 pub returns-clause-cards : goal.returns-clause-cards
 returns-clause-cards c = subst (λ (cards : List ℕ). AreGaining c.args.heap.now.layout c.args.heap.now.refs c.args.from c.args.to cards c.loop-index.cards.items)
     (take_all c.loop-index.index (list_at c.args.sets.now.lists c.args.from) (omega (arith, c.len-members.ensures.len, c.loop-index-test.false))) c.loop-index.invariant.cards
-
-pub returns-clause-references : goal.returns-clause-references
-returns-clause-references c = c.loop-index.invariant.references ∙ ap (λ (cards : List ℕ). changes_of c.args.heap.now.layout c.args.heap.now.refs c.args.from c.args.to (slots_on c.args.heap.now.layout cards))
-    (take_all c.loop-index.index (list_at c.args.sets.now.lists c.args.from) (omega (arith, c.len-members.ensures.len, c.loop-index-test.false)))
-
-pub returns-clause-heap : goal.returns-clause-heap
-returns-clause-heap c = read_all c.args.heap.now c.loop-index.heap c.loop-index.index (length (list_at c.args.sets.now.lists c.args.from)) c.loop-index.invariant.read
-    (subst (λ (many : ℕ). c.loop-index.index ≤ many) c.len-members.ensures.len c.loop-index.auto.index-end)
 
 -- one that fails has read at most one card more
 pub returns-in_err-add_changes_on-clause-heap : goal.returns-in_err-add_changes_on-clause-heap

@@ -1,6 +1,6 @@
 use Rattle.std.specs.Prelude.{◌≡◌}
-use Rattle.g1_core.specs.{length, refl, sym, ap, ◌∙◌, subst, arith, replicate, card_count, Clean, Cells, Pairs, marks_for}
-use Rattle.g1_core.proofs.AdoptionLemmas.{adopted_core, adopted_is}
+use Rattle.g1_core.specs.{ap, ◌∙◌, arith, Cells, Pairs, marks_for}
+use Rattle.g1_core.proofs.AdoptionLemmas.{adopted_core}
 use Rattle.g1_core.proofs.machinery.Core.adopt.Goals as goal
 
 cells_are : (c : goal.After-new-4) → c.mark_cards-pending.new.heap ≡ record { layout = c.args.layout; refs = c.args.refs.now; marks = marks_for c.args.marked.now; reads = 0 }
@@ -12,16 +12,3 @@ pub invariant_of-result : goal.invariant_of-result
 invariant_of-result c = adopted_core c.args.layout c.args.config c.args.refs.now c.args.marked.now c.args.pairs.now c.hot.result c.ring.result c.mark_cards-pending.result c.mark_cards-pending.new.heap c.record_pairs.new.sets c.in_ok-hot.hot
     (omega (arith, c.ring.ensures.within)) c.hot.ensures.count c.ring.ensures.cards c.layout.ensures.cells (cells_are c) (c.in_ok-record_pairs.ensures.layout ∙ ap (λ (s : Pairs). s.layout) c.in_ok-sets.ensures) c.in_ok-record_pairs.ensures.pairs
     c.in_ok-hot.ensures c.mark_cards-pending.ensures.pending c.requires.pairs c.requires.cover
-
-pub returns : goal.returns
-returns c = adopted_is c.args.layout c.args.config c.args.refs.now c.args.marked.now c.args.pairs.now c.hot.result c.ring.result c.mark_cards-pending.result c.mark_cards-pending.new.heap c.record_pairs.new.sets c.in_ok-hot.hot
-    (omega (arith, c.ring.ensures.within)) c.hot.ensures.count c.ring.ensures.cards c.layout.ensures.cells (cells_are c) (c.in_ok-record_pairs.ensures.layout ∙ ap (λ (s : Pairs). s.layout) c.in_ok-sets.ensures) c.in_ok-record_pairs.ensures.pairs
-    c.in_ok-hot.ensures c.mark_cards-pending.ensures.pending c.requires.pairs c.requires.cover
-
-pub mark_cards-pending-requires-clause-clean : goal.mark_cards-pending-requires-clause-clean
-mark_cards-pending-requires-clause-clean c = subst (λ (h : Cells). h.marks ≡ replicate (card_count h.layout) Clean) (sym c.set_references.ensures)
-    (subst (λ (h : Cells). h.marks ≡ replicate (card_count h.layout) Clean) (sym c.in_ok-heap.ensures) refl)
-
-pub mark_cards-pending-requires-clause-cards : goal.mark_cards-pending-requires-clause-cards
-mark_cards-pending-requires-clause-cards c = subst (λ (h : Cells). length c.args.marked.now ≡ card_count h.layout) (sym c.set_references.ensures)
-    (subst (λ (h : Cells). length c.args.marked.now ≡ card_count h.layout) (sym c.in_ok-heap.ensures) c.requires.cards)

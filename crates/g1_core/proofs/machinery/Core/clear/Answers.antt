@@ -1,4 +1,4 @@
-use Rattle.g1_core.specs.{subst, IsLater, IsStep, clear_entry, DoesClear}
+use Rattle.g1_core.specs.{subst, IsLater, IsStep, clear_entry}
 use Rattle.g1_core.specs.Machine.{Machine}
 use Rattle.g1_core.specs.declared.reply.ClearReply.TheVariants as clear_reply
 use Rattle.g1_core.proofs.ClearLemmas.{IsClearedTo, pending_at, entered_at, granted_at}
@@ -7,9 +7,6 @@ use Rattle.g1_core.proofs.machinery.Core.clear.Goals as goal
 -- while cards are pending
 pending : (c : goal.Then-self-gt0) → IsClearedTo c.args.self.now c.args.region (clear_reply.Pending c.self.inside.memory.pending) c.self.inside.memory.heap c.self.inside.memory.sets c.self.inside.hot c.self.inside.memory.pending c.self.inside.config
 pending c = pending_at c.self.inside.memory.heap c.self.inside.memory.sets c.self.inside.hot c.self.inside.memory.pending c.self.inside.config c.args.self.now c.self.invariant c.self.view_is c.args.region c.requires c.if-self-gt0.true
-
-pub returns-then-self-gt0-clause-did : goal.returns-then-self-gt0-clause-did
-returns-then-self-gt0-clause-did c = subst (λ (m : Machine). DoesClear c.args.region (clear_reply.Pending c.self.inside.memory.pending) c.args.self.now m) c.self.view_is (pending c).did
 
 pub returns-then-self-gt0-clause-step : goal.returns-then-self-gt0-clause-step
 returns-then-self-gt0-clause-step c = λ caller. subst (λ (m : Machine). IsStep c.args.self.now.state.table (clear_entry caller c.args.region (clear_reply.Pending c.self.inside.memory.pending)) m.state.table) c.self.view_is ((pending c).step caller)
@@ -21,9 +18,6 @@ returns-then-self-gt0-clause-later c = subst (λ (m : Machine). IsLater c.args.s
 entered : (c : goal.In-Some) → IsClearedTo c.args.self.now c.args.region (clear_reply.StillReferenced c.in-Some.slot) c.least_entering.new.heap c.self.inside.memory.sets c.self.inside.hot c.self.inside.memory.pending c.self.inside.config
 entered c = entered_at c.self.inside.memory.heap c.self.inside.memory.sets c.self.inside.hot c.self.inside.memory.pending c.self.inside.config c.args.self.now c.self.invariant c.self.view_is c.args.region c.requires
     c.least_entering.new.heap c.if-self-gt0.false c.least_entering.ensures.tied c.least_entering.ensures.heap c.in-Some.slot c.in-Some.ensures.least
-
-pub invariant_of-self : goal.invariant_of-self
-invariant_of-self c = (entered c).core
 
 pub returns-in-Some-clause-did : goal.returns-in-Some-clause-did
 returns-in-Some-clause-did c = (entered c).did

@@ -1,15 +1,8 @@
 use Rattle.std.specs.Prelude.{◌≡◌, ◌+◌}
 use Rattle.g1_core.specs.{ℕ, ap, arith, subst, sym, Shape, card_count, IsDirtyDrained}
 use Rattle.g1_core.specs.Table.{Table}
-use Rattle.g1_core.proofs.DrainLoopLemmas.{dirty_none, dirty_more, dirty_all}
+use Rattle.g1_core.proofs.DrainLoopLemmas.{dirty_more, dirty_all}
 use Rattle.g1_core.proofs.machinery.Core.drain_dirty.Goals as goal
-
-pub loop-card-init : goal.loop-card-init
-loop-card-init c = record {
-  drained = dirty_none c.args.self.now c.args.refined.now.items c.reads-reads.ensures.bound;
-  room = c.requires.room;
-  within = omega arith;
-}
 
 pub loop-card-preserved : goal.loop-card-preserved
 loop-card-preserved c =

@@ -1,9 +1,8 @@
-use Rattle.g1_core.specs.{refl, sym, subst, ap, arith, IsPlaced, refine_entry}
+use Rattle.g1_core.specs.{refl, subst, ap, arith, IsPlaced, refine_entry}
 use Rattle.g1_core.specs.Machine.{Machine}
 use Rattle.g1_core.proofs.PartLemmas.{parts_placed}
-use Rattle.g1_core.proofs.{idle_step, reads_grow, none_read, same_later, seen_sound, step_later}
+use Rattle.g1_core.proofs.{idle_step, reads_grow, same_later, seen_sound, step_later}
 use Rattle.g1_core.proofs.TurnLemmas.{turned_step}
-use Rattle.g1_core.proofs.LengthLemmas.{idle_does, turned_does}
 use Rattle.g1_core.proofs.machinery.Core.refine.Goals as goal
 
 pub returns-in_default-clause-step : goal.returns-in_default-clause-step
@@ -16,13 +15,6 @@ returns-clause-step c = λ caller. turned_step caller c.args.self.now.state c.tu
 pub returns-in_default-clause-later : goal.returns-in_default-clause-later
 returns-in_default-clause-later c = same_later c.args.self.now c.args.self.now refl refl
     (seen_sound c.self.inside.memory.heap c.self.inside.memory.sets c.self.inside.hot c.self.inside.memory.pending c.self.invariant c.self.inside.config c.args.self.now c.self.view_is) (omega arith)
-
-pub returns-in_default-clause-did : goal.returns-in_default-clause-did
-returns-in_default-clause-did c = rw c.in_default.is (idle_does c.args.self.now c.idle.result (record { taken = c.idle.ensures.none.0; refined = c.idle.ensures.refined; hot = c.idle.ensures.counts.0; skipped = c.idle.ensures.counts.1; left = c.idle.ensures.none.1; short = c.idle.ensures.short })
-    (none_read c.args.self.now.reads c.args.self.now.state.table.layout.slots 0 c.reads-reads.ensures.bound refl))
-
-pub returns-clause-did : goal.returns-clause-did
-returns-clause-did c = rw (c.in-Some.is, sym c.cards.ensures.cards) (turned_does c.args.self.now c.turn_all.new.self c.cards.result.now c.in_ok-reply.reply c.cards.ensures.few c.in_ok-reply.ensures.turned c.in_ok-reply.ensures.reads)
 
 pub returns-clause-later : goal.returns-clause-later
 returns-clause-later c = step_later c.args.self.now c.turn_all.new.self (refine_entry 0 c.in_ok-reply.reply)

@@ -34,19 +34,12 @@ returns-clause-step c = λ caller. stored_step caller c.args.self.now.state.tabl
 pub returns-clause-later : goal.returns-clause-later
 returns-clause-later c = stored_later c.set_mark.new.self c.self.inside.memory.sets c.self.inside.hot (c.self.inside.memory.pending + 1) c.self.inside.config c.args.self.now c.args.slot c.args.target (logged c)
 
--- and one that is not
-pub returns-in_default-clause-none : goal.returns-in_default-clause-none
-returns-in_default-clause-none c = λ none. c.kind-kind.ensures.none (subst (λ (o : Option ℕ). IsNone o) (sym c.in_default.is) refl)
-
 plain : (c : goal.In_default) → IsStored c.set.new.self c.self.inside.memory.sets c.self.inside.hot c.self.inside.memory.pending c.self.inside.config c.args.self.now c.args.slot c.args.target
 plain c = plain_at c.self.inside.memory.heap c.self.inside.memory.sets c.self.inside.hot c.self.inside.memory.pending c.self.inside.config c.args.self.now c.self.invariant c.self.view_is
     c.args.slot c.args.target c.kind-kind.result.0 c.kind-kind.ensures.kind c.requires.target c.set.new.self (c.kind-kind.ensures.none (subst (λ (o : Option ℕ). IsNone o) (sym c.in_default.is) refl)) c.set.ensures
 
 pub invariant_of-self : goal.invariant_of-self
 invariant_of-self c = (plain c).core
-
-pub returns-in_default-clause-did : goal.returns-in_default-clause-did
-returns-in_default-clause-did c = record { kind = c.kind-kind.ensures.kind; refined = refl; short = refl; machine = (plain c).machine }
 
 pub returns-in_default-clause-step : goal.returns-in_default-clause-step
 returns-in_default-clause-step c = λ caller. stored_step caller c.args.self.now.state.table _ c.args.slot c.args.target (unfilled c.kind-kind.result.0) (c.requires.slot, c.requires.target) c.kind-kind.ensures.kind refl (ap (λ (m : Machine). m.state.table) (plain c).machine)

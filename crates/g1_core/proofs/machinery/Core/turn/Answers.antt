@@ -1,15 +1,9 @@
-use Rattle.g1_core.specs.{length, ap, ◌∙◌, sym, refl, Some, true≢false, Offer, Out, Held, Cells, with_mark, reads_after, refined_by}
-use Rattle.g1_core.specs.Machine.{Machine}
-use Rattle.g1_core.proofs.RefinedLemmas.{refined_none}
-use Rattle.g1_core.proofs.{none_offered, dirty_pending, turned_cold, turned_kept, turned_out, IsTurnedTo, err_holds, none_read, one_read}
-use Rattle.g1_core.proofs.DrainCardLemmas.{read_core, card_read}
+use Rattle.g1_core.specs.{ap, ◌∙◌, sym, refl, Some, true≢false, Out, Held, Cells, with_mark}
+use Rattle.g1_core.proofs.{none_offered, dirty_pending, turned_cold, turned_kept, turned_out, IsTurnedTo}
 use Rattle.g1_core.proofs.machinery.Core.turn.Goals as goal
 
 pub returns-then-not-dirty-clause-offer : goal.returns-then-not-dirty-clause-offer
 returns-then-not-dirty-clause-offer c = none_offered c.self.inside.memory.heap c.self.inside.memory.sets c.self.inside.hot c.self.inside.memory.pending c.self.inside.config c.args.self.now c.self.invariant c.self.view_is c.args.card (λ e. true≢false (sym (c.is_dirty-dirty.ensures.dirty.1 e) ∙ c.if-not-dirty.true))
-
-pub returns-then-not-dirty-clause-state : goal.returns-then-not-dirty-clause-state
-returns-then-not-dirty-clause-state c = λ i. record { table = sym (refined_none c.args.self.now.state.table) i; ring = c.args.self.now.state.ring }
 
 pub refine-requires-clause-some : goal.refine-requires-clause-some
 refine-requires-clause-some c = dirty_pending c.self.inside.memory.heap c.self.inside.memory.sets c.self.inside.hot c.self.inside.memory.pending c.self.inside.config c.args.self.now c.self.invariant c.self.view_is c.args.card (c.is_dirty-dirty.ensures.dirty.0 c.if-not-dirty.false)
@@ -56,46 +50,3 @@ returns-in-Out-clause-offer c = (out c).offer
 
 pub returns-in-Out-clause-state : goal.returns-in-Out-clause-state
 returns-in-Out-clause-state c = (out c).state
-
-pub returns-in-Cold-clause-reads : goal.returns-in-Cold-clause-reads
-returns-in-Cold-clause-reads c =
-    ap (λ (h : Cells). h.reads) c.in_ok-refine-in-Cold.ensures.cleaned ∙ ap (λ (m : Machine). reads_after m.reads m.state.table.layout.slots) c.self.view_is
-    ∙ one_read c.args.self.now.reads c.args.self.now.state.table.layout.slots _ (ap (λ (o : Offer). length (refined_by c.args.card (Some o))) c.in-Cold.is)
-
-pub returns-in-Kept-clause-reads : goal.returns-in-Kept-clause-reads
-returns-in-Kept-clause-reads c =
-    ap (λ (h : Cells). h.reads) c.set_mark.ensures ∙ ap (λ (m : Machine). m.reads) c.self.view_is
-    ∙ none_read c.args.self.now.reads c.args.self.now.state.table.layout.slots _ c.reads-reads.ensures.bound (ap (λ (o : Offer). length (refined_by c.args.card (Some o))) c.in-Kept.is)
-
-pub returns-in-Out-clause-reads : goal.returns-in-Out-clause-reads
-returns-in-Out-clause-reads c =
-    ap (λ (h : Cells). h.reads) (c.set_mark-in-Out.ensures ∙ ap (λ (h : Cells). with_mark h c.args.card Held) c.in_ok-refine-in-Out.ensures.cleaned)
-    ∙ ap (λ (m : Machine). reads_after m.reads m.state.table.layout.slots) c.self.view_is ∙ one_read c.args.self.now.reads c.args.self.now.state.table.layout.slots 1 refl
-
--- a refused record has only read the card
-pub invariant_of-self : goal.invariant_of-self
-invariant_of-self c = read_core c.self.inside.memory.heap c.self.inside.memory.sets c.self.inside.hot c.self.inside.memory.pending c.self.inside.config c.self.invariant c.refine.new.self.heap c.refine.new.self.sets c.refine.new.self.pending
-    c.in_err-refine-in-Cold.ensures.err.1 c.in_err-refine-in-Cold.ensures.err.0 c.in_err-refine-in-Cold.ensures.err.2
-
-pub returns-in_err-refine-in-Cold-clause-err : goal.returns-in_err-refine-in-Cold-clause-err
-returns-in_err-refine-in-Cold-clause-err c = err_holds c.from_residual.result ((card_read c.self.inside.memory.heap c.self.inside.memory.sets c.self.inside.hot c.self.inside.memory.pending c.self.inside.config c.self.invariant c.refine.new.self.heap c.refine.new.self.sets c.refine.new.self.pending
-    c.in_err-refine-in-Cold.ensures.err.1 c.in_err-refine-in-Cold.ensures.err.0 c.in_err-refine-in-Cold.ensures.err.2).state ∙ ap (λ (m : Machine). m.state) c.self.view_is)
-
-pub returns-in_err-refine-in-Cold-clause-tried : goal.returns-in_err-refine-in-Cold-clause-tried
-returns-in_err-refine-in-Cold-clause-tried c = err_holds c.from_residual.result ((card_read c.self.inside.memory.heap c.self.inside.memory.sets c.self.inside.hot c.self.inside.memory.pending c.self.inside.config c.self.invariant c.refine.new.self.heap c.refine.new.self.sets c.refine.new.self.pending
-    c.in_err-refine-in-Cold.ensures.err.1 c.in_err-refine-in-Cold.ensures.err.0 c.in_err-refine-in-Cold.ensures.err.2).reads ∙ ap (λ (m : Machine). reads_after m.reads m.state.table.layout.slots) c.self.view_is)
-
-pub invariant_of-self-in_err-refine-in-Out : goal.invariant_of-self-in_err-refine-in-Out
-invariant_of-self-in_err-refine-in-Out c = read_core c.self.inside.memory.heap c.self.inside.memory.sets c.self.inside.hot c.self.inside.memory.pending c.self.inside.config c.self.invariant c.refine-in-Out.new.self.heap c.refine-in-Out.new.self.sets c.refine-in-Out.new.self.pending
-    c.in_err-refine-in-Out.ensures.err.1 c.in_err-refine-in-Out.ensures.err.0 c.in_err-refine-in-Out.ensures.err.2
-
-pub returns-in_err-refine-in-Out-clause-err : goal.returns-in_err-refine-in-Out-clause-err
-returns-in_err-refine-in-Out-clause-err c = err_holds c.from_residual-in_err-refine-in-Out.result ((card_read c.self.inside.memory.heap c.self.inside.memory.sets c.self.inside.hot c.self.inside.memory.pending c.self.inside.config c.self.invariant c.refine-in-Out.new.self.heap c.refine-in-Out.new.self.sets c.refine-in-Out.new.self.pending
-    c.in_err-refine-in-Out.ensures.err.1 c.in_err-refine-in-Out.ensures.err.0 c.in_err-refine-in-Out.ensures.err.2).state ∙ ap (λ (m : Machine). m.state) c.self.view_is)
-
-pub returns-in_err-refine-in-Out-clause-tried : goal.returns-in_err-refine-in-Out-clause-tried
-returns-in_err-refine-in-Out-clause-tried c = err_holds c.from_residual-in_err-refine-in-Out.result ((card_read c.self.inside.memory.heap c.self.inside.memory.sets c.self.inside.hot c.self.inside.memory.pending c.self.inside.config c.self.invariant c.refine-in-Out.new.self.heap c.refine-in-Out.new.self.sets c.refine-in-Out.new.self.pending
-    c.in_err-refine-in-Out.ensures.err.1 c.in_err-refine-in-Out.ensures.err.0 c.in_err-refine-in-Out.ensures.err.2).reads ∙ ap (λ (m : Machine). reads_after m.reads m.state.table.layout.slots) c.self.view_is)
-
-pub refine-requires-clause-card : goal.refine-requires-clause-card
-refine-requires-clause-card c = c.is_dirty-dirty.ensures.within c.if-not-dirty.false
