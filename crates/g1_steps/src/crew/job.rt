@@ -95,6 +95,7 @@ fn start_all<'s, E, D: Desk + Send + Drop + 's>(
 }
 
 /// Joins the threads in order.
+#[tactic(auto, using(crate::specs::append_assoc, crate::proofs::all_zip_push))]
 fn join_all<D: Desk + Drop, R: Threads>(
     rt: &R,
     running: Vec<Running<D>>,

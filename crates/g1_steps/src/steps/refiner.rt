@@ -30,7 +30,7 @@ pub(crate) fn completed<R: Wait>(rt: &R, line: &Line) -> u32
 /// `left` is how many buffers the queue held at some moment after the take. If the call is refused,
 /// a buffer that was taken is given up. Each of its cards is then pending by its mark, unless it
 /// was refined meanwhile.
-#[tactic(auto, using(crate::proofs::StepLemmas::gains_nothing, crate::proofs::StepLemmas::gains_single))]
+#[tactic(auto, using(crate::proofs::gains_nothing, crate::proofs::gains_single))]
 pub fn refine<C: Calls, R: Wait>(
     rt: &R,
     line: &Line,
@@ -52,7 +52,7 @@ pub fn refine<C: Calls, R: Wait>(
 // The same with a take. It is a call of its own, since its place for a parcel is filled with zeros
 // first.
 #[inline(never)]
-#[tactic(auto, using(crate::proofs::StepLemmas::gains_nothing, crate::proofs::StepLemmas::gains_single))]
+#[tactic(auto, using(crate::proofs::gains_nothing, crate::proofs::gains_single))]
 fn refine_oldest<C: Calls, R: Wait>(
     rt: &R,
     line: &Line,
@@ -148,7 +148,7 @@ fn run_round<C: Calls, R: Wait>(
 /// Makes one more call of a round. Returns whether the round goes on: it does not if the queue was
 /// empty or the call was short. Room for the cards comes first, so that a buffer is taken only if
 /// they have a place.
-#[tactic(auto, using(crate::proofs::StepLemmas::gains_nothing, crate::proofs::StepLemmas::gains_single))]
+#[tactic(auto, using(crate::proofs::gains_nothing, crate::proofs::gains_single))]
 fn next_of_round<C: Calls, R: Wait>(
     rt: &R,
     line: &Line,
