@@ -1,3 +1,4 @@
+use Rattle.std.proofs.Common.{rules}
 use Rattle.std.specs.Prelude.{◌≡◌, ◌^◌, ◌<◌}
 use Rattle.g1_race.specs.{ℕ, None, sym, ap, ◌∙◌, subst, arith, some, get_elem?, slot_count, target_of, stored, Shape, read_is, shape_of, word_of, Pause, table_at, SlotsBecome, one_word}
 use Rattle.g1_race.specs.Over as over
@@ -28,7 +29,4 @@ returns-clause-words g c =
     (ap word_of c.refers_to-target.ensures.target ∙ (target_word c.word-word.result low ∙ sym (read_is c.args.self.now.words c.args.from c.word-word.result c.word-word.ensures.word))) c.store.ensures.words
 
 pub returns-clause-table : goal.returns-clause-table
-returns-clause-table g c =
-    let laid : IsLaid c.args.self.now = subst IsLaid (lent_view c.race.ensures c.self.view_is) c.race.result.now.laid in
-    let read : target_of (table_at c.args.self.now) c.args.from ≡ c.refers_to-target.result = reads c.args.self.now laid c.args.from c.word-word.result c.requires.from c.word-word.ensures.word ∙ sym c.refers_to-target.ensures.target in
-    c.store.ensures.table ∙ (λ i. stored (table_at (c.word-word.ensures.same i)) c.args.to (sym read i))
+returns-clause-table g c = search (rules, target_of, stored, table_at, lent_view, reads)

@@ -1,15 +1,13 @@
+use Rattle.std.proofs.Common.{rules}
 use Rattle.std.specs.Prelude.{◌≡◌, ◌+◌}
-use Rattle.g1_race.specs.{length, All, [], map, sym, ap, ◌∙◌, subst, arith, Shape, IsBegun, started, null_of, frozen_seat, blank, collected, racer_view, sweeper_view, RacerOf}
+use Rattle.g1_race.specs.{length, [], map, sym, ap, ◌∙◌, arith, Shape, IsBegun, started, null_of, frozen_seat, blank, collected, racer_view, sweeper_view}
 use Rattle.g1_race.specs.declared.race.Race.{Race}
 use Rattle.g1_race.proofs.{begun_covered, pair_listed}
 use Rattle.g1_race.proofs.Pausing.{all_joined, at_rest, weight_is, is_paused, is_over, same_pairs}
 use Rattle.g1_race.proofs.paused.Paused.of.Goals as goal
 
 pub join_racers-requires-clause-racers : goal.join_racers-requires-clause-racers
-join_racers-requires-clause-racers g c =
-    let race = g.R.Holds.held c.args.race in
-    subst (λ (r : Race). All (RacerOf r.table.table_id r.table.shape) c.args.racers.items) (sym c.race.ensures)
-    (subst (λ (k : Shape). All (RacerOf race.table.table_id k) c.args.racers.items) (sym race.key_is) c.requires.racers.1)
+join_racers-requires-clause-racers g c = search (rules)
 
 pub freeze-requires-clause-all : goal.freeze-requires-clause-all
 freeze-requires-clause-all g c =

@@ -1,3 +1,4 @@
+use Rattle.std.proofs.Common.{rules}
 -- The slots of the cards before the one that is looked at are moved.
 use Rattle.g1_race.specs.{ℕ, List, sym, ap, subst, arith, Into, AreMoved}
 use Rattle.g1_race.proofs.{paused_same, none_into, on_card, passed}
@@ -26,11 +27,4 @@ empty_row-requires-clause-none c = λ p x. none_into c.args.race.now.shape c.arg
     (subst (λ (ws : List ℕ). Into c.args.race.now.shape ws c.args.from p) (ap (λ m. m.0.began_words) c.next_member.ensures.seat.1) x)
 
 pub returns-clause-moved : goal.returns-clause-moved
-returns-clause-moved c =
-    let race = c.args.race.now in
-    record {
-      between = c.next_member.new.seat.me.0.began_words;
-      begun = (paused_same race.table.table_id race.shape c.loop-card.seat c.next_member.new.seat c.next_member.ensures.seat.0 c.next_member.ensures.seat.1 c.loop-card.invariant.seat).begun;
-      moved = subst (λ (ws : List ℕ). AreMoved race.shape c.args.seat.now.me.0.began_words ws c.args.from c.args.to 0 race.shape.slots) (sym (ap (λ m. m.0.began_words) c.next_member.ensures.seat.1)) (all ((goal.at.returns-clause-moved c).In_default));
-      emptied = c.empty_row.ensures.emptied;
-    }
+returns-clause-moved c = search (rules, paused_same, all)

@@ -1,3 +1,4 @@
+use Rattle.std.proofs.Common.{rules}
 -- The pairs, the marks and the slots become those of the core, one after another.
 use Rattle.std.specs.Prelude.{◌≡◌}
 use Rattle.g1_race.specs.{All, sym, ap, ◌∙◌, subst, IsPairOf, Start, Pause, start_at, null_of, word_count, zeros}
@@ -15,6 +16,4 @@ place_pairs-requires-clause-pairs c =
     listed_cross race.layout race.shape c.args.pairs.now race.laid race.shaped (subst (λ (l : layout.Shape). All (IsPairOf l) c.args.pairs.now) (sym (ap (λ (h : Pause). h.layout) c.self.view_is ∙ c.requires.layout)) c.requires.within)
 
 pub place_slots-requires-clause-covered : goal.place_slots-requires-clause-covered
-place_slots-requires-clause-covered c =
-    let race = c.self.inside.race in
-    slots_covered c.args.core.now.state race.layout race.shape c.self.inside.seat.me.0.began_words c.place_pairs.new.seat.me.0.began_words c.place_marks.new.seat.me.0.began_words c.args.pairs.now (ap (λ (h : Pause). h.layout) c.self.view_is ∙ c.requires.layout) race.laid c.layout-layout.ensures.sound race.shaped (null_words _ _ c.self.view_is c.requires.null) c.requires.pairs c.place_pairs.ensures.notes c.place_marks.ensures.marks
+place_slots-requires-clause-covered c = search (rules, slots_covered, null_words)
