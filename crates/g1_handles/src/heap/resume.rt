@@ -149,6 +149,7 @@ fn hand_out(under_way: &mut UnderWay, racers: &mut [RacerHandle], sweepers: &mut
 }
 
 /// Gives each handle the role of its place, in the box of that place.
+#[tactic(auto, using(crate::proofs::all_alike, crate::proofs::all_found, crate::proofs::all_of))]
 pub(crate) fn hand_out_to<P: Role, H: AnyHandle<Value = Member<P>>>(
     handles: &mut [H],
     boxes: &mut Vec<Box<Member<P>>>,

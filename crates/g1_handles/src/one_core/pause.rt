@@ -11,6 +11,7 @@ use g1_core::{Core, Drained};
 ///
 /// Returns `NoRegion`, `NoRoom` if an array is shorter than the heap has cards, or `NoMemory`:
 /// nothing has changed.
+#[tactic(auto, using(crate::proofs::few_refined, crate::proofs::fits_words))]
 pub fn drain_in(
     core: &mut Core,
     region: u32,

@@ -1,7 +1,7 @@
 -- The next handle from the end has the role and the box that were last in the lists.
 use Rattle.std.specs.Prelude.{◌≡◌, ◌<◌, ◌-◌}
 use Rattle.g1_handles.specs.{Some, Box, length, slice_index_or, sym, ap, ◌∙◌, subst, arith, Global, arc_value, length-set, Member, counts_of, role_in, IsOf}
-use Rattle.g1_handles.proofs.{WaitedAs, popped, still, placed, all_alike, all_found, all_of}
+use Rattle.g1_handles.proofs.{WaitedAs, popped, still, placed}
 use Rattle.g1_handles.proofs.heap.resume.hand_out_to.Goals as goal
 
 pub loop-left-preserved : goal.loop-left-preserved
@@ -38,24 +38,3 @@ loop-left-preserved g c =
           (ap counts_of holds ∙ (seated.counts ∙ (ap (λ (x : Member g.row.P.Denot g.P.Role). x.counts) c.deref_mut.ensures.value ∙ ap (λ (y : Box (Member g.row.P.Denot g.P.Role) Global). y.value.counts) (popped boxes c.loop-left.boxes.items n _ m b some i.boxes i.box_rest (c.in-Some.ensures.value b (omega (arith, i.boxes)))))))
           (λ after still_below. i.counted k d b after still_below);
     }
-
-pub returns-clause-roles : goal.returns-clause-roles
-returns-clause-roles g c =
-    let i = c.loop-left.invariant in
-    let for = c.requires.1 in
-    all_found g.H.AnyHandle.value role_in c.loop-left.handles c.args.roles.now.items (omega (arith, i.sized, for.role_count, c.args.roles.now.ok.0))
-    (λ k d p below. i.given k d p (omega (arith, c.loop-left-test.false)) below)
-
-pub returns-clause-counts : goal.returns-clause-counts
-returns-clause-counts g c =
-    let i = c.loop-left.invariant in
-    let for = c.requires.1 in
-    all_alike g.H.AnyHandle.value counts_of (λ (m : Box (Member g.row.P.Denot g.P.Role) Global). m.value.counts) c.loop-left.handles c.args.boxes.now.items (omega (arith, i.sized, for.box_count, c.args.boxes.now.ok.0))
-    (λ k d m below. i.counted k d m (omega (arith, c.loop-left-test.false)) below)
-
-pub returns-clause-race : goal.returns-clause-race
-returns-clause-race g c race waiting =
-    let i = c.loop-left.invariant in
-    let for = c.requires.1 in
-    all_of g.H.AnyHandle.value race c.loop-left.handles c.args.boxes.now.items (omega (arith, i.sized, for.box_count, c.args.boxes.now.ok.0))
-    (λ k d m below. i.waited k d m (omega (arith, c.loop-left-test.false)) below) waiting

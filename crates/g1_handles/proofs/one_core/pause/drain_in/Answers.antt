@@ -1,7 +1,7 @@
 -- No list is longer than the heap has cards.
 use Rattle.std.specs.Prelude.{◌≡◌}
-use Rattle.g1_handles.specs.{ap, arith, card_count, drain_cards, drain_refined}
-use Rattle.g1_handles.proofs.{few_refined, few_drained, fits_words}
+use Rattle.g1_handles.specs.{ap, arith, card_count, drain_cards}
+use Rattle.g1_handles.proofs.{few_drained, fits_words}
 use Rattle.g1_handles.proofs.one_core.pause.drain_in.Goals as goal
 
 pub returns-in-Ok-clause-cards : goal.returns-in-Ok-clause-cards
@@ -9,9 +9,3 @@ returns-in-Ok-clause-cards c =
     let count : card_count c.layout-layout.result ≡ card_count c.args.core.now.state.table.layout = ap card_count c.layout-layout.ensures.value in
     let few = few_drained c.args.core.now c.drain.new.self c.in-Some.region c.in-Ok.answer (card_count c.args.core.now.state.table.layout) c.in-Ok.ensures.did.drained c.in-Ok.ensures.did.within in
     (omega (arith, few, count, c.card_count-most.ensures.count, c.if-room-most.false), fits_words c.args.core.now.state (drain_cards c.in-Ok.answer) c.layout-layout.ensures.sound few)
-
-pub returns-in-Ok-clause-refined : goal.returns-in-Ok-clause-refined
-returns-in-Ok-clause-refined c =
-    let count : card_count c.layout-layout.result ≡ card_count c.args.core.now.state.table.layout = ap card_count c.layout-layout.ensures.value in
-    let few = few_refined c.args.core.now.state (drain_refined c.in-Ok.answer) c.layout-layout.ensures.sound (c.in-Ok.ensures.step 0).allowed.refines in
-    (omega (arith, few, count, c.card_count-most.ensures.count, c.if-refined_room-most.false), fits_words c.args.core.now.state (drain_refined c.in-Ok.answer) c.layout-layout.ensures.sound few)
