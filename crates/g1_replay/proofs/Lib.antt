@@ -18,6 +18,7 @@ pub mod LeftLemmas
 pub mod CoreDrainLemmas
 pub mod RaceLemmas
 pub mod JobLemmas
+pub mod Rules
 use AnswerLemmas.*
 use CrewScriptLemmas.*
 use PartLemmas.*
@@ -25,4 +26,5 @@ use PlacedLemmas.*
 use PlayingLemmas.*
 use RaceLemmas.*
 use RanLemmas.*
+use Rules.*
 use ScriptedLemmas.*

@@ -35,6 +35,7 @@ fn step_of(mutator: u32, command: Command) -> Option<Step>
 }
 
 // The calls of this mutator, in the order of the trace.
+#[tactic(auto, using(crate::proofs::no_step_more))]
 fn steps_of(alloc: Global, commands: &[Command], mutator: u32) -> Result<Vec<Step>, NoMemory>
     ensures { IfOk result (λ steps. steps.items ≡ filter_map (step_for mutator) commands.now) }
 {

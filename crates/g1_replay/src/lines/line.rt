@@ -44,6 +44,7 @@ pub enum Byte {
 }
 
 // How many bytes there are before the first line feed.
+#[tactic(auto, using(crate::proofs::feed_found, crate::proofs::feed_within))]
 fn part_len(bytes: &[u8]) -> usize
     ensures bound { result ≤ length bytes.now }
     ensures ends { EndsAtFeed bytes.now result }
@@ -137,6 +138,7 @@ fn settle_byte(byte: Byte, line: &mut ArrayVec<u8, 64>) -> Result<Option<bool>, 
 
 // What comes of a line whose last part is this: whether there is one, or nothing yet. If the reader
 // showed nothing, one read of one byte tells whether the input has ended.
+#[tactic(auto, using(crate::proofs::settled_long))]
 fn settle<R: BufRead>(
     part: Part,
     reads: &mut u64,

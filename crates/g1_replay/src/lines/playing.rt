@@ -15,6 +15,7 @@ use std::io::{BufRead, Write};
 use std::sync::Wait;
 
 // What a reader shows of a line that it does not show as a whole, of which no byte is taken.
+#[tactic(auto, using(crate::proofs::part_first))]
 fn first_part(shown: &[u8]) -> Part
     ensures { (left : Option (List ℕ)) → HasPart left left result [] }
 {
@@ -105,6 +106,7 @@ fn play_some<T: Wait, P: Player, R: BufRead, W: Write>(
 }
 
 /// The lines behind the header, up to the end of the input or to what stops the replay.
+#[tactic(auto, using(crate::proofs::follows_none))]
 pub(crate) fn play_lines<T: Wait, P: Player, R: BufRead, W: Write>(
     rt: &T,
     source: &mut Source,

@@ -110,6 +110,7 @@ fn hand_over<R: Wait>(rt: &R, line: &Line, racer: &mut Racer, sender: &mut Sende
 }
 
 // Refines the card, if the heap has it.
+#[tactic(auto, using(crate::proofs::SweptLemmas::kept_ok, crate::proofs::SweptLemmas::swept_ok))]
 fn refine_one(race: &Race, sweeper: &mut Sweeper, card: Card) -> Result<(), NoMemory>
     requires { sweeper_race sweeper.old ≡ race_id race.now }
     ensures race { sweeper_race sweeper.new ≡ sweeper_race sweeper.old }

@@ -27,6 +27,7 @@ impl Player for Listing {
     ghost stops = { λ stop. stop ≡ NoMemory };
 
     /// Keeps the command.
+    #[tactic(auto, using(crate::specs::err_from_is_err_and, crate::proofs::one_undone))]
     fn play<T: Wait, W: Write>(
         &mut self,
         _rt: &T,

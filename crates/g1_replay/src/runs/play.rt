@@ -167,6 +167,7 @@ fn flush<T: Wait>(rt: &T, machinery: &mut Machinery, mutator: u32) -> FlushReply
     caller.flush(rt, &machinery.line, &mut calls)
 }
 
+#[tactic(auto, using(crate::proofs::refine_made))]
 fn refine<T: Wait>(rt: &T, machinery: &mut Machinery) -> Result<RefineReply, Refusal>
     ensures answered { IsAnswered refine_text machinery.old.book machinery.new.book Command.Refine
         result }

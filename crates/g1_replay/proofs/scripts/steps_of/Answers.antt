@@ -1,12 +1,7 @@
 use Rattle.std.specs.Prelude.{◌∷◌, ◌++◌}
 use Rattle.g1_replay.specs.{List, [], ap, sym, ◌∙◌, Step, step_for}
-use Rattle.g1_replay.proofs.{step_more, no_step_more}
+use Rattle.g1_replay.proofs.{step_more}
 use Rattle.g1_replay.proofs.scripts.steps_of.Goals as goal
-
-pub loop-command-preserved-in_default : goal.loop-command-preserved-in_default
-loop-command-preserved-in_default c =
-    let none = ap (step_for c.args.mutator) (sym c.command-item.is) ∙ sym c.in_default.ensures in
-    c.loop-command.invariant ∙ sym (no_step_more c.args.mutator c.args.commands.now c.loop-command.command-index _ c.loop-command-test.true none)
 
 pub loop-command-preserved : goal.loop-command-preserved
 loop-command-preserved c =

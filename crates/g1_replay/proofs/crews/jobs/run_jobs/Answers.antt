@@ -1,4 +1,4 @@
-use Rattle.g1_replay.specs.{ap, sym, ◌∙◌, zero-add, arith, slot_count, length_all_zip, count_by-le-length, is_store, capacity_of}
+use Rattle.g1_replay.specs.{ap, sym, ◌∙◌, zero-add, arith, slot_count, count_by-le-length, is_store, capacity_of}
 use Rattle.g1_replay.proofs.JobLemmas.{has_come}
 use Rattle.g1_replay.proofs.{each_from, script_at_fits}
 use Rattle.g1_replay.proofs.crews.jobs.run_jobs.Goals as goal
@@ -12,20 +12,6 @@ pub run_crew-requires-after_bounds : goal.run_crew-requires-after_bounds
 run_crew-requires-after_bounds g c lts lives k d lt =
     script_at_fits (λ steps. steps.items) (slot_count g.M.Terms.terms.layout) c.args.options.now.rounds g.M.Terms.terms.mutators _ c.args.scripts.items _ (omega (arith, c.requires.count, c.args.scripts.ok.0)) c.requires.fits
     (c.in_ok-jobs.ensures.scripts k d lt)
-
--- as many come back as there are callers, for whom there is room
-pub callers_of-callers-requires : goal.callers_of-callers-requires
-callers_of-callers-requires g c =
-    let run = length_all_zip _ c.in_ok-jobs.jobs.items c.in_ok-done.done.items c.in_ok-done.ensures in (
-      c.in_ok-room.ensures.len,
-      omega (arith, run, c.in_ok-room.ensures.capacity, c.in_ok-jobs.ensures.len, c.in-Ok.ensures.callers, c.in_ok-jobs.jobs.ok.0, c.in_ok-done.done.ok.0),
-    )
-
--- as many as the book has entries at most, which is far from what the sum has no room for
-pub returns-clause-stores : goal.returns-clause-stores
-returns-clause-stores g c =
-    let all = c.finish-book.ensures.stored in
-    c.callers_of-callers.ensures.stores (omega (arith, all, count_by-le-length is_store c.finish-book.result.entries, c.entries-entries.ensures.entries)) ∙ sym all
 
 pub returns-clause-came : goal.returns-clause-came
 returns-clause-came g c =

@@ -1,12 +1,9 @@
 use Rattle.g1_replay.specs.{subst, HasPart, Part}
-use Rattle.g1_replay.proofs.{settled_whole, settled_long, settled_more, nothing_shown}
+use Rattle.g1_replay.proofs.{settled_whole, settled_more, nothing_shown}
 use Rattle.g1_replay.proofs.lines.line.settle.Goals as goal
 
 pub returns-in-Whole-clause-settled : goal.returns-in-Whole-clause-settled
 returns-in-Whole-clause-settled g c = λ begun p. settled_whole _ _ _ (subst (λ (part : Part). HasPart begun (g.R.Read.remaining c.args.input.now) part c.args.line.now.items) c.in-Whole.is p)
-
-pub returns-in-TooLong-clause-settled : goal.returns-in-TooLong-clause-settled
-returns-in-TooLong-clause-settled g c = λ begun p. settled_long _ _ _ (subst (λ (part : Part). HasPart begun (g.R.Read.remaining c.args.input.now) part c.args.line.now.items) c.in-TooLong.is p)
 
 pub returns-in-More-clause-settled : goal.returns-in-More-clause-settled
 returns-in-More-clause-settled g c = λ begun p. settled_more _ _ _ (subst (λ (part : Part). HasPart begun (g.R.Read.remaining c.args.input.now) part c.args.line.now.items) c.in-More.is p)

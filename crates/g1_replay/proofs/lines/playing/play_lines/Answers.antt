@@ -1,9 +1,6 @@
 use Rattle.g1_replay.specs.{err_from_is_err_and}
-use Rattle.g1_replay.proofs.{follows_none, follows_then}
+use Rattle.g1_replay.proofs.{follows_then}
 use Rattle.g1_replay.proofs.lines.playing.play_lines.Goals as goal
-
-pub lines-init : goal.lines-init
-lines-init g c = record { done = follows_none g.P.Player.did g.P.Player.full _ _ _ _ _ _ (g.met.P.Player.none _); takes = c.requires }
 
 pub returns-in_err-play_some-clause-followed : goal.returns-in_err-play_some-clause-followed
 returns-in_err-play_some-clause-followed g c =

@@ -1,25 +1,12 @@
 use Rattle.g1_replay.specs.{err_from_is_err_and}
-use Rattle.g1_replay.proofs.{head_stops, lines_stop, lines_read}
+use Rattle.g1_replay.proofs.{lines_stop, lines_read}
 use Rattle.g1_replay.proofs.lines.whole.read_whole.Goals as goal
-
-pub returns-in_err-layout-clause-read : goal.returns-in_err-layout-clause-read
-returns-in_err-layout-clause-read g c =
-    let p = err_from_is_err_and c.from_residual.result c.from_residual.ensures.1 in
-    rw (p.1, p.2) (head_stops _ _ _ _ _ _ c.in_err-layout.ensures.stops (c.in_err-layout.ensures.read _))
 
 pub returns-in_err-play_lines-clause-read : goal.returns-in_err-play_lines-clause-read
 returns-in_err-play_lines-clause-read g c =
     let p = err_from_is_err_and c.from_residual-in_err-play_lines.result c.from_residual-in_err-play_lines.ensures.1 in
     rw (p.1, p.2) (lines_stop g.P.Player.did g.P.Player.full c.requires.silent g.P.Player.stops c.requires.stops _ _ _ _ c.in_ok-layout.layout _ _ _ _ _ _ _ _ c.in_err-play_lines.ensures.stops (c.in_ok-layout.ensures.read _) c.in_err-play_lines.ensures.followed).0
 
-pub returns-in_err-play_lines-clause-silent : goal.returns-in_err-play_lines-clause-silent
-returns-in_err-play_lines-clause-silent g c =
-    (lines_stop g.P.Player.did g.P.Player.full c.requires.silent g.P.Player.stops c.requires.stops _ _ _ _ c.in_ok-layout.layout _ _ _ _ _ _ _ _ c.in_err-play_lines.ensures.stops (c.in_ok-layout.ensures.read _) c.in_err-play_lines.ensures.followed).1
-
 pub returns-clause-read : goal.returns-clause-read
 returns-clause-read g c =
     (lines_read g.P.Player.did g.P.Player.full c.requires.silent _ _ _ _ c.in_ok-layout.layout _ _ _ _ _ _ _ (c.in_ok-layout.ensures.read _) c.in_ok-play_lines.ensures.followed).0
-
-pub returns-clause-silent : goal.returns-clause-silent
-returns-clause-silent g c =
-    (lines_read g.P.Player.did g.P.Player.full c.requires.silent _ _ _ _ c.in_ok-layout.layout _ _ _ _ _ _ _ (c.in_ok-layout.ensures.read _) c.in_ok-play_lines.ensures.followed).1

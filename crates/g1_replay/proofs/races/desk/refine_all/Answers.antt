@@ -1,5 +1,5 @@
-use Rattle.std.specs.Prelude.{◌≡◌, ◌<◌}
-use Rattle.g1_replay.specs.{ℕ, List, ◌∙◌, subst, take, All, Contains, take_all, card_count, race_layout, sweeper_view}
+use Rattle.std.specs.Prelude.{◌<◌}
+use Rattle.g1_replay.specs.{ℕ, ◌∙◌, subst, Contains, card_count, race_layout, sweeper_view}
 use Rattle.g1_replay.proofs.SweptLemmas.{swept_more}
 use Rattle.g1_replay.proofs.races.desk.refine_all.Goals as goal
 
@@ -8,8 +8,3 @@ loop-card-preserved c =
     let refined = c.in_ok-refine_one.ensures in
     let here = subst (λ (card : ℕ). card < card_count (race_layout c.args.race.now) → Contains (sweeper_view c.refine_one.new.sweeper).swept card) c.card-item.is refined.swept in
     (refined.race ∙ c.loop-card.invariant.0, swept_more _ c.args.cards.now _ _ c.loop-card.card-index _ c.loop-card-test.true here refined.kept c.loop-card.invariant.1, refined.start ∙ c.loop-card.invariant.2)
-
-pub returns-clause-swept : goal.returns-clause-swept
-returns-clause-swept c =
-    let whole : take c.loop-card.card-index c.args.cards.now ≡ c.args.cards.now = take_all c.loop-card.card-index c.args.cards.now c.loop-card-test.false in
-    subst (λ (cards : List ℕ). All (λ card. card < card_count (race_layout c.args.race.now) → Contains (sweeper_view c.loop-card.sweeper).swept card) cards) whole c.loop-card.invariant.1

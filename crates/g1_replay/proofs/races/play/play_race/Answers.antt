@@ -1,12 +1,7 @@
 use Rattle.std.specs.Prelude.{◌≡◌}
-use Rattle.g1_replay.specs.{rules, err_from_is_err_and, RaceRan}
-use Rattle.g1_replay.proofs.{scripts_unread, scripts_run, listed}
+use Rattle.g1_replay.specs.{rules, RaceRan}
+use Rattle.g1_replay.proofs.{scripts_run, listed}
 use Rattle.g1_replay.proofs.races.play.play_race.Goals as goal
-
-pub returns-in_err-layout : goal.returns-in_err-layout
-returns-in_err-layout g c =
-    let p = err_from_is_err_and c.from_residual.result c.from_residual.ensures.1 in
-    rw (p.1, p.2) (scripts_unread (RaceRan c.args.options.now.mutators) _ _ _ _ _ _ _ _ c.in_err-layout.ensures.read c.in_err-layout.ensures.silent)
 
 pub returns : goal.returns
 returns g c =

@@ -1,4 +1,4 @@
-use Rattle.g1_replay.specs.{ap, subst, err_from_is_err_and, Shape, Machine, WritesSome, RaceRan, NoMemory}
+use Rattle.g1_replay.specs.{ap, subst, err_from_is_err_and, Shape, Machine, WritesSome, RaceRan}
 use Rattle.g1_replay.proofs.{race_stopped}
 use Rattle.g1_replay.proofs.races.play.race_commands.Goals as goal
 
@@ -6,9 +6,6 @@ pub returns-in_err-closed : goal.returns-in_err-closed
 returns-in_err-closed g c =
     let p = err_from_is_err_and c.from_residual.result c.from_residual.ensures.1 in
     rw (p.1, p.2) (race_stopped c.args.options.now.mutators c.args.layout c.args.commands.now _ (g.W.Write.contents c.args.output.now) c.in_err-closed.ensures.stops)
-
-pub returns-in_default : goal.returns-in_default
-returns-in_default g c = race_stopped c.args.options.now.mutators c.args.layout c.args.commands.now NoMemory (g.W.Write.contents c.args.output.now) tt
 
 pub returns : goal.returns
 returns g c =
