@@ -268,8 +268,8 @@ def batches_of(edits):
 
 
 def named(function, crate):
-    """The path by which the prover names a function: a method's is that of its type, as far as a
-    built library does not say otherwise."""
+    """The path by which the prover names a function: a method's is that of its type, or of its
+    `impl` for a trait, as far as a built library does not say otherwise."""
     file, kind = function.file, ""
     for other, text in crate.sources.items() if function.owner else ():
         for found in re.findall(r"^(?:pub(?:\([^)]*\))? )?(?:struct|enum|trait) (\w+)", text, re.M):
@@ -277,5 +277,7 @@ def named(function, crate):
                 file, kind = other, found
     module = re.sub(r"^src/|(/?\b(lib|main))?\.rt$", "", file).replace("/", "::")
     path = "::".join(it for it in (module, function.owner, function.name) if it)
-    fits = [it for it in crate.names if re.search(rf"\b{kind}\b.*::{function.name}$", it)]
+    ends = f"::{function.owner}::{function.name}"
+    fits = [it for it in crate.names if it.endswith(ends)]
+    fits = fits or [it for it in crate.names if re.search(rf"\b{kind}\b.*::{function.name}$", it)]
     return path if path in crate.names or len(fits) != 1 else fits[0]
