@@ -1,15 +1,11 @@
 -- What the calls of a step ask, of the table and the seat inside.
 use Rattle.std.specs.Prelude.{◌≡◌, ◌-◌, ◌*◌, ◌%◌, ◌^◌, ◌<◌, ◌==◌, ◌∷◌}
-use Rattle.g1_race_words.specs.{ℕ, bit_or, [], set, None, refl, sym, ap, subst, arith, either, State, Me, Allows, Splits, Joins, TableId, Seat, Shape, View, AtRest, Going, StoreHistory, IsBegun, IsBlank, IsWholeShape, IsWord, bit_place, flag, started, word_count, both, whole_seat, cleaned, dirtied, exchanged, frozen_seat, after_split, looked, new_racer, new_sweeper, no_seat, owed_card, put, raised, read, recorded, sought, spotted, thawed, wrote, Freezes, HoldsBit, IsWholeSeat, IsFound, IsMark, IsPaused, OwesFlag, OwesMark, Sits, Words}
+use Rattle.g1_race_words.specs.{ℕ, bit_or, [], set, None, refl, sym, ap, subst, arith, either, State, Me, Allows, Splits, Joins, TableId, Seat, Shape, View, AtRest, Going, StoreHistory, IsBegun, IsBlank, IsWholeShape, IsWord, bit_place, flag, started, word_count, both, whole_seat, cleaned, dirtied, exchanged, frozen_seat, after_split, looked, new_racer, new_sweeper, no_seat, owed_card, put, raised, read, recorded, sought, spotted, thawed, wrote, Freezes, HoldsBit, IsWholeSeat, IsFound, IsMark, IsPaused, OwesFlag, OwesMark, Sits}
 use Rattle.g1_race_words.proofs.PairBits.{word_below}
 use Rattle.g1_race_words.proofs.Flags.{flag_below}
 use Rattle.g1_race_words.proofs.Flagging.{allows_raise, allows_spot}
 use Rattle.g1_race_words.proofs.Allowed.{allows_clean, allows_dirty, allows_exchange, allows_look, allows_read, allows_record, allows_seek, allows_write, joins_member, splits_racer, splits_sweeper}
 use Rattle.g1_race_words.proofs.AllowedAtPause.{Knows, allows_freeze, allows_set, allows_thaw}
-
--- what is so of the models is so of what is inside
-pub inside : (P : Words → Seat (Unit {0}) View → Type 0) (t w : Words) (s q : Seat (Unit {0}) View) → t ≡ w → s ≡ q → P w q → P t s
-inside P t w s q is at = subst (λ (x : Words × Seat (Unit {0}) View). P x.0 x.1) (λ i. (sym is i, sym at i))
 
 abbrev Rule : Shape → State (Unit {0}) View → Type 0
 Rule k s = Going k s.words s.views
