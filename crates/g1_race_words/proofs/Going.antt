@@ -18,6 +18,10 @@ each_snoc views w P h p seat v at = ⊎_elim (λ (was : get_elem? views seat ≡
 abbrev pub Agrees : Start → Bool → View → Type 0
 Agrees begin frozen v = 0 < v.weight → (start_of v ≡ begin) × (v.frozen ≡ frozen)
 
+-- a member's step leaves its seat's weight, beginning and numbers
+abbrev pub Stays : View → View → Type 0
+Stays v w = (w.weight ≡ v.weight) × (start_of w ≡ start_of v) × (w.frozen ≡ v.frozen) × (w.spare ≡ v.spare)
+
 module _ (k : Shape) (words : List ℕ) (views : List View) (h : Going k words views) where
   abbrev pub begin : Start
   begin = started k h.first
@@ -36,8 +40,8 @@ module _ (k : Shape) (words : List ℕ) (views : List View) (h : Going k words v
   known id v at heavy e = let mine = h.agreed id v at heavy in h.still (sym mine.1 ∙ e) ∙ sym (ap (λ (b : Start). b.words) mine.0)
 
   -- a member's step
-  pub going_step : (new : List ℕ) (id : ℕ) (v w : View) → get_elem? views id ≡ some v → 0 < v.weight → v.frozen ≡ false → w.weight ≡ v.weight → start_of w ≡ start_of v → w.frozen ≡ v.frozen → w.spare ≡ v.spare → Raced begun new (set views id w) → Going k new (set views id w)
-  going_step new id v w at heavy moving weight same flag spare raced = record {
+  pub going_step : (new : List ℕ) (id : ℕ) (v w : View) → get_elem? views id ≡ some v → 0 < v.weight → v.frozen ≡ false → Stays v w → Raced begun new (set views id w) → Going k new (set views id w)
+  going_step new id v w at heavy moving (weight, same, flag, spare) raced = record {
     first = h.first;
     proper = h.proper;
     frozen = h.frozen;

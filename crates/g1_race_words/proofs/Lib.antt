@@ -21,11 +21,7 @@ pub mod Listing
 pub mod AtBeginning
 pub mod Going
 pub mod GoingAnew
-pub mod Allowed
-pub mod AllowedAtPause
-pub mod Flagging
 pub mod Calls
-pub mod Readers
 pub mod StepKinds
 pub mod Together
 use Calls.*

@@ -1,7 +1,7 @@
-use Rattle.g1_race_words.proofs.Readers.{split_reader_owed}
+use Rattle.g1_race_words.proofs.{split_reader_owed}
 use Rattle.g1_race_words.proofs.table.RaceTable.split_reader.Goals as goal
 
 pub split_seat-requires : goal.split_seat-requires
 split_seat-requires c =
     let asked = rw (← c.self.view_is, ← c.pause_seat.view_is) at c.requires in
-    split_reader_owed _ _ c.self.invariant.0 c.pause_seat.inside.seat asked.whole.table c.self.invariant.2 asked.whole asked.weight
+    split_reader_owed _ _ c.self.invariant.0 c.self.invariant.2 c.pause_seat.inside.seat asked.whole.table asked.whole asked.weight
