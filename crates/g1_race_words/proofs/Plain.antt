@@ -120,6 +120,10 @@ pub total_snoc : (f : View → ℕ) (views : List View) (w : View) → total f (
 total_snoc f [] w = omega arith
 total_snoc f (u ∷ us) w = let e = total_snoc f us w in omega arith
 
+pub total_none : (f : View → ℕ) (views : List View) → ((seat : ℕ) (u : View) → get_elem? views seat ≡ some u → f u ≡ 0) → total f views ≡ 0
+total_none f [] none = refl
+total_none f (u ∷ us) none = let a = none 0 u refl in let b = total_none f us (λ seat x at. none (suc seat) x at) in omega arith
+
 pub total_one : (f : View → ℕ) (views : List View) (id : ℕ) (v : View) → get_elem? views id ≡ some v → f v ≤ total f views
 total_one f [] id v at = absurd (some-ne-none v (sym at))
 total_one f (u ∷ us) zero v at = let e : f u ≡ f v = ap f (some-injective u v at) in omega arith
