@@ -1,7 +1,7 @@
 -- A sweeper's steps, and those of seats, keep that every reference between regions is answered for.
 use Rattle.std.specs.Prelude.{◌≡◌, ◌⊎◌, ◌+◌, ◌*◌, ◌/◌, ◌%◌, ◌<◌, ◌≤◌, ◌∷◌, ◌++◌}
-use Rattle.g1_race_words.specs.{ℕ, List, [], set, get_or, true, None, refl, sym, ap, ◌∙◌, subst, inl, inr, arith, div-add-mod', mod-lt, some, ℕ_discrete, get_elem?, set_else, at_longer, Shape, View, slot_card, mark_word, region_at, crosses, In, AnswersFor, IsMarked, Covered, cleaned, pair_at, read, both}
-use Rattle.g1_race_words.proofs.Plain.{in_left, in_right, put_here, one_there, read_is, true_is}
+use Rattle.g1_race_words.specs.{ℕ, List, [], set, get_or, true, None, refl, sym, ap, ◌∙◌, subst, inl, inr, arith, div-add-mod', mod-lt, some, ℕ_discrete, get_elem?, set_else, Shape, View, slot_card, mark_word, region_at, crosses, In, AnswersFor, IsMarked, Covered, cleaned, pair_at, read, both}
+use Rattle.g1_race_words.proofs.Plain.{in_left, in_right, read_is, true_is, some_on, some_longer, some_joined}
 use Rattle.g1_race_words.proofs.Cover.{Answered, HandsOn, covered_moves, Passes, by_seat, others_pass}
 use Rattle.g1_race_words.proofs.CoverStores.{mark_apart}
 
@@ -72,46 +72,22 @@ covered_read k known words views id v p shape next at h = covered_moves k known 
 pub covered_split : (k : Shape) (known : List (ℕ × ℕ)) (words : List ℕ) (views : List View) (id : ℕ) (v left right : View) → get_elem? views id ≡ some v → ((q m : ℕ) → AnswersFor k v q m → AnswersFor k left q m)
     → Covered k known words views → Covered k known words (set views id left ++ right ∷ [])
 covered_split k known words views id v left right at pass h = covered_moves k known words words views (set views id left ++ right ∷ []) h
-    (λ q m l e cr. inr (e, (λ mk. inl mk), λ seat u there ans. longer q m (others_pass k words views id v left q m at (λ a. inr (pass q m a)) seat u there ans)))
-  where
-    longer : (q m : ℕ) → Answered k words (set views id left) q m → Answered k words (set views id left ++ right ∷ []) q m
-    longer q m (inl mk) = inl mk
-    longer q m (inr s) = inr (s.0, s.1, at_longer (set views id left) (right ∷ []) s.0 s.1 s.2, s.3)
+    (λ q m l e cr. inr (e, (λ mk. inl mk), λ s. inr (some_longer (λ u. AnswersFor k u q m) (set views id left) right (some_on (λ u. AnswersFor k u q m) views id v left at (pass q m) s))))
 
 -- one seat at rest takes in another
 
 pub covered_join : (k : Shape) (known : List (ℕ × ℕ)) (words : List ℕ) (views : List View) (id : ℕ) (v : View) (other : ℕ) (u spent : View) → u.owed ≡ None → u.next ≡ u.end
     → get_elem? views id ≡ some v → ¬ (other ≡ id) → get_elem? (set views id (both v u)) other ≡ some u
     → Covered k known words views → Covered k known words (set (set views id (both v u)) other spent)
-covered_join k known words views id v other u spent free done at apart there h = covered_moves k known words words views after h
-    (λ q m l e cr. inr (e, (λ mk. inl mk), hand q m))
+covered_join k known words views id v other u spent free done at apart there h = covered_moves k known words words views (set (set views id (both v u)) other spent) h
+    (λ q m l e cr. inr (e, (λ mk. inl mk), λ s. inr (some_joined (λ x. AnswersFor k x q m) views id other v u (both v u) spent at apart there (mine q m) (theirs q m) s)))
   where
-    w : View
-    w = both v u
-
-    after : List View
-    after = set (set views id w) other spent
-
-    at_w : get_elem? after id ≡ some w
-    at_w = set_else (set views id w) other id spent (λ x. apart (sym x)) ∙ put_here views id v w at
-
-    was : get_elem? views other ≡ some u
-    was = sym (set_else views id other w apart) ∙ there
-
-    mine : (q m : ℕ) → AnswersFor k v q m → AnswersFor k w q m
+    mine : (q m : ℕ) → AnswersFor k v q m → AnswersFor k (both v u) q m
     mine q m (inl o) = inl o
     mine q m (inr (inl a)) = inr (inl a)
     mine q m (inr (inr a)) = inr (inr (in_left v.pairs u.pairs _ a))
 
-    theirs : (q m : ℕ) → AnswersFor k u q m → AnswersFor k w q m
+    theirs : (q m : ℕ) → AnswersFor k u q m → AnswersFor k (both v u) q m
     theirs q m (inl o) = absurd (cc (o, free))
     theirs q m (inr (inl a)) = absurd (omega (arith, a.0, a.1, done))
     theirs q m (inr (inr a)) = inr (inr (in_right v.pairs u.pairs _ a))
-
-    hand : (q m : ℕ) (seat : ℕ) (x : View) → get_elem? views seat ≡ some x → AnswersFor k x q m → Answered k words after q m
-    hand q m seat x at_x ans = pick (ℕ_discrete seat id) (ℕ_discrete seat other)
-      where
-        pick : Dec (seat ≡ id) → Dec (seat ≡ other) → Answered k words after q m
-        pick (yes e) d = inr (id, w, at_w, mine q m (subst (λ (y : View). AnswersFor k y q m) (one_there views id x v (subst (λ (i : ℕ). get_elem? views i ≡ some x) e at_x) at) ans))
-        pick (no n) (yes e) = inr (id, w, at_w, theirs q m (subst (λ (y : View). AnswersFor k y q m) (one_there views other x u (subst (λ (i : ℕ). get_elem? views i ≡ some x) e at_x) was) ans))
-        pick (no n) (no o) = inr (seat, x, set_else (set views id w) other seat spent o ∙ (set_else views id seat w n ∙ at_x), ans)

@@ -1,12 +1,9 @@
 -- What is known where one seat has all the weight, and how a race begins anew.
-use Rattle.std.specs.Prelude.{◌≡◌, ◌⊎◌, ◌+◌, ◌<◌, ◌≤◌, ◌∷◌}
-use Rattle.g1_race_words.specs.{ℕ, zero, suc, List, [], set, true, refl, sym, ap, ◌∙◌, subst, inl, inr, ⊎_elim, arith, nat_lt, some, some-ne-none, ℕ_discrete, get_elem?, Shape, View, Start, In, Held, histories_of, claims_of, cleanings_of, pairs_found, held_of, flagged_of, slot_card, region_at, mark_word, AnswersFor, IsMarked, IsWholeShape, HasBit, IsNoted, StoredInto, BeganInto, Someone, AtRest, IsBlank, MadeDirty, times, claims_at, cleanings_at, sum_at, stored_sum, overwritten_sum, total, as_number, tally, numbers, front, pairs_up_to, Raced, IsBegun, Going, started, beginning, start_of}
+use Rattle.std.specs.Prelude.{◌≡◌, ◌⊎◌, ◌<◌, ◌≤◌, ◌∷◌}
+use Rattle.g1_race_words.specs.{ℕ, zero, suc, List, [], set, true, refl, sym, ap, ◌∙◌, subst, inl, inr, ⊎_elim, arith, nat_lt, some, some-ne-none, ℕ_discrete, get_elem?, Shape, View, Start, In, Held, cleanings_of, pairs_found, held_of, slot_card, region_at, mark_word, AnswersFor, IsMarked, IsWholeShape, HasBit, IsNoted, StoredInto, BeganInto, Someone, AtRest, IsBlank, MadeDirty, total, as_number, tally, numbers, front, pairs_up_to, Raced, IsBegun, Going, started, beginning, start_of}
 use Rattle.g1_race_words.proofs.Plain.{one_there, total_none, weigh_set, weigh_all}
-use Rattle.g1_race_words.proofs.PairBits.{crossing_pair}
-use Rattle.g1_race_words.proofs.Places.{at_take, at_untake}
-use Rattle.g1_race_words.proofs.Listing.{in_set, set_in}
+use Rattle.g1_race_words.proofs.Listing.{in_set}
 use Rattle.g1_race_words.proofs.Tallies.{none_below}
-use Rattle.g1_race_words.proofs.Balance.{sum_in}
 use Rattle.g1_race_words.proofs.AtBeginning.{raced_fresh}
 use Rattle.g1_race_words.proofs.Going.{others_blank, each_set, Agrees, known}
 
@@ -51,9 +48,9 @@ module _ (k : Shape) (words : List ℕ) (views : List View) (id : ℕ) (v : View
   raced_anew new w b still weight spare = raced_fresh k new (set views id w) b (each_set views id w IsBlank others still)
       (let a = weigh_set views id v w at in let t = h.raced.weighed.0 in omega (arith, a, t, all, weight))
       (λ m.
-        let a = total_alone (numbers m) views id v w at (no_numbers m) in
-        let t : tally m w.histories ≡ 0 = ap (tally m) still.1 in
-        let c : as_number (nat_lt m w.spare) ≡ as_number (nat_lt m k.members) = ap (λ (n : ℕ). as_number (nat_lt m n)) spare in omega (arith, a, t, c))
+      let a = total_alone (numbers m) views id v w at (no_numbers m) in
+      let t : tally m w.histories ≡ 0 = ap (tally m) still.1 in
+      let c : as_number (nat_lt m w.spare) ≡ as_number (nat_lt m k.members) = ap (λ (n : ℕ). as_number (nat_lt m n)) spare in omega (arith, a, t, c))
 
   pub going_anew : (new : List ℕ) (w : View) → IsBegun (started k new) → IsBlank w → w.weight ≡ k.members → w.spare ≡ k.members → start_of w ≡ started k new → Going k new (set views id w)
   going_anew new w b still weight spare is = record {

@@ -1,7 +1,7 @@
 -- Bits and pairs stay in step.
 use Rattle.std.specs.Prelude.{◌≡◌, ◌⊎◌}
-use Rattle.g1_race_words.specs.{ℕ, List, [], set, sym, ◌∙◌, subst, inl, inr, ⊎_elim, some, ℕ_discrete, get_elem?, set_else, Shape, View, In, Held, pairs_found, held_of, IsNoted, HasBit, Kept, pair_at, read}
-use Rattle.g1_race_words.proofs.Plain.{in_left, in_right, in_either, put_here, one_there, SameHeld, held_on, held_back, held_same}
+use Rattle.g1_race_words.specs.{ℕ, List, [], set, sym, subst, inl, inr, ⊎_elim, some, get_elem?, Shape, View, In, Held, pairs_found, held_of, IsNoted, HasBit, Kept, pair_at, read}
+use Rattle.g1_race_words.proofs.Plain.{in_left, in_right, in_either, put_here, SameHeld, held_on, held_back, held_same}
 use Rattle.g1_race_words.proofs.PairBits.{SameBits, bit_as}
 
 pub noted_on : (known : List (ℕ × ℕ)) (views after : List View) → ((x : ℕ × ℕ) → Held pairs_found views x → Held pairs_found after x) → (x : ℕ × ℕ) → IsNoted known views x → IsNoted known after x
@@ -24,7 +24,7 @@ pub kept_read : (k : Shape) (known : List (ℕ × ℕ)) (words : List ℕ) (view
 kept_read k known words views id v p n free at h = record {
   has = has;
   only = λ x pair b. noted_on known views after more x (h.only x pair b);
-  read = λ x a. ⊎_elim (λ (b : Held held_of views x). more x (h.read x b)) (λ (i : In (pair_at v.shape p n) x). (id, w, put_here views id v w at, in_right v.pairs (pair_at v.shape p n) x i)) (held_back held_of views id v w at x a);
+  read = λ x a. ⊎_elim (λ (b : Held held_of views x). more x (h.read x b)) (λ (i : In (pair_at v.shape p n) x). (id, w, put_here views id v w at, in_right v.pairs (pair_at v.shape p n) x i)) (held_back held_of views id w x a);
 }
   where
     w : View
@@ -44,13 +44,4 @@ kept_read k known words views id v p n free at h = record {
     has x (inr a) = ⊎_elim
         (λ (b : Held pairs_found views x). old x (inr b))
         (λ (i : In w.pairs x). ⊎_elim (λ (j : In v.pairs x). old x (inr (id, v, at, j))) (λ (j : In (pair_at v.shape p n) x). inr (id, w, put_here views id v w at, j)) (in_either v.pairs (pair_at v.shape p n) x i))
-        (held_back pairs_found views id v w at x a)
-
--- what a seat held it still holds, or it has been done with
-pub held_or : (Q : Type 0) (views : List View) (id : ℕ) (v w : View) (x : ℕ × ℕ) → get_elem? views id ≡ some v → (In v.held x → Q ⊎ In w.held x) → Held held_of views x → Q ⊎ Held held_of (set views id w) x
-held_or Q views id v w x at f h = pick (ℕ_discrete h.0 id)
-  where
-    pick : Dec (h.0 ≡ id) → Q ⊎ Held held_of (set views id w) x
-    pick (yes e) = ⊎_elim (λ (q : Q). inl q) (λ (i : In w.held x). inr (id, w, put_here views id v w at, i))
-        (f (subst (λ (u : View). In u.held x) (one_there views id h.1 v (subst (λ (i : ℕ). get_elem? views i ≡ some h.1) e h.2) at) h.3))
-    pick (no ne) = inr (h.0, h.1, set_else views id h.0 w ne ∙ h.2, h.3)
+        (held_back pairs_found views id w x a)

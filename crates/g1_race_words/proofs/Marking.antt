@@ -76,7 +76,7 @@ claimed_dirtied k began words views id v c short at h d lt = pick (ℕ_discrete 
     )
     pick (no ne) = claim_same k began words new views (set views id w) d (set_else words (mark_word k c) (mark_word k d) 1 (λ x. ne (omega arith)))
         (on d)
-        (λ b. ⊎_elim (λ (a : Held claims_of views d). a) (λ (i : In w.claims d). ⊎_elim (λ (e : c ≡ d). absurd (ne (sym e))) (λ (j : In v.claims d). (id, v, at, j)) (in_cond_back (eqb n 0) c d v.claims i)) (held_back claims_of views id v w at d b))
+        (λ b. ⊎_elim (λ (a : Held claims_of views d). a) (λ (i : In w.claims d). ⊎_elim (λ (e : c ≡ d). absurd (ne (sym e))) (λ (j : In v.claims d). (id, v, at, j)) (in_cond_back (eqb n 0) c d v.claims i)) (held_back claims_of views id w d b))
         (held_same cleanings_of views id v w at refl d).0
         (h d lt)
 

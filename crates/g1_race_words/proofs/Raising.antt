@@ -40,7 +40,7 @@ pub raced_spotted : (begun : Begun) (words : List ℕ) (views : List View) (id :
     → get_elem? views id ≡ some v → Raced begun words views → Raced begun words (set views id (spotted v (get_or words (bit_word begun.shape (flag begun.shape c)) 0)))
 raced_spotted begun words views id v c shaped sits owes at h = raced_held begun words words views id v v.held w.flagged shaped sits refl (λ i lt. refl) at
     (kept_stays k begun.pairs words words views id v w at refl refl (λ x. refl) h.kept)
-    (record { marked = h.flagged.marked; known = λ d b. ⊎_elim (λ (a : Held flagged_of views d). h.flagged.known d a) (λ (i : In w.flagged d). found d i) (held_back flagged_of views id v w at d b) }) h
+    (record { marked = h.flagged.marked; known = λ d b. ⊎_elim (λ (a : Held flagged_of views d). h.flagged.known d a) (λ (i : In w.flagged d). found d i) (held_back flagged_of views id w d b) }) h
   where
     k : Shape
     k = begun.shape
@@ -71,7 +71,7 @@ raced_raised begun words views id v c shaped sits owes lt at h = raced_held begu
     })
     (record {
       marked = λ d below m. bits_stay k words x short (flag k d) (h.flagged.marked d below (sym (front_stays k words x (mark_word k d) (omega (arith, below))) ∙ m));
-      known = λ d b. ⊎_elim (λ (a : Held flagged_of views d). bits_stay k words x short (flag k d) (h.flagged.known d a)) (λ (i : In w.flagged d). subst (IsFlagged k new) (only_owed v.owed c d owes i) (bit_here k words x short)) (held_back flagged_of views id v w at d b);
+      known = λ d b. ⊎_elim (λ (a : Held flagged_of views d). bits_stay k words x short (flag k d) (h.flagged.known d a)) (λ (i : In w.flagged d). subst (IsFlagged k new) (only_owed v.owed c d owes i) (bit_here k words x short)) (held_back flagged_of views id w d b);
     }) h
   where
     k : Shape
@@ -98,7 +98,7 @@ pub flagged_dirtied : (k : Shape) (words : List ℕ) (views : List View) (id : �
     → get_elem? views id ≡ some v → Flagged k words views → Flagged k (set words (mark_word k c) 1) (set views id (dirtied v c n))
 flagged_dirtied k words views id v c n owes is lt at h = record {
   marked = λ d below m. pick d below m (ℕ_discrete d c);
-  known = λ d b. ⊎_elim (λ (a : Held flagged_of views d). stays d (h.known d a)) (λ (i : In (dirtied v c n).flagged d). absurd i) (held_back flagged_of views id v (dirtied v c n) at d b);
+  known = λ d b. ⊎_elim (λ (a : Held flagged_of views d). stays d (h.known d a)) (λ (i : In (dirtied v c n).flagged d). absurd i) (held_back flagged_of views id (dirtied v c n) d b);
 }
   where
     stays : (d : ℕ) → IsFlagged k words d → IsFlagged k (set words (mark_word k c) 1) d

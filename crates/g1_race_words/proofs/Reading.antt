@@ -30,7 +30,7 @@ recorded_read : (k : Shape) (began : List ℕ) (words : List ℕ) (views : List 
 recorded_read k began words views id v p shape lt short at bounded stored h x held = ⊎_elim
     (λ (a : Held pairs_found views x). on (h x a))
     (λ (i : In w.pairs x). ⊎_elim (λ (a : In v.pairs x). on (h x (id, v, at, a))) (λ (a : In (pair_at v.shape p n) x). on (new a)) (in_either v.pairs (pair_at v.shape p n) x i))
-    (held_back pairs_found views id v w at x held)
+    (held_back pairs_found views id w x held)
   where
     n : ℕ
     n = get_or words p 0

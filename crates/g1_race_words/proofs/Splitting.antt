@@ -1,7 +1,7 @@
 -- A seat is split off, takes in another, or comes.
 use Rattle.std.specs.Prelude.{◌≡◌, ◌≢◌, ◌⊎◌, ◌+◌, ◌<◌, ◌∷◌, ◌++◌, ◌≤◌}
-use Rattle.g1_race_words.specs.{ℕ, List, [], set, refl, sym, ap, ◌∙◌, subst, inl, inr, ⊎_elim, arith, nat_lt, append-nil, some, get_elem?, at_set, at_snoc, at_longer, Shape, View, Begun, In, Held, StoreHistory, histories_of, claims_of, cleanings_of, pairs_found, held_of, flagged_of, Covered, AtRest, IsBlank, weigh, as_number, tally, numbers, Weighed, Numbered, Raced, times, claims_at, cleanings_at, sum_at, stored_sum, overwritten_sum, total, after_split, both}
-use Rattle.g1_race_words.proofs.Plain.{SameHeld, held_same, held_split, held_join, weigh_set, weigh_snoc, total_set, total_snoc}
+use Rattle.g1_race_words.specs.{ℕ, List, [], set, refl, sym, ap, ◌∙◌, subst, inl, inr, ⊎_elim, arith, nat_lt, append-nil, some, get_elem?, at_set, at_snoc, Shape, View, Begun, In, Held, AnswersFor, StoreHistory, histories_of, claims_of, cleanings_of, pairs_found, held_of, flagged_of, Covered, AtRest, IsBlank, weigh, as_number, tally, numbers, Weighed, Numbered, Raced, times, claims_at, cleanings_at, sum_at, stored_sum, overwritten_sum, total, after_split, both}
+use Rattle.g1_race_words.proofs.Plain.{some_longer, some_shorter, held_more, held_same, held_split, held_join, weigh_set, weigh_snoc, total_set, total_snoc}
 use Rattle.g1_race_words.proofs.Tallies.{tally_append, times_append, none_below}
 use Rattle.g1_race_words.proofs.Cover.{covered_moves}
 use Rattle.g1_race_words.proofs.CoverSweeps.{covered_split, covered_join}
@@ -14,12 +14,8 @@ use Rattle.g1_race_words.proofs.Unchanged.{stored_same, same_slots, recorded_sam
 
 held_split_blank : (views : List View) (id : ℕ) (v left right : View) → get_elem? views id ≡ some v → v.histories ≡ left.histories → ((h : StoreHistory) → In right.histories h → h.1 ≡ [])
     → (h : StoreHistory) → (Held histories_of views h → Held histories_of (set views id left ++ right ∷ []) h) × (Held histories_of (set views id left ++ right ∷ []) h → Held histories_of views h ⊎ (h.1 ≡ []))
-held_split_blank views id v left right at e none h = let same = held_same histories_of views id v left at e h in (
-  λ x. let y = same.0 x in (y.0, y.1, at_longer (set views id left) (right ∷ []) y.0 y.1 y.2, y.3),
-  λ x. ⊎_elim (λ (was : get_elem? (set views id left) x.0 ≡ some x.1). inl (same.1 (x.0, x.1, was, x.3)))
-      (λ (is : right ≡ x.1). inr (none h (subst (λ (u : View). In u.histories h) (sym is) x.3)))
-      (at_snoc (set views id left) right x.1 x.0 x.2),
-)
+held_split_blank views id v left right at e none h = let same = held_same histories_of views id v left at e h in
+    (λ x. some_longer (λ u. In u.histories h) (set views id left) right (same.0 x), λ x. ⊎_elim (λ (a : Held histories_of (set views id left) h). inl (same.1 a)) (λ (i : In right.histories h). inr (none h i)) (some_shorter (λ u. In u.histories h) (set views id left) right x))
 
 weighed_split : (k : Shape) (views : List View) (id : ℕ) (v right : View) → get_elem? views id ≡ some v → IsBlank v → 0 < v.weight → right.weight ≡ 1 → Weighed k views → Weighed k (set views id (after_split v) ++ right ∷ [])
 weighed_split k views id v right at still heavy one h = (total, blanks)
@@ -118,20 +114,12 @@ raced_join begun words views id v other u spent one rest still none given at apa
 
 -- a seat comes that answers for nothing
 
-held_more : {A : Type 0} (f : View → List A) (views : List View) (w : View) → f w ≡ [] → SameHeld f views (views ++ w ∷ [])
-held_more {A} f views w none x = (
-  λ h. (h.0, h.1, at_longer views (w ∷ []) h.0 h.1 h.2, h.3),
-  λ h. ⊎_elim (λ (was : get_elem? views h.0 ≡ some h.1). (h.0, h.1, was, h.3))
-      (λ (is : w ≡ h.1). absurd (subst (λ (l : List A). In l x) none (subst (λ (u : View). In (f u) x) (sym is) h.3)))
-      (at_snoc views w h.1 h.0 h.2),
-)
-
 total_more : (f : View → ℕ) (views : List View) (w : View) → f w ≡ 0 → total f (views ++ w ∷ []) ≡ total f views
 total_more f views w none = let a = total_snoc f views w in omega (arith, a, none)
 
 covered_more : (k : Shape) (known : List (ℕ × ℕ)) (words : List ℕ) (views : List View) (w : View) → Covered k known words views → Covered k known words (views ++ w ∷ [])
 covered_more k known words views w h = covered_moves k known words words views (views ++ w ∷ []) h
-    (λ p n lt at cr. inr (at, (λ m. inl m), λ seat u there ans. inr (seat, u, at_longer views (w ∷ []) seat u there, ans)))
+    (λ p n lt at cr. inr (at, (λ m. inl m), λ s. inr (some_longer (λ u. AnswersFor k u p n) views w s)))
 
 pub raced_enter : (begun : Begun) (words : List ℕ) (views : List View) (w : View) → IsBlank w → w.weight ≡ 0 → w.spare ≡ 0 → Raced begun words views → Raced begun words (views ++ w ∷ [])
 raced_enter begun words views w still light none h = let after = views ++ w ∷ [] in let held = held_more histories_of views w still.1 in record {
