@@ -1,9 +1,9 @@
 -- What was stored and what was overwritten: each step keeps their balance.
 use Rattle.std.specs.Prelude.{◌≡◌, ◌≢◌, ◌+◌, ◌<◌, ◌∷◌, ◌++◌}
-use Rattle.g1_race_words.specs.{ℕ, cond, eqb, eq-eqb, ne_eqb, List, [], length, set, get_or, Bool, refl, sym, ap, ◌∙◌, subst, inl, inr, arith, sum_by, some, some-injective, ℕ_discrete, get_elem?, set_here, set_else, Shape, View, In, StoreHistory, sum_at, stored_sum, overwritten_sum, total, Balanced, gains_store, wrote}
+use Rattle.g1_race_words.specs.{ℕ, cond, eqb, eq-eqb, ne_eqb, List, [], length, set, get_or, Bool, refl, sym, ap, ◌∙◌, subst, inl, inr, arith, sum_by, some, some-injective, ℕ_discrete, get_elem?, set_here, set_else, Shape, View, Begun, Covered, Recorded, Kept, Claimed, Counted, Flagged, Raced, In, StoreHistory, sum_at, stored_sum, overwritten_sum, total, Balanced, gains_store, wrote}
 use Rattle.std.proofs.lemmas.List.Sums.{sum_by-cons, sum_by-append}
 use Rattle.g1_race_words.proofs.Plain.{read_at, total_set}
-use Rattle.g1_race_words.proofs.Unchanged.{SameSlots}
+use Rattle.g1_race_words.proofs.Unchanged.{SameSlots, weighed_step, numbers_stay, bounded_same, stores_stay}
 
 module _ (f : ℕ → ℕ) (q : ℕ) where
   -- the stores in these histories
@@ -89,3 +89,22 @@ pub balance_same : (k : Shape) (began words : List ℕ) (views after : List View
     → ((f : ℕ → ℕ) (q : ℕ) → total (overwritten_sum f q) after ≡ total (overwritten_sum f q) views) → Balanced k began words views → Balanced k began words after
 balance_same k began words views after stores over h f q first now lt was is =
     let t = h f q first now lt was is in omega (arith, stores f q, over f q, t)
+
+-- the race after a step of a member that stores nothing: what the step may change is given
+pub raced_step : (begun : Begun) (words new : List ℕ) (views : List View) (id : ℕ) (v w : View) → get_elem? views id ≡ some v → v.weight ≡ 1 → (w.weight ≡ v.weight) × (v.spare ≡ w.spare) × (v.histories ≡ w.histories) × (v.overwritten ≡ w.overwritten) → length new ≡ length words → SameSlots begun.shape words new
+    → Covered begun.shape begun.pairs new (set views id w) → Recorded begun.shape begun.words (set views id w) → Kept begun.shape begun.pairs new (set views id w) → Claimed begun.shape begun.words new (set views id w) → Counted begun.shape begun.words new (set views id w) → Flagged begun.shape new (set views id w)
+    → Raced begun words views → Raced begun new (set views id w)
+raced_step begun words new views id v w at one (weight, spare, stores, over) len slots covered recorded kept claimed counted flagged h = record {
+  sized = len ∙ h.sized;
+  bounded = bounded_same begun.shape words new slots h.bounded;
+  covered = covered;
+  weighed = weighed_step begun.shape views id v w at one (weight ∙ one) h.weighed;
+  numbered = numbers_stay begun.shape views id v w at spare stores h.numbered;
+  stored = stores_stay begun.shape begun.words words new views id v w at stores slots h.stored;
+  balanced = balance_stays begun.shape begun.words words new views id v w at stores over slots h.balanced;
+  recorded = recorded;
+  kept = kept;
+  claimed = claimed;
+  counted = counted;
+  flagged = flagged;
+}

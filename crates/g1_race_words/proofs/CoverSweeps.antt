@@ -1,9 +1,9 @@
 -- A sweeper's steps, and those of seats, keep that every reference between regions is answered for.
-use Rattle.std.specs.Prelude.{◌≡◌, ◌⊎◌, ◌+◌, ◌*◌, ◌/◌, ◌%◌, ◌<◌, ◌≤◌, ◌∷◌, ◌++◌}
-use Rattle.g1_race_words.specs.{ℕ, List, [], set, get_or, true, None, refl, sym, ap, ◌∙◌, subst, inl, inr, arith, div-add-mod', mod-lt, some, ℕ_discrete, get_elem?, set_else, Shape, View, slot_card, mark_word, region_at, crosses, In, AnswersFor, IsMarked, Covered, cleaned, pair_at, read, both}
+use Rattle.std.specs.Prelude.{◌≡◌, ◌≢◌, ◌⊎◌, ◌+◌, ◌*◌, ◌/◌, ◌%◌, ◌<◌, ◌≤◌, ◌∷◌, ◌++◌}
+use Rattle.g1_race_words.specs.{ℕ, List, [], set, get_or, true, None, refl, sym, ap, subst, inl, inr, arith, div-add-mod', mod-lt, some, ℕ_discrete, get_elem?, Shape, View, slot_card, mark_word, region_at, crosses, In, AnswersFor, IsMarked, Covered, cleaned, pair_at, read, both}
 use Rattle.g1_race_words.proofs.Plain.{in_left, in_right, read_is, true_is, some_on, some_longer, some_joined}
-use Rattle.g1_race_words.proofs.Cover.{Answered, HandsOn, covered_moves, Passes, by_seat, others_pass}
-use Rattle.g1_race_words.proofs.CoverStores.{mark_apart}
+use Rattle.g1_race_words.proofs.Cover.{covered_moves, Passes, others_pass}
+use Rattle.g1_race_words.proofs.CoverStores.{covered_swapped}
 
 -- a sweeper cleans card c
 
@@ -13,32 +13,13 @@ card_slots size p c pos e = let a = div-add-mod' p size in let b = mod-lt p pos 
 
 pub covered_cleaned : (k : Shape) (known : List (ℕ × ℕ)) (words : List ℕ) (views : List View) (id : ℕ) (v : View) (c n : ℕ) → v.shape ≡ k → 0 < k.size → v.next ≡ v.end
     → get_elem? views id ≡ some v → Covered k known words views → Covered k known (set words (mark_word k c) 0) (set views id (cleaned v c n))
-covered_cleaned k known words views id v c n shape pos done at h = covered_moves k known words new views (set views id w) h one
+covered_cleaned k known words views id v c n shape pos done at = covered_swapped k known words views id v (cleaned v c n) c 0 at
+    (λ q m is. inr (inr (inl (subst (λ (s : Shape). (c * s.size ≤ q) × (q < c * s.size + s.size)) (sym shape) (card_slots k.size q c pos is))))) pass
   where
-    new : List ℕ
-    new = set words (mark_word k c) 0
-
-    w : View
-    w = cleaned v c n
-
-    reads : (q : ℕ) → slot_card k q ≡ c → (w.next ≤ q) × (q < w.end)
-    reads q e = subst (λ (s : Shape). (c * s.size ≤ q) × (q < c * s.size + s.size)) (sym shape) (card_slots k.size q c pos e)
-
-    one : (q m : ℕ) → q < k.slots → get_elem? new q ≡ some m → crosses k q m ≡ true → Answered k new (set views id w) q m ⊎ HandsOn k words views new (set views id w) q m
-    one q m l e cr = pick (ℕ_discrete (slot_card k q) c)
-      where
-        pass : Passes k new v w q m
-        pass (inl o) = inr (inl o)
-        pass (inr (inl a)) = absurd (omega (arith, a.0, a.1, done))
-        pass (inr (inr a)) = inr (inr (inr a))
-
-        pick : Dec (slot_card k q ≡ c) → Answered k new (set views id w) q m ⊎ HandsOn k words views new (set views id w) q m
-        pick (yes is) = inl (by_seat k new views id v w q m at (inr (inr (inl (reads q is)))))
-        pick (no apart) = inr (
-          sym (set_else words (mark_word k c) q 0 (λ x. mark_apart k q c l (sym x))) ∙ e,
-          (λ mk. inl (set_else words (mark_word k c) (mark_word k (slot_card k q)) 0 (λ x. apart (omega arith)) ∙ mk)),
-          others_pass k new views id v w q m at pass,
-        )
+    pass : (q m : ℕ) → slot_card k q ≢ c → Passes k (set words (mark_word k c) 0) v (cleaned v c n) q m
+    pass q m apart (inl o) = inr (inl o)
+    pass q m apart (inr (inl a)) = absurd (omega (arith, a.0, a.1, done))
+    pass q m apart (inr (inr a)) = inr (inr (inr a))
 
 -- a sweeper reads slot p
 

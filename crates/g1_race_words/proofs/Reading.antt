@@ -6,8 +6,8 @@ use Rattle.g1_race_words.proofs.Plain.{in_either, read_at, true_is, false_is, he
 use Rattle.g1_race_words.proofs.CoverSweeps.{covered_read}
 use Rattle.g1_race_words.proofs.Keeping.{kept_read}
 use Rattle.g1_race_words.proofs.Flags.{flags_stay}
-use Rattle.g1_race_words.proofs.Balance.{balance_stays}
-use Rattle.g1_race_words.proofs.Unchanged.{weighed_step, numbers_stay, same_slots, still_into, claimed_same, counted_stays, stores_stay}
+use Rattle.g1_race_words.proofs.Balance.{raced_step}
+use Rattle.g1_race_words.proofs.Unchanged.{same_slots, still_into, claimed_same, counted_stays}
 
 pub last_in : (p n : ℕ) (h : List (ℕ × ℕ)) → last_to p h ≡ Some n → In h (p, n)
 last_in p n [] e = absurd (cc)
@@ -49,17 +49,10 @@ recorded_read k began words views id v p shape lt short at bounded stored h x he
 
 pub raced_read : (begun : Begun) (words : List ℕ) (views : List View) (id : ℕ) (v : View) (p : ℕ) → Sits begun.shape v → v.held ≡ [] → v.next ≡ p → p < begun.shape.slots
     → get_elem? views id ≡ some v → Raced begun words views → Raced begun words (set views id (read v p (get_or words p 0)))
-raced_read begun words views id v p sits free next lt at h = let w = read v p (get_or words p 0) in record {
-  sized = h.sized;
-  bounded = h.bounded;
-  covered = covered_read begun.shape begun.pairs words views id v p sits.shape next at h.covered;
-  weighed = weighed_step begun.shape views id v w at sits.weight sits.weight h.weighed;
-  numbered = numbers_stay begun.shape views id v w at refl refl h.numbered;
-  stored = stores_stay begun.shape begun.words words words views id v w at refl (same_slots begun.shape words) h.stored;
-  balanced = balance_stays begun.shape begun.words words words views id v w at refl refl (same_slots begun.shape words) h.balanced;
-  recorded = recorded_read begun.shape begun.words words views id v p sits.shape lt (omega (arith, h.sized)) at h.bounded h.stored h.recorded;
-  kept = kept_read begun.shape begun.pairs words views id v p (get_or words p 0) free at h.kept;
-  claimed = claimed_same begun.shape begun.words words words views (set views id w) (λ c. refl) (held_same claims_of views id v w at refl) (held_same cleanings_of views id v w at refl) h.claimed;
-  counted = counted_stays begun.shape begun.words words words views id v w at refl refl (λ c. refl) h.counted;
-  flagged = flags_stay begun.shape words words views id v w at refl (λ c below m. m) (λ c b. b) h.flagged;
-}
+raced_read begun words views id v p sits free next lt at h = let w = read v p (get_or words p 0) in raced_step begun words words views id v w at sits.weight (refl, refl, refl, refl) refl (same_slots begun.shape words)
+    (covered_read begun.shape begun.pairs words views id v p sits.shape next at h.covered)
+    (recorded_read begun.shape begun.words words views id v p sits.shape lt (omega (arith, h.sized)) at h.bounded h.stored h.recorded)
+    (kept_read begun.shape begun.pairs words views id v p (get_or words p 0) free at h.kept)
+    (claimed_same begun.shape begun.words words words views (set views id w) (λ c. refl) (held_same claims_of views id v w at refl) (held_same cleanings_of views id v w at refl) h.claimed)
+    (counted_stays begun.shape begun.words words words views id v w at refl refl (λ c. refl) h.counted)
+    (flags_stay begun.shape words words views id v w at refl (λ c below m. m) (λ c b. b) h.flagged) h

@@ -6,30 +6,23 @@ use Rattle.g1_race_words.proofs.PairBits.{card_below, word_below, with_pair, bit
 use Rattle.g1_race_words.proofs.Cover.{covered_moves, others_pass}
 use Rattle.g1_race_words.proofs.Keeping.{noted_on}
 use Rattle.g1_race_words.proofs.Flags.{SameFront, flags_stay, front_stays}
-use Rattle.g1_race_words.proofs.Balance.{balance_stays}
-use Rattle.g1_race_words.proofs.Unchanged.{weighed_step, numbers_stay, bounded_same, stores_stay, pairs_stay, claim_same, counted_stays}
+use Rattle.g1_race_words.proofs.Balance.{raced_step}
+use Rattle.g1_race_words.proofs.Unchanged.{pairs_stay, claim_same, counted_stays}
 
 -- the words of slots and marks stay, and what a seat holds changes, of pairs and of flags
 
 pub raced_held : (begun : Begun) (words new : List ℕ) (views : List View) (id : ℕ) (v : View) (l : List (ℕ × ℕ)) (m : List ℕ) → IsWholeShape begun.shape → Sits begun.shape v → length new ≡ length words → SameFront begun.shape words new → get_elem? views id ≡ some v
     → Kept begun.shape begun.pairs new (set views id (record v { held = l; flagged = m })) → Flagged begun.shape new (set views id (record v { held = l; flagged = m }))
     → Raced begun words views → Raced begun new (set views id (record v { held = l; flagged = m }))
-raced_held begun words new views id v l m shaped sits len front at kept flags h = record {
-  sized = len ∙ h.sized;
-  bounded = bounded_same k words new slots h.bounded;
-  covered = covered_moves k begun.pairs words new views (set views id w) h.covered
-      (λ p n lt there cr. inr (slots p n lt there, (λ m. inl (front (mark_word k (slot_card k p)) (let c = card_below k p shaped lt in omega arith) ∙ m)), others_pass k new views id v w p n at (λ a. inr a)));
-  weighed = weighed_step k views id v w at sits.weight sits.weight h.weighed;
-  numbered = numbers_stay k views id v w at refl refl h.numbered;
-  stored = stores_stay k begun.words words new views id v w at refl slots h.stored;
-  balanced = balance_stays k begun.words words new views id v w at refl refl slots h.balanced;
-  recorded = pairs_stay k begun.words views id v w at refl refl h.recorded;
-  kept = kept;
-  claimed = λ c lt. claim_same k begun.words words new views (set views id w) c (front (mark_word k c) (omega arith))
-      (held_same claims_of views id v w at refl c).0 (held_same claims_of views id v w at refl c).1 (held_same cleanings_of views id v w at refl c).0 (h.claimed c lt);
-  counted = λ c m n lt was is. counted_stays k begun.words words words views id v w at refl refl (λ d. refl) h.counted c m n lt was (sym (front (mark_word k c) (omega (arith, lt))) ∙ is);
-  flagged = flags;
-}
+raced_held begun words new views id v l m shaped sits len front at kept flags h = raced_step begun words new views id v w at sits.weight (refl, refl, refl, refl) len slots
+    (covered_moves k begun.pairs words new views (set views id w) h.covered
+    (λ p n lt there cr. inr (slots p n lt there, (λ m. inl (front (mark_word k (slot_card k p)) (let c = card_below k p shaped lt in omega arith) ∙ m)), others_pass k new views id v w p n at (λ a. inr a))))
+    (pairs_stay k begun.words views id v w at refl refl h.recorded)
+    kept
+    (λ c lt. claim_same k begun.words words new views (set views id w) c (front (mark_word k c) (omega arith))
+    (held_same claims_of views id v w at refl c).0 (held_same claims_of views id v w at refl c).1 (held_same cleanings_of views id v w at refl c).0 (h.claimed c lt))
+    (λ c m n lt was is. counted_stays k begun.words words words views id v w at refl refl (λ d. refl) h.counted c m n lt was (sym (front (mark_word k c) (omega (arith, lt))) ∙ is))
+    flags h
   where
     k : Shape
     k = begun.shape
