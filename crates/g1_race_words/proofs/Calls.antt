@@ -6,8 +6,7 @@ use Rattle.g1_race_words.proofs.Flags.{flag_below}
 use Rattle.g1_race_words.proofs.Plain.{set_read, set_there, read_at}
 use Rattle.g1_race_words.proofs.Tallies.{number_given, number_dropped}
 use Rattle.g1_race_words.proofs.Writing.{raced_wrote}
-use Rattle.g1_race_words.proofs.Marking.{raced_looked, raced_dirtied}
-use Rattle.g1_race_words.proofs.Cleaning.{raced_cleaned}
+use Rattle.g1_race_words.proofs.Marking.{raced_looked, raced_dirtied, raced_cleaned}
 use Rattle.g1_race_words.proofs.Reading.{raced_read}
 use Rattle.g1_race_words.proofs.Recording.{raced_sought, raced_recorded}
 use Rattle.g1_race_words.proofs.Raising.{raced_spotted, raced_raised}

@@ -14,7 +14,6 @@ pub mod Recording
 pub mod Raising
 pub mod Writing
 pub mod Marking
-pub mod Cleaning
 pub mod Reading
 pub mod Splitting
 pub mod Listing
