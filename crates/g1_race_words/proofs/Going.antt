@@ -1,19 +1,12 @@
 -- What the steps, the splits and the joins do to the rule beside the race itself: who agrees on the beginning, and what is known at a pause.
-use Rattle.std.specs.Prelude.{◌≡◌, ◌≢◌, ◌<◌, ◌≤◌, ◌∷◌, ◌++◌}
-use Rattle.g1_race_words.specs.{ℕ, List, [], set, Bool, true, false, sym, ap, ◌∙◌, subst, ⊎_elim, arith, some, get_elem?, at_set, at_snoc, set_else, Shape, View, Start, Begun, IsBlank, Raced, Going, started, beginning, start_of, after_split, both, no_seat}
-use Rattle.g1_race_words.proofs.Plain.{weigh_all}
+use Rattle.std.specs.Prelude.{◌≡◌, ◌<◌, ◌≤◌, ◌∷◌, ◌++◌}
+use Rattle.g1_race_words.specs.{ℕ, List, [], set, Bool, true, false, sym, ap, ◌∙◌, arith, some, get_elem?, set_else, Shape, View, Start, Begun, IsBlank, Raced, Going, started, beginning, start_of, after_split, both, no_seat}
+use Rattle.g1_race_words.proofs.Plain.{weigh_all, each_set, each_snoc}
 
 -- where one seat has all the weight, no other answers for anything
 pub others_blank : (begun : Begun) (words : List ℕ) (views : List View) (id : ℕ) (v : View) → Raced begun words views → get_elem? views id ≡ some v → v.weight ≡ begun.shape.members
     → (seat : ℕ) (u : View) → get_elem? views seat ≡ some u → ¬ (seat ≡ id) → IsBlank u
 others_blank begun words views id v h at all seat u there apart = h.weighed.1 seat u there (weigh_all views id seat v u at there apart (h.weighed.0 ∙ sym all))
-
--- what is so of every view stays so where one changes, or comes
-pub each_set : (views : List View) (id : ℕ) (w : View) (P : View → Type 0) → ((seat : ℕ) (v : View) → get_elem? views seat ≡ some v → ¬ (seat ≡ id) → P v) → P w → (seat : ℕ) (v : View) → get_elem? (set views id w) seat ≡ some v → P v
-each_set views id w P h p seat v at = ⊎_elim (λ (t : (seat ≡ id) × (w ≡ v)). subst P t.1 p) (λ (t : (seat ≢ id) × (get_elem? views seat ≡ some v)). h seat v t.1 t.0) (at_set views id seat w v at)
-
-pub each_snoc : (views : List View) (w : View) (P : View → Type 0) → ((seat : ℕ) (v : View) → get_elem? views seat ≡ some v → P v) → P w → (seat : ℕ) (v : View) → get_elem? (views ++ w ∷ []) seat ≡ some v → P v
-each_snoc views w P h p seat v at = ⊎_elim (λ (was : get_elem? views seat ≡ some v). h seat v was) (λ (is : w ≡ v). subst P is p) (at_snoc views w v seat at)
 
 abbrev pub Agrees : Start → Bool → View → Type 0
 Agrees begin frozen v = 0 < v.weight → (start_of v ≡ begin) × (v.frozen ≡ frozen)

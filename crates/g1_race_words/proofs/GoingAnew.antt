@@ -1,11 +1,11 @@
 -- What is known where one seat has all the weight, and how a race begins anew.
 use Rattle.std.specs.Prelude.{◌≡◌, ◌⊎◌, ◌<◌, ◌≤◌, ◌∷◌}
 use Rattle.g1_race_words.specs.{ℕ, zero, suc, List, [], set, true, refl, sym, ap, ◌∙◌, subst, inl, inr, ⊎_elim, arith, nat_lt, some, some-ne-none, ℕ_discrete, get_elem?, Shape, View, Start, In, Held, cleanings_of, pairs_found, held_of, slot_card, region_at, mark_word, AnswersFor, IsMarked, IsWholeShape, HasBit, IsNoted, StoredInto, BeganInto, Someone, AtRest, IsBlank, MadeDirty, total, as_number, tally, numbers, front, pairs_up_to, Raced, IsBegun, Going, started, beginning, start_of}
-use Rattle.g1_race_words.proofs.Plain.{one_there, total_none, weigh_set, weigh_all}
+use Rattle.g1_race_words.proofs.Plain.{one_there, each_set, total_none, weigh_set, weigh_all}
 use Rattle.g1_race_words.proofs.Listing.{in_set}
-use Rattle.g1_race_words.proofs.Tallies.{none_below}
+use Rattle.g1_race_words.proofs.Tallies.{numbers_none}
 use Rattle.g1_race_words.proofs.AtBeginning.{raced_fresh}
-use Rattle.g1_race_words.proofs.Going.{others_blank, each_set, Agrees, known}
+use Rattle.g1_race_words.proofs.Going.{others_blank, Agrees, known}
 
 -- totals where only one seat counts
 
@@ -36,12 +36,7 @@ module _ (k : Shape) (words : List ℕ) (views : List View) (id : ℕ) (v : View
   known_words = known k words views h id v at (omega (arith, all, pos))
 
   no_numbers : (m seat : ℕ) (u : View) → get_elem? views seat ≡ some u → ¬ (seat ≡ id) → numbers m u ≡ 0
-  no_numbers m seat u there ne =
-      let few = h.spared seat u there in
-      let empty = light seat u there ne in
-      let zero_spare : u.spare ≡ 0 = omega (arith, few, empty) in
-      let a : as_number (nat_lt m u.spare) ≡ 0 = ap (λ (n : ℕ). as_number (nat_lt m n)) zero_spare ∙ none_below m in
-      let b : tally m u.histories ≡ 0 = ap (tally m) (others seat u there ne).1 in omega (arith, a, b)
+  no_numbers m seat u there ne = let few = h.spared seat u there in let empty = light seat u there ne in numbers_none m u (others seat u there ne).1 (omega (arith, few, empty))
 
   -- a race begins anew, with any words that one can start with
   pub raced_anew : (new : List ℕ) (w : View) → IsBegun (started k new) → IsBlank w → w.weight ≡ k.members → w.spare ≡ k.members → Raced (beginning (started k new)) new (set views id w)

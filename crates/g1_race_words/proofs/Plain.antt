@@ -99,6 +99,14 @@ module _ (P : View → Type 0) where
           (some_back (set views id w) other spent h),
     )
 
+-- what is so of each seat
+
+pub each_set : (views : List View) (id : ℕ) (w : View) (P : View → Type 0) → ((seat : ℕ) (v : View) → get_elem? views seat ≡ some v → ¬ (seat ≡ id) → P v) → P w → (seat : ℕ) (v : View) → get_elem? (set views id w) seat ≡ some v → P v
+each_set views id w P h p seat v at = ⊎_elim (λ (t : (seat ≡ id) × (w ≡ v)). subst P t.1 p) (λ (t : (seat ≢ id) × (get_elem? views seat ≡ some v)). h seat v t.1 t.0) (at_set views id seat w v at)
+
+pub each_snoc : (views : List View) (w : View) (P : View → Type 0) → ((seat : ℕ) (v : View) → get_elem? views seat ≡ some v → P v) → P w → (seat : ℕ) (v : View) → get_elem? (views ++ w ∷ []) seat ≡ some v → P v
+each_snoc views w P h p seat v at = ⊎_elim (λ (was : get_elem? views seat ≡ some v). h seat v was) (λ (is : w ≡ v). subst P is p) (at_snoc views w v seat at)
+
 -- what some seat holds
 
 module _ {A : Type 0} (f : View → List A) where

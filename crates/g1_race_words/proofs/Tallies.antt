@@ -33,6 +33,9 @@ tally_once m g h (x ∷ xs) le (inr a) (inr b) = tally_once m g h xs (omega arit
 pub none_below : (m : ℕ) → as_number (nat_lt m 0) ≡ 0
 none_below m = zero_is (nat_lt m 0) (le-ltb m 0 (omega arith))
 
+pub numbers_none : (m : ℕ) (v : View) → v.histories ≡ [] → v.spare ≡ 0 → numbers m v ≡ 0
+numbers_none m v none few = ap (λ (x : ℕ × List StoreHistory). as_number (nat_lt m x.0) + tally m x.1) (λ i. (few i, none i)) ∙ (let z = none_below m in omega (arith, z))
+
 -- a number that is cut off stands with one of two
 pub below_split : (m n : ℕ) → 0 < n → as_number (nat_lt m (n - 1)) + as_number (eqb m (n - 1)) ≤ as_number (nat_lt m n)
 below_split m n pos = pick (nat_lt m (n - 1)) refl (ℕ_discrete m (n - 1))

@@ -1,22 +1,16 @@
 -- What a step leaves as it was: the weights and numbers of seats, stores, slots, pairs and claims.
 use Rattle.std.specs.Prelude.{◌≡◌, ◌≢◌, ◌⊎◌, ◌+◌, ◌<◌, ◌≤◌}
-use Rattle.g1_race_words.specs.{subst, ℕ, List, [], set, Some, None, sym, ap, ◌∙◌, inl, inr, ⊎_elim, arith, nat_lt, some, get_elem?, at_set, set_else, Shape, View, IsWord, BeganInto, MadeDirty, mark_word, Held, StoreHistory, histories_of, claims_of, cleanings_of, pairs_found, last_to, Bounded, IsBlank, weigh, as_number, tally, numbers, Weighed, Numbered, Stored, StoredInto, Recorded, Claimed, Counted, times, claims_at, cleanings_at, total}
-use Rattle.g1_race_words.proofs.Plain.{SameHeld, held_same, weigh_set, total_set}
+use Rattle.g1_race_words.specs.{subst, ℕ, List, [], set, Some, None, sym, ap, ◌∙◌, inl, inr, ⊎_elim, arith, nat_lt, some, get_elem?, at_set, set_else, Shape, View, IsWord, BeganInto, MadeDirty, mark_word, Held, StoreHistory, histories_of, claims_of, cleanings_of, pairs_found, last_to, Bounded, IsBlank, as_number, tally, numbers, Weighed, Numbered, Stored, StoredInto, Recorded, Claimed, Counted, times, claims_at, cleanings_at, total}
+use Rattle.g1_race_words.proofs.Plain.{each_set, SameHeld, held_same, weigh_set, total_set}
 use Rattle.g1_race_words.proofs.CoverStores.{mark_apart}
 
 -- the weight, at a step of one member
 
 pub weighed_step : (k : Shape) (views : List View) (id : ℕ) (v w : View) → get_elem? views id ≡ some v → v.weight ≡ 1 → w.weight ≡ 1 → Weighed k views → Weighed k (set views id w)
-weighed_step k views id v w at a b h = (total, blanks)
-  where
-    total : weigh (set views id w) ≡ k.members
-    total = let e = weigh_set views id v w at in let t = h.0 in omega arith
-
-    blanks : (seat : ℕ) (u : View) → get_elem? (set views id w) seat ≡ some u → u.weight ≡ 0 → IsBlank u
-    blanks seat u there none = ⊎_elim
-        (λ (t : (seat ≡ id) × (w ≡ u)). absurd (let e : w.weight ≡ u.weight = ap (λ (y : View). y.weight) t.1 in omega arith))
-        (λ (t : (seat ≢ id) × (get_elem? views seat ≡ some u)). h.1 seat u t.1 none)
-        (at_set views id seat w u there)
+weighed_step k views id v w at a b h = (
+  let e = weigh_set views id v w at in let t = h.0 in omega arith,
+  each_set views id w (λ (u : View). u.weight ≡ 0 → IsBlank u) (λ seat u there ne. h.1 seat u there) (λ none. absurd (omega (arith, b, none))),
+)
 
 -- the numbers, at a step that leaves a view's numbers as they are, or takes some away
 
