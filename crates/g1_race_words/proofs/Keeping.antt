@@ -1,7 +1,7 @@
 -- Bits and pairs stay in step.
 use Rattle.std.specs.Prelude.{◌≡◌, ◌⊎◌}
-use Rattle.g1_race_words.specs.{ℕ, List, [], set, sym, subst, inl, inr, ⊎_elim, some, get_elem?, Shape, View, In, Held, pairs_found, held_of, IsNoted, HasBit, Kept, pair_at, read}
-use Rattle.g1_race_words.proofs.Plain.{in_left, in_right, in_either, put_here, SameHeld, held_on, held_back, held_same}
+use Rattle.g1_race_words.specs.{ℕ, List, [], set, sym, subst, inl, inr, ⊎_elim, some, get_elem?, Shape, View, In, Held, pairs_found, held_of, IsNoted, IsPair, HasBit, Kept, pair_at, read}
+use Rattle.g1_race_words.proofs.Plain.{some_or, in_left, in_right, in_either, put_here, SameHeld, held_on, held_back, held_same}
 use Rattle.g1_race_words.proofs.PairBits.{SameBits, bit_as}
 
 pub noted_on : (known : List (ℕ × ℕ)) (views after : List View) → ((x : ℕ × ℕ) → Held pairs_found views x → Held pairs_found after x) → (x : ℕ × ℕ) → IsNoted known views x → IsNoted known after x
@@ -18,6 +18,18 @@ kept_same k known words new views after bits pairs held h = record {
 
 pub kept_stays : (k : Shape) (known : List (ℕ × ℕ)) (words new : List ℕ) (views : List View) (id : ℕ) (v w : View) → get_elem? views id ≡ some v → v.pairs ≡ w.pairs → v.held ≡ w.held → SameBits k words new → Kept k known words views → Kept k known new (set views id w)
 kept_stays k known words new views id v w at pairs held bits = kept_same k known words new views (set views id w) bits (held_same pairs_found views id v w at pairs) (held_same held_of views id v w at held)
+
+-- one seat's pairs stay, bits are set, and what the seat no longer holds has its bit set
+pub kept_held : (k : Shape) (known : List (ℕ × ℕ)) (words new : List ℕ) (views : List View) (id : ℕ) (v w : View) → get_elem? views id ≡ some v → v.pairs ≡ w.pairs → ((x : ℕ × ℕ) → HasBit k words x → HasBit k new x) → ((x : ℕ × ℕ) → IsPair k x → HasBit k new x → HasBit k words x ⊎ In v.held x)
+    → ((x : ℕ × ℕ) → In v.held x → HasBit k new x ⊎ In w.held x) → ((x : ℕ × ℕ) → In w.held x → In v.held x) → Kept k known words views → Kept k known new (set views id w)
+kept_held k known words new views id v w at same on back lost less h = record {
+  has = λ x n. ⊎_elim (λ (b : HasBit k words x). inl (on x b)) (λ (a : Held held_of views x). some_or (λ u. In u.held x) (HasBit k new x) views id v w at (lost x) a) (h.has x (noted_on known (set views id w) views (λ y. (pairs y).1) x n));
+  only = λ x p b. noted_on known views (set views id w) (λ y. (pairs y).0) x (⊎_elim (λ (o : HasBit k words x). h.only x p o) (λ (i : In v.held x). inr (h.read x (id, v, at, i))) (back x p b));
+  read = λ x a. (pairs x).0 (h.read x (⊎_elim (λ (b : Held held_of views x). b) (λ (i : In w.held x). (id, v, at, less x i)) (held_back held_of views id w x a)));
+}
+  where
+    pairs : SameHeld pairs_found views (set views id w)
+    pairs = held_same pairs_found views id v w at same
 
 -- a sweeper that holds nothing reads a slot, and holds its pair then
 pub kept_read : (k : Shape) (known : List (ℕ × ℕ)) (words : List ℕ) (views : List View) (id : ℕ) (v : View) (p n : ℕ) → v.held ≡ [] → get_elem? views id ≡ some v → Kept k known words views → Kept k known words (set views id (read v p n))

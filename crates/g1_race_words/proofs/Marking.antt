@@ -1,13 +1,13 @@
 -- A racer looks at a mark and dirties it, and a sweeper cleans it.
 use Rattle.std.specs.Prelude.{◌≡◌, ◌≢◌, ◌⊎◌, ◌+◌, ◌<◌, ◌∷◌}
-use Rattle.g1_race_words.specs.{ℕ, cond, eqb, ne_eqb, List, length, set, get_or, Bool, true, false, Some, refl, sym, ◌∙◌, inl, inr, ⊎_elim, arith, length-set, eq-eqb, some, some-injective, ℕ_discrete, get_elem?, set_here, set_else, Shape, View, Begun, MadeDirty, mark_word, In, Held, claims_of, cleanings_of, claims_at, cleanings_at, as_number, times, total, Claimed, Counted, Raced, looked, owed_card, dirtied, Sits, flag, cleaned, Covered, Flagged}
+use Rattle.g1_race_words.specs.{ℕ, cond, eqb, List, length, set, get_or, Bool, true, false, Some, refl, sym, ◌∙◌, inl, inr, ⊎_elim, arith, length-set, eq-eqb, some, some-injective, ℕ_discrete, get_elem?, set_here, set_else, Shape, View, Begun, MadeDirty, mark_word, In, Held, claims_of, cleanings_of, claims_at, cleanings_at, as_number, times, total, Claimed, Counted, Raced, looked, owed_card, dirtied, Sits, flag, cleaned, Covered, Flagged}
 use Rattle.g1_race_words.proofs.Plain.{put_here, read_at, read_is, total_set, held_on, held_same, some_same}
 use Rattle.g1_race_words.proofs.CoverStores.{covered_looked, covered_dirtied}
 use Rattle.g1_race_words.proofs.PairBits.{same_bits, bit_as}
 use Rattle.g1_race_words.proofs.Flags.{flags_stay, none_dirtied}
 use Rattle.g1_race_words.proofs.Raising.{flagged_dirtied}
 use Rattle.g1_race_words.proofs.Keeping.{kept_stays}
-use Rattle.g1_race_words.proofs.Tallies.{one_is, zero_is}
+use Rattle.g1_race_words.proofs.Tallies.{same_is}
 use Rattle.g1_race_words.proofs.Balance.{raced_step}
 use Rattle.g1_race_words.proofs.Unchanged.{same_slots_at_mark, same_slots, Claim, made_on, claim_same, claimed_same, counted_stays, pairs_stay}
 use Rattle.g1_race_words.proofs.CoverSweeps.{covered_cleaned}
@@ -39,11 +39,11 @@ in_cond_here true c l e = inl refl
 in_cond_here false c l e = absurd (cc)
 
 times_here : (d c : ℕ) (b : Bool) (l : List ℕ) → d ≡ c → times d (cond b (c ∷ l) l) ≡ as_number b + times d l
-times_here d c true l e = let g : as_number (eqb d c) ≡ 1 = one_is (eqb d c) (eq-eqb d c e) in omega (arith, g)
+times_here d c true l e = omega (arith, e, same_is d c)
 times_here d c false l e = omega arith
 
 times_other : (d c : ℕ) (b : Bool) (l : List ℕ) → d ≢ c → times d (cond b (c ∷ l) l) ≡ times d l
-times_other d c true l ne = let g : as_number (eqb d c) ≡ 0 = zero_is (eqb d c) (ne_eqb d c ne) in omega (arith, g)
+times_other d c true l ne = omega (arith, ne, same_is d c)
 times_other d c false l ne = refl
 
 -- the mark of a card is swapped to m, and only that card may come to a seat's claims and cleanings

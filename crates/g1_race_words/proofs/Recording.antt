@@ -1,10 +1,10 @@
 -- A sweeper looks for the bit of the pair that it holds, and sets it.
 use Rattle.std.specs.Prelude.{◌≡◌, ◌⊎◌, ◌<◌, ◌∷◌}
-use Rattle.g1_race_words.specs.{ℕ, cond, eqb, Bool, true, false, List, [], length, set, get_or, refl, sym, ◌∙◌, subst, inl, inr, ⊎_elim, arith, length-set, ne_eqb, some, ℕ_discrete, get_elem?, bit_at, Shape, View, Begun, slot_card, mark_word, flag, In, Held, claims_of, cleanings_of, pairs_found, held_of, IsWholeShape, IsPair, HasBit, Kept, Flagged, Raced, bit_word, bit_place, word_count, unset, sought, recorded, Sits}
-use Rattle.g1_race_words.proofs.Plain.{some_or, held_back, held_same, false_is}
+use Rattle.g1_race_words.specs.{ℕ, cond, eqb, Bool, true, false, List, [], length, set, get_or, refl, sym, ◌∙◌, subst, inl, inr, ⊎_elim, arith, length-set, ne_eqb, some, ℕ_discrete, get_elem?, bit_at, Shape, View, Begun, slot_card, mark_word, flag, In, claims_of, cleanings_of, IsWholeShape, IsPair, HasBit, Kept, Flagged, Raced, bit_word, bit_place, word_count, unset, sought, recorded, Sits}
+use Rattle.g1_race_words.proofs.Plain.{held_same, false_is}
 use Rattle.g1_race_words.proofs.PairBits.{card_below, word_below, with_pair, bit_here, bits_stay, bits_back}
 use Rattle.g1_race_words.proofs.Cover.{covered_moves, others_pass}
-use Rattle.g1_race_words.proofs.Keeping.{noted_on}
+use Rattle.g1_race_words.proofs.Keeping.{kept_held}
 use Rattle.g1_race_words.proofs.Flags.{SameFront, flags_stay, front_stays}
 use Rattle.g1_race_words.proofs.Balance.{raced_step}
 use Rattle.g1_race_words.proofs.Unchanged.{pairs_stay, claim_same, counted_stays}
@@ -62,11 +62,7 @@ unset_back k n (x ∷ xs) y i = pick (eqb (bit_at n (bit_place k x)) 1) i (λ j.
 pub raced_sought : (begun : Begun) (words : List ℕ) (views : List View) (id : ℕ) (v : View) (x : ℕ × ℕ) → IsWholeShape begun.shape → Sits begun.shape v → v.held ≡ x ∷ []
     → get_elem? views id ≡ some v → Raced begun words views → Raced begun words (set views id (sought v (get_or words (bit_word begun.shape x) 0)))
 raced_sought begun words views id v x shaped sits one at h = raced_held begun words words views id v w.held v.flagged shaped sits refl (λ i lt. refl) at
-    (record {
-      has = λ y n. ⊎_elim (λ (b : HasBit k words y). inl b) (λ (a : Held held_of views y). some_or (λ u. In u.held y) (HasBit k words y) views id v w at (found y) a) (h.kept.has y (noted_on begun.pairs (set views id w) views (λ z. (same z).1) y n));
-      only = λ y pair b. noted_on begun.pairs views (set views id w) (λ z. (same z).0) y (h.kept.only y pair b);
-      read = λ y a. (same y).0 (⊎_elim (λ (b : Held held_of views y). h.kept.read y b) (λ (i : In w.held y). h.kept.read y (id, v, at, unset_back v.shape (get_or words (bit_word k x) 0) v.held y i)) (held_back held_of views id w y a));
-    })
+    (kept_held k begun.pairs words words views id v w at refl (λ y b. b) (λ y p b. inl b) found (λ y i. unset_back v.shape (get_or words (bit_word k x) 0) v.held y i) h.kept)
     (flags_stay k words words views id v w at refl (λ c lt m. m) (λ c b. b) h.flagged) h
   where
     k : Shape
@@ -74,9 +70,6 @@ raced_sought begun words views id v x shaped sits one at h = raced_held begun wo
 
     w : View
     w = sought v (get_or words (bit_word k x) 0)
-
-    same : (z : ℕ × ℕ) → (Held pairs_found views z → Held pairs_found (set views id w) z) × (Held pairs_found (set views id w) z → Held pairs_found views z)
-    same = held_same pairs_found views id v w at refl
 
     found : (y : ℕ × ℕ) → In v.held y → HasBit k words y ⊎ In w.held y
     found y i = subst (λ (z : ℕ × ℕ). HasBit k words z ⊎ In w.held z) (only_held v.held x y one i)
@@ -88,14 +81,8 @@ pub raced_recorded : (begun : Begun) (words : List ℕ) (views : List View) (id 
     → get_elem? views id ≡ some v → Raced begun words views → Raced begun (with_pair begun.shape words x) (set views id (recorded v))
 raced_recorded begun words views id v x shaped sits one pair at h = raced_held begun words new views id v [] v.flagged shaped sits (length-set words (bit_word k x) _)
     front at
-    (record {
-      has = λ y n. ⊎_elim (λ (b : HasBit k words y). inl (bits_stay k words x short y b)) (λ (a : Held held_of views y). some_or (λ u. In u.held y) (HasBit k new y) views id v w at (λ i. inl (subst (HasBit k new) (only_held v.held x y one i) (bit_here k words x short))) a)
-          (h.kept.has y (noted_on begun.pairs (set views id w) views (λ z. (same z).1) y n));
-      only = λ y p b. ⊎_elim (λ (c : HasBit k words y). noted_on begun.pairs views (set views id w) (λ z. (same z).0) y (h.kept.only y p c))
-          (λ (e : x ≡ y). inr ((same y).0 (h.kept.read y (id, v, at, subst (λ (l : List (ℕ × ℕ)). In l y) (sym one) (inl e)))))
-          (bits_back k words x short y shaped pair.0 p.0 b);
-      read = λ y a. (same y).0 (⊎_elim (λ (b : Held held_of views y). h.kept.read y b) (λ (i : In w.held y). absurd i) (held_back held_of views id w y a));
-    })
+    (kept_held k begun.pairs words new views id v w at refl (bits_stay k words x short) (λ y p b. ⊎_elim (λ (c : HasBit k words y). inl c) (λ (e : x ≡ y). inr (rw one (inl e))) (bits_back k words x short y shaped pair.0 p.0 b))
+    (λ y i. inl (subst (HasBit k new) (only_held v.held x y one i) (bit_here k words x short))) (λ y i. absurd i) h.kept)
     (flags_stay k words new views id v w at refl (λ c lt m. sym (front (mark_word k c) (omega (arith, lt))) ∙ m) (λ c. bits_stay k words x short (flag k c)) h.flagged) h
   where
     k : Shape
@@ -112,6 +99,3 @@ raced_recorded begun words views id v x shaped sits one pair at h = raced_held b
 
     front : SameFront k words new
     front = front_stays k words x
-
-    same : (z : ℕ × ℕ) → (Held pairs_found views z → Held pairs_found (set views id w) z) × (Held pairs_found (set views id w) z → Held pairs_found views z)
-    same = held_same pairs_found views id v w at refl

@@ -1,19 +1,15 @@
 -- How often the numbers of racers stand in the views, and a card in a list.
 use Rattle.std.specs.Prelude.{◌≡◌, ◌≢◌, ◌⊎◌, ◌+◌, ◌<◌, ◌≤◌, ◌∷◌, ◌++◌, ◌-◌}
-use Rattle.g1_race_words.specs.{ℕ, zero, suc, List, [], Bool, true, false, refl, sym, ap, ◌∙◌, inl, inr, ⊎_elim, cases_lt, cases_eq, arith, eqb, eq-eqb, ne_eqb, nat_lt, View, In, StoreHistory, as_number, tally, numbers, times, gains_store, after_split, new_racer, new_sweeper}
+use Rattle.g1_race_words.specs.{ℕ, zero, suc, List, [], refl, sym, ap, ◌∙◌, inl, inr, ⊎_elim, cases_lt, cases_eq, arith, eqb, eq-eqb, ne_eqb, nat_lt, View, In, StoreHistory, as_number, tally, numbers, times, gains_store, after_split, new_racer, new_sweeper}
 use Rattle.std.proofs.Common.{lt-ltb, le-ltb}
 
-pub one_is : (b : Bool) → b ≡ true → as_number b ≡ 1
-one_is b e = ap as_number e
-
-pub zero_is : (b : Bool) → b ≡ false → as_number b ≡ 0
-zero_is b e = ap as_number e
+-- what a test counts
 
 below_is : (m n : ℕ) → ((m < n) × (as_number (nat_lt m n) ≡ 1)) ⊎ ((n ≤ m) × (as_number (nat_lt m n) ≡ 0))
-below_is m n = ⊎_elim (λ (lt : m < n). inl (lt, one_is (nat_lt m n) (lt-ltb m n lt))) (λ (le : n ≤ m). inr (le, zero_is (nat_lt m n) (le-ltb m n le))) (cases_lt m n)
+below_is m n = ⊎_elim (λ (lt : m < n). inl (lt, ap as_number (lt-ltb m n lt))) (λ (le : n ≤ m). inr (le, ap as_number (le-ltb m n le))) (cases_lt m n)
 
-same_is : (m n : ℕ) → ((m ≡ n) × (as_number (eqb m n) ≡ 1)) ⊎ ((m ≢ n) × (as_number (eqb m n) ≡ 0))
-same_is m n = ⊎_elim (λ (e : m ≡ n). inl (e, one_is (eqb m n) (eq-eqb m n e))) (λ (ne : m ≢ n). inr (ne, zero_is (eqb m n) (ne_eqb m n ne))) (cases_eq m n)
+pub same_is : (m n : ℕ) → ((m ≡ n) × (as_number (eqb m n) ≡ 1)) ⊎ ((m ≢ n) × (as_number (eqb m n) ≡ 0))
+same_is m n = ⊎_elim (λ (e : m ≡ n). inl (e, ap as_number (eq-eqb m n e))) (λ (ne : m ≢ n). inr (ne, ap as_number (ne_eqb m n ne))) (cases_eq m n)
 
 pub tally_append : (m : ℕ) (hs gs : List StoreHistory) → tally m (hs ++ gs) ≡ tally m hs + tally m gs
 tally_append m [] gs = omega arith
