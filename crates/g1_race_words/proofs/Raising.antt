@@ -3,7 +3,7 @@ use Rattle.std.specs.Prelude.{◌≡◌, ◌<◌, ◌∷◌}
 use Rattle.g1_race_words.specs.{ℕ, eqb, eq-eqb, ne_eqb, List, [], length, set, get_or, Option, Some, None, refl, sym, ap, ◌∙◌, subst, inl, inr, ⊎_elim, arith, length-set, some, ℕ_discrete, get_elem?, bit_at, set_else, Shape, View, Begun, In, Held, flagged_of, mark_word, bit_word, bit_place, flag, IsFlagged, IsWholeShape, HasBit, Flagged, Raced, owed_card, set_flags, spotted, raised, dirtied, Sits}
 use Rattle.g1_race_words.proofs.Plain.{held_back, true_is, false_is}
 use Rattle.g1_race_words.proofs.PairBits.{with_pair, bit_here, bits_stay, bits_back, same_bits, bit_as}
-use Rattle.g1_race_words.proofs.Keeping.{kept_stays, kept_held}
+use Rattle.g1_race_words.proofs.Keeping.{kept_stays, kept_moves}
 use Rattle.g1_race_words.proofs.Recording.{raced_held}
 use Rattle.g1_race_words.proofs.Flags.{flag_below, flag_card, front_stays}
 
@@ -62,9 +62,9 @@ raced_spotted begun words views id v c shaped sits owes at h = raced_held begun 
 pub raced_raised : (begun : Begun) (words : List ℕ) (views : List View) (id : ℕ) (v : View) (c : ℕ) → IsWholeShape begun.shape → Sits begun.shape v → v.owed ≡ Some c → c < begun.shape.cards
     → get_elem? views id ≡ some v → Raced begun words views → Raced begun (with_pair begun.shape words (flag begun.shape c)) (set views id (raised v))
 raced_raised begun words views id v c shaped sits owes lt at h = raced_held begun words new views id v v.held w.flagged shaped sits (length-set words (bit_word k x) _) (front_stays k words x) at
-    (kept_held k begun.pairs words new views id v w at refl (bits_stay k words x short)
+    (kept_moves k begun.pairs words new views id v w at (λ y i. i) (λ y i. inl i) (bits_stay k words x short)
     (λ y p b. ⊎_elim (λ (o : HasBit k words y). inl o) (λ (e : x ≡ y). absurd (let r : k.regions ≡ y.1 = ap (λ (z : ℕ × ℕ). z.1) e in let l : y.1 < k.regions = p.1 in omega (arith, r, l))) (bits_back k words x short y shaped (flag_card k c lt) p.0 b))
-    (λ y i. inr i) (λ y i. i) h.kept)
+    (λ y i. inr i) (λ y i. inl i) h.kept)
     (record {
       marked = λ d below m. bits_stay k words x short (flag k d) (h.flagged.marked d below (sym (front_stays k words x (mark_word k d) (omega (arith, below))) ∙ m));
       known = λ d b. ⊎_elim (λ (a : Held flagged_of views d). bits_stay k words x short (flag k d) (h.flagged.known d a)) (λ (i : In w.flagged d). subst (IsFlagged k new) (only_owed v.owed c d owes i) (bit_here k words x short)) (held_back flagged_of views id w d b);

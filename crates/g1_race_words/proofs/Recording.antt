@@ -4,7 +4,7 @@ use Rattle.g1_race_words.specs.{ℕ, cond, eqb, Bool, true, false, List, [], len
 use Rattle.g1_race_words.proofs.Plain.{held_same, false_is}
 use Rattle.g1_race_words.proofs.PairBits.{card_below, word_below, with_pair, bit_here, bits_stay, bits_back}
 use Rattle.g1_race_words.proofs.Cover.{covered_moves, others_pass}
-use Rattle.g1_race_words.proofs.Keeping.{kept_held}
+use Rattle.g1_race_words.proofs.Keeping.{kept_moves}
 use Rattle.g1_race_words.proofs.Flags.{SameFront, flags_stay, front_stays}
 use Rattle.g1_race_words.proofs.Balance.{raced_step}
 use Rattle.g1_race_words.proofs.Unchanged.{pairs_stay, claim_same, counted_stays}
@@ -62,7 +62,7 @@ unset_back k n (x ∷ xs) y i = pick (eqb (bit_at n (bit_place k x)) 1) i (λ j.
 pub raced_sought : (begun : Begun) (words : List ℕ) (views : List View) (id : ℕ) (v : View) (x : ℕ × ℕ) → IsWholeShape begun.shape → Sits begun.shape v → v.held ≡ x ∷ []
     → get_elem? views id ≡ some v → Raced begun words views → Raced begun words (set views id (sought v (get_or words (bit_word begun.shape x) 0)))
 raced_sought begun words views id v x shaped sits one at h = raced_held begun words words views id v w.held v.flagged shaped sits refl (λ i lt. refl) at
-    (kept_held k begun.pairs words words views id v w at refl (λ y b. b) (λ y p b. inl b) found (λ y i. unset_back v.shape (get_or words (bit_word k x) 0) v.held y i) h.kept)
+    (kept_moves k begun.pairs words words views id v w at (λ y i. i) (λ y i. inl i) (λ y b. b) (λ y p b. inl b) found (λ y i. inl (unset_back v.shape (get_or words (bit_word k x) 0) v.held y i)) h.kept)
     (flags_stay k words words views id v w at refl (λ c lt m. m) (λ c b. b) h.flagged) h
   where
     k : Shape
@@ -81,7 +81,7 @@ pub raced_recorded : (begun : Begun) (words : List ℕ) (views : List View) (id 
     → get_elem? views id ≡ some v → Raced begun words views → Raced begun (with_pair begun.shape words x) (set views id (recorded v))
 raced_recorded begun words views id v x shaped sits one pair at h = raced_held begun words new views id v [] v.flagged shaped sits (length-set words (bit_word k x) _)
     front at
-    (kept_held k begun.pairs words new views id v w at refl (bits_stay k words x short) (λ y p b. ⊎_elim (λ (c : HasBit k words y). inl c) (λ (e : x ≡ y). inr (rw one (inl e))) (bits_back k words x short y shaped pair.0 p.0 b))
+    (kept_moves k begun.pairs words new views id v w at (λ y i. i) (λ y i. inl i) (bits_stay k words x short) (λ y p b. ⊎_elim (λ (c : HasBit k words y). inl c) (λ (e : x ≡ y). inr (rw one (inl e))) (bits_back k words x short y shaped pair.0 p.0 b))
     (λ y i. inl (subst (HasBit k new) (only_held v.held x y one i) (bit_here k words x short))) (λ y i. absurd i) h.kept)
     (flags_stay k words new views id v w at refl (λ c lt m. sym (front (mark_word k c) (omega (arith, lt))) ∙ m) (λ c. bits_stay k words x short (flag k c)) h.flagged) h
   where
