@@ -1,6 +1,6 @@
 -- What a race begins with keeps its rule.
 use Rattle.std.specs.Prelude.{◌≡◌, ◌+◌, ◌<◌, ◌≤◌, ◌∷◌}
-use Rattle.g1_race_words.specs.{ℕ, zero, suc, true, List, [], length, get_or, take, refl, sym, ap, ◌∙◌, subst, inl, inr, ⊎_elim, arith, replicate, bit_at, bit_at-zero, some, some-ne-none, some-injective, get_elem?, Shape, View, MadeDirty, IsBegun, IsWholeShape, HasBit, bit_word, bit_place, slot_card, mark_word, region_at, In, Held, claims_of, pairs_found, IsMarked, IsBlank, Raced, Going, front, pairs_up_to, null_of, started, beginning, start_of, Numbered, weigh, times, claims_at, cleanings_at, sum_at, stored_sum, overwritten_sum, histories_of, held_of, flagged_of, word_count, frozen_seat}
+use Rattle.g1_race_words.specs.{ℕ, zero, suc, Bool, true, List, [], length, get_or, take, refl, sym, ap, ◌∙◌, subst, inl, inr, ⊎_elim, arith, replicate, bit_at, bit_at-zero, some, some-ne-none, some-injective, get_elem?, Shape, View, MadeDirty, IsBegun, IsWholeShape, HasBit, bit_word, bit_place, slot_card, mark_word, region_at, In, Held, claims_of, pairs_found, IsMarked, IsBlank, Raced, Going, front, pairs_up_to, null_of, started, beginning, start_of, Numbered, weigh, times, claims_at, cleanings_at, sum_at, stored_sum, overwritten_sum, histories_of, held_of, flagged_of, word_count, frozen_seat}
 use Rattle.g1_race_words.proofs.PairBits.{crossing_pair}
 use Rattle.g1_race_words.proofs.Places.{at_read, at_take, at_untake, reads_as}
 use Rattle.g1_race_words.proofs.Listing.{in_set, set_in}
@@ -75,6 +75,11 @@ raced_fresh k words views h blank all numbered = record {
     none_held : {A : Type 0} (f : View → List A) → ((u : View) → IsBlank u → f u ≡ []) → (x : A) → Held f views x → ⊥
     none_held {A} f none x b = subst (λ (l : List A). In l x) (none b.1 (blank b.0 b.1 b.2)) b.3
 
+-- and its rule holds, where the seats agree on the beginning
+pub going_fresh : (k : Shape) (words : List ℕ) (views : List View) (frozen : Bool) → IsBegun (started k words) → Raced (beginning (started k words)) words views
+    → ((seat : ℕ) (v : View) → get_elem? views seat ≡ some v → 0 < v.weight → (start_of v ≡ started k words) × (v.frozen ≡ frozen)) → ((seat : ℕ) (v : View) → get_elem? views seat ≡ some v → v.spare ≤ v.weight) → Going k words views
+going_fresh k words views frozen begun raced agreed spared = record { first = words; frozen = frozen; raced = raced; proper = λ x i. let s = in_set k words x i in begun.proper x s.0 s.1; agreed = agreed; spared = spared; still = λ e. refl }
+
 -- words that begin with all null and all clean, and no bit set
 
 pub no_bit : (k : Shape) (words : List ℕ) (x : ℕ × ℕ) → get_or words (bit_word k x) 0 ≡ 0 → HasBit k words x → ⊥
@@ -93,12 +98,7 @@ null_begun k shaped = let all = word_count k in record {
 
 -- a heap begins at a pause
 pub going_first : (k : Shape) → IsWholeShape k → Going k (zeros (word_count k)) (frozen_seat (null_of k) k.members ∷ [])
-going_first k shaped = let all = word_count k in let start = frozen_seat (null_of k) k.members in record {
-  first = zeros all;
-  frozen = true;
-  raced = raced_fresh k (zeros all) (start ∷ []) (null_begun k shaped) (λ seat u at. subst IsBlank (only start u seat at) ((refl, refl, refl, refl), refl, refl, refl, refl, refl)) (omega arith) (λ m. omega arith);
-  proper = λ x i. let s = in_set k (zeros all) x i in (null_begun k shaped).proper x s.0 s.1;
-  agreed = λ seat v at heavy. subst (λ (u : View). (start_of u ≡ null_of k) × (u.frozen ≡ true)) (only start v seat at) (refl, refl);
-  spared = λ seat v at. subst (λ (u : View). u.spare ≤ u.weight) (only start v seat at) (omega arith);
-  still = λ e. refl;
-}
+going_first k shaped = let all = word_count k in let start = frozen_seat (null_of k) k.members in going_fresh k (zeros all) (start ∷ []) true (null_begun k shaped)
+    (raced_fresh k (zeros all) (start ∷ []) (null_begun k shaped) (λ seat u at. subst IsBlank (only start u seat at) ((refl, refl, refl, refl), refl, refl, refl, refl, refl)) (omega arith) (λ m. omega arith))
+    (λ seat v at heavy. subst (λ (u : View). (start_of u ≡ null_of k) × (u.frozen ≡ true)) (only start v seat at) (refl, refl))
+    (λ seat v at. subst (λ (u : View). u.spare ≤ u.weight) (only start v seat at) (omega arith))

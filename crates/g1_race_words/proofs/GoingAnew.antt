@@ -1,10 +1,9 @@
 -- What is known where one seat has all the weight, and how a race begins anew.
 use Rattle.std.specs.Prelude.{◌≡◌, ◌⊎◌, ◌<◌, ◌≤◌, ◌∷◌}
-use Rattle.g1_race_words.specs.{ℕ, zero, suc, List, [], set, true, refl, sym, ap, ◌∙◌, subst, inl, inr, ⊎_elim, arith, nat_lt, some, some-ne-none, ℕ_discrete, get_elem?, Shape, View, Start, In, Held, cleanings_of, pairs_found, held_of, slot_card, region_at, mark_word, AnswersFor, IsMarked, IsWholeShape, HasBit, IsNoted, StoredInto, BeganInto, Someone, AtRest, IsBlank, MadeDirty, total, as_number, tally, numbers, front, pairs_up_to, Raced, IsBegun, Going, started, beginning, start_of}
+use Rattle.g1_race_words.specs.{ℕ, zero, suc, List, [], set, true, refl, sym, ap, ◌∙◌, subst, inl, inr, ⊎_elim, arith, nat_lt, some, some-ne-none, get_elem?, Shape, View, Start, In, Held, cleanings_of, pairs_found, held_of, slot_card, region_at, mark_word, AnswersFor, IsMarked, IsWholeShape, HasBit, IsNoted, StoredInto, BeganInto, Someone, OfSome, cases_eq, AtRest, IsBlank, MadeDirty, total, as_number, tally, numbers, front, pairs_up_to, Raced, IsBegun, Going, started, beginning, start_of}
 use Rattle.g1_race_words.proofs.Plain.{one_there, each_set, total_none, weigh_set, weigh_all}
-use Rattle.g1_race_words.proofs.Listing.{in_set}
 use Rattle.g1_race_words.proofs.Tallies.{numbers_none}
-use Rattle.g1_race_words.proofs.AtBeginning.{raced_fresh}
+use Rattle.g1_race_words.proofs.AtBeginning.{raced_fresh, going_fresh}
 use Rattle.g1_race_words.proofs.Going.{others_blank, Agrees, known}
 
 -- totals where only one seat counts
@@ -39,24 +38,16 @@ module _ (k : Shape) (words : List ℕ) (views : List View) (id : ℕ) (v : View
   no_numbers m seat u there ne = let few = h.spared seat u there in let empty = light seat u there ne in numbers_none m u (others seat u there ne).1 (omega (arith, few, empty))
 
   -- a race begins anew, with any words that one can start with
-  pub raced_anew : (new : List ℕ) (w : View) → IsBegun (started k new) → IsBlank w → w.weight ≡ k.members → w.spare ≡ k.members → Raced (beginning (started k new)) new (set views id w)
-  raced_anew new w b still weight spare = raced_fresh k new (set views id w) b (each_set views id w IsBlank others still)
+  pub going_anew : (new : List ℕ) (w : View) → IsBegun (started k new) → IsBlank w → w.weight ≡ k.members → w.spare ≡ k.members → start_of w ≡ started k new → Going k new (set views id w)
+  going_anew new w b still weight spare is = going_fresh k new (set views id w) w.frozen b
+      (raced_fresh k new (set views id w) b (each_set views id w IsBlank others still)
       (let a = weigh_set views id v w at in let t = h.raced.weighed.0 in omega (arith, a, t, all, weight))
       (λ m.
       let a = total_alone (numbers m) views id v w at (no_numbers m) in
       let t : tally m w.histories ≡ 0 = ap (tally m) still.1 in
-      let c : as_number (nat_lt m w.spare) ≡ as_number (nat_lt m k.members) = ap (λ (n : ℕ). as_number (nat_lt m n)) spare in omega (arith, a, t, c))
-
-  pub going_anew : (new : List ℕ) (w : View) → IsBegun (started k new) → IsBlank w → w.weight ≡ k.members → w.spare ≡ k.members → start_of w ≡ started k new → Going k new (set views id w)
-  going_anew new w b still weight spare is = record {
-    first = new;
-    frozen = w.frozen;
-    raced = raced_anew new w b still weight spare;
-    proper = λ x i. let s = in_set k new x i in b.proper x s.0 s.1;
-    agreed = each_set views id w (λ (u : View). Agrees (started k new) w.frozen u) (λ seat u there ne lt. let z = light seat u there ne in absurd (omega (arith, z, lt))) (λ lt. (is, refl));
-    spared = each_set views id w (λ (u : View). u.spare ≤ u.weight) (λ seat u there ne. h.spared seat u there) (omega (arith, weight, spare));
-    still = λ e. refl;
-  }
+      let c : as_number (nat_lt m w.spare) ≡ as_number (nat_lt m k.members) = ap (λ (n : ℕ). as_number (nat_lt m n)) spare in omega (arith, a, t, c)))
+      (each_set views id w (λ (u : View). Agrees (started k new) w.frozen u) (λ seat u there ne lt. let z = light seat u there ne in absurd (omega (arith, z, lt))) (λ lt. (is, refl)))
+      (each_set views id w (λ (u : View). u.spare ≤ u.weight) (λ seat u there ne. h.spared seat u there) (omega (arith, weight, spare)))
 
   -- at rest, the words are what a race can start with
   pub begun_here : IsWholeShape k → AtRest v → IsBegun (started k words)
@@ -92,19 +83,15 @@ module _ (k : Shape) (words : List ℕ) (views : List View) (id : ℕ) (v : View
       blank_answers u p n s (inr (inl a)) = absurd (omega (arith, a.0, a.1, s.0.1))
       blank_answers u p n s (inr (inr a)) = subst (λ (l : List (ℕ × ℕ)). In l (slot_card k p, region_at k n)) s.4 a
 
+      -- what is so of some seat is so of this one, or of one that answers for nothing
+      alone : (P : View → Type 0) → OfSome P views → P v ⊎ ((u : View) × IsBlank u × P u)
+      alone P s = elim (cases_eq s.0 id) [ inl e ↦ inl (subst P (one_there views id s.1 v (rw e at s.2) at) s.3) | inr ne ↦ inr (s.1, others s.0 s.1 s.2 ne, s.3) ]
+
       someone : (p n : ℕ) → Someone k views p n → In v.pairs (slot_card k p, region_at k n)
-      someone p n s = pick (ℕ_discrete s.0 id)
-        where
-          pick : Dec (s.0 ≡ id) → In v.pairs (slot_card k p, region_at k n)
-          pick (yes e) = mine_answers p n (subst (λ (u : View). AnswersFor k u p n) (one_there views id s.1 v (subst (λ (i : ℕ). get_elem? views i ≡ some s.1) e s.2) at) s.3)
-          pick (no ne) = absurd (blank_answers s.1 p n (others s.0 s.1 s.2 ne) s.3)
+      someone p n s = elim (alone (λ u. AnswersFor k u p n) s) [ inl a ↦ mine_answers p n a | inr b ↦ absurd (blank_answers b.0 p n b.1 b.2) ]
 
       no_pair : (x : ℕ × ℕ) → Held held_of views x → ⊥
-      no_pair x b = pick (ℕ_discrete b.0 id)
-        where
-          pick : Dec (b.0 ≡ id) → ⊥
-          pick (yes e) = subst (λ (l : List (ℕ × ℕ)). In l x) rest.2 (subst (λ (u : View). In u.held x) (one_there views id b.1 v (subst (λ (i : ℕ). get_elem? views i ≡ some b.1) e b.2) at) b.3)
-          pick (no ne) = subst (λ (l : List (ℕ × ℕ)). In l x) (others b.0 b.1 b.2 ne).0.2 b.3
+      no_pair x b = elim (alone (λ u. In u.held x) b) [ inl i ↦ absurd (rw rest.2 at i) | inr c ↦ absurd (rw c.1.0.2 at c.2) ]
 
       noted_bit : (x : ℕ × ℕ) → IsNoted (pairs_up_to k h.first k.cards) views x → HasBit k words x
       noted_bit x n = ⊎_elim (λ (b : HasBit k words x). b) (λ (b : Held held_of views x). absurd (no_pair x b)) (h.raced.kept.has x n)
