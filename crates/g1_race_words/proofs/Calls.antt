@@ -3,7 +3,7 @@ use Rattle.std.specs.Prelude.{◌≡◌, ◌+◌, ◌-◌, ◌*◌, ◌%◌, ◌
 use Rattle.g1_race_words.specs.{ℕ, bit_or, cond, List, [], set, get_or, Bool, true, false, None, refl, sym, ap, ◌∙◌, subst, inl, inr, arith, some, get_elem?, either, State, Me, keeps, Allows, Splits, Joins, Enters, TableId, Seat, set_again, Shape, View, Start, AtRest, Going, In, StoreHistory, IsBegun, IsBlank, IsWholeShape, IsWord, Raced, beginning, mark_word, bit_word, bit_place, flag, started, start_of, word_count, blank, both, whole_seat, cleaned, dirtied, exchanged, frozen_seat, after_split, looked, new_racer, new_sweeper, new_reader, no_seat, numbers, owed_card, put, raised, read, recorded, sought, spotted, thawed, wrote, Freezes, HoldsBit, IsWholeSeat, IsFound, IsMark, IsPaused, IsLent, IsReading, OwesFlag, OwesMark, Sits}
 use Rattle.g1_race_words.proofs.PairBits.{word_below}
 use Rattle.g1_race_words.proofs.Flags.{flag_below}
-use Rattle.g1_race_words.proofs.Plain.{set_read, set_there, read_at}
+use Rattle.g1_race_words.proofs.Plain.{set_read, read_at}
 use Rattle.g1_race_words.proofs.Tallies.{number_given, number_dropped}
 use Rattle.g1_race_words.proofs.Writing.{raced_wrote}
 use Rattle.g1_race_words.proofs.Marking.{raced_looked, raced_dirtied, raced_cleaned}
@@ -90,7 +90,7 @@ module _ (z : TableId) (k : Shape) (fits : z.words ≡ word_count k) (shaped : I
 
       goes : (words : List ℕ) (views : List View) (h : Going k words views) → get_elem? views s.id ≡ some v → (b : Bool) → let m = get_or words p 0 in Raced (begun k words views h) (set words p (either b n m)) (set views s.id (cond b (wrote v p n m) v))
       goes words views h at true = raced_wrote (begun k words views h) words views s.id v p n racer.1.0 racer.0 free racer.1.1 lt bound at h.raced
-      goes words views h at false = rw (set_read words p, set_there views s.id v at) h.raced
+      goes words views h at false = rw (set_read words p, set_again views s.id v at) h.raced
 
   pub look_owed : (word : ℕ) → Sits k v → OwesMark k v word → Owed word (λ n. n) (Is (looked v))
   look_owed word sits (c, owes, lt, is) = rw is (loads (mark_word k c) (looked v) (Is (looked v)) (omega (arith, fits, lt)) sits (λ n. (refl, refl, refl, refl))

@@ -36,11 +36,6 @@ set_read [] i = refl
 set_read (x ∷ xs) zero = refl
 set_read (x ∷ xs) (suc i) = ap (λ (l : List ℕ). x ∷ l) (set_read xs i)
 
-pub set_there : (l : List View) (i : ℕ) (x : View) → get_elem? l i ≡ some x → set l i x ≡ l
-set_there [] i x e = refl
-set_there (y ∷ ys) zero x e = let same : y ≡ x = cc in ap (λ (z : View). z ∷ ys) (sym same)
-set_there (y ∷ ys) (suc i) x e = ap (λ zs. y ∷ zs) (set_there ys i x e)
-
 pub read_is : (l : List ℕ) (i n : ℕ) → get_elem? l i ≡ some n → get_or l i 0 ≡ n
 read_is l i n = reads_as l i n 0
 
