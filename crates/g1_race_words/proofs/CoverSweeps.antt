@@ -1,7 +1,7 @@
 -- A sweeper's steps, and those of seats, keep that every reference between regions is answered for.
 use Rattle.std.specs.Prelude.{◌≡◌, ◌≢◌, ◌⊎◌, ◌+◌, ◌*◌, ◌/◌, ◌%◌, ◌<◌, ◌≤◌, ◌∷◌, ◌++◌}
 use Rattle.g1_race_words.specs.{ℕ, List, [], set, get_or, true, None, refl, sym, ap, subst, inl, inr, arith, div-add-mod', mod-lt, some, ℕ_discrete, get_elem?, Shape, View, slot_card, mark_word, region_at, crosses, In, AnswersFor, IsMarked, Covered, cleaned, pair_at, read, both}
-use Rattle.g1_race_words.proofs.Plain.{in_left, in_right, read_is, true_is, some_on, some_longer, some_joined}
+use Rattle.g1_race_words.proofs.Plain.{in_cond_here, in_left, in_right, read_is, true_is, some_on, some_longer, some_joined}
 use Rattle.g1_race_words.proofs.Cover.{covered_moves, Passes, others_pass}
 use Rattle.g1_race_words.proofs.CoverStores.{covered_swapped}
 
@@ -24,7 +24,7 @@ covered_cleaned k known words views id v c n shape pos done at = covered_swapped
 -- a sweeper reads slot p
 
 pair_there : (k : Shape) (p n : ℕ) → crosses k p n ≡ true → In (pair_at k p n) (slot_card k p, region_at k n)
-pair_there k p n cr = subst (λ (l : List (ℕ × ℕ)). In l (slot_card k p, region_at k n)) (sym (true_is (crosses k p n) ((slot_card k p, region_at k n) ∷ []) [] cr)) (inl refl)
+pair_there k p n cr = in_cond_here (crosses k p n) (slot_card k p, region_at k n) [] cr
 
 pub covered_read : (k : Shape) (known : List (ℕ × ℕ)) (words : List ℕ) (views : List View) (id : ℕ) (v : View) (p : ℕ) → v.shape ≡ k → v.next ≡ p
     → get_elem? views id ≡ some v → Covered k known words views → Covered k known words (set views id (read v p (get_or words p 0)))

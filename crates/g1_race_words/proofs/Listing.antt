@@ -1,7 +1,7 @@
 -- The pairs whose bits are set, as a list.
 use Rattle.std.specs.Prelude.{◌≡◌, ◌<◌, ◌∷◌}
-use Rattle.g1_race_words.specs.{ℕ, zero, suc, cond, eqb, List, [], Contains, refl, sym, ap, subst, inl, inr, ⊎_elim, arith, eq-eqb, ne_eqb, ℕ_discrete, slice_index, bit_at, Shape, In, IsPair, HasBit, bit_word, bit_place, pairs_of_card, pairs_up_to}
-use Rattle.g1_race_words.proofs.Plain.{in_left, in_right, in_either, true_is, false_is}
+use Rattle.g1_race_words.specs.{ℕ, zero, suc, cond, eqb, List, [], Contains, refl, sym, ap, subst, inl, inr, ⊎_elim, arith, eq-eqb, eqb-true, ne_eqb, ℕ_discrete, slice_index, bit_at, Shape, In, IsPair, HasBit, bit_word, bit_place, pairs_of_card, pairs_up_to}
+use Rattle.g1_race_words.proofs.Plain.{in_cond_back, in_left, in_right, in_either, true_is, false_is}
 use Rattle.g1_race_words.proofs.Places.{in_contains, contains_in}
 
 module _ (k : Shape) (words : List ℕ) where
@@ -18,22 +18,14 @@ module _ (k : Shape) (words : List ℕ) where
   pub pair_clear : (x : ℕ × ℕ) → (bit x ≡ 1 → ⊥) → one_pair x ≡ []
   pair_clear x ne = false_is (eqb (bit x) 1) (x ∷ []) [] (ne_eqb (bit x) 1 ne)
 
-  in_one : (x y : ℕ × ℕ) → In (one_pair x) y → (x ≡ y) × HasBit k words x
-  in_one x y i = pick (ℕ_discrete (bit x) 1)
-    where
-      same : In (x ∷ []) y → x ≡ y
-      same (inl e) = e
-      same (inr n) = absurd n
-
-      pick : Dec (bit x ≡ 1) → (x ≡ y) × HasBit k words x
-      pick (yes e) = (same (subst (λ (l : List (ℕ × ℕ)). In l y) (pair_set x e) i), e)
-      pick (no ne) = absurd (subst (λ (l : List (ℕ × ℕ)). In l y) (pair_clear x ne) i)
+  one_back : (x y : ℕ × ℕ) → In (one_pair x) y → (x ≡ y) × HasBit k words x
+  one_back x y i = elim (in_cond_back (eqb (bit x) 1) x y [] i) [ inl t ↦ (t.0, eqb-true (bit x) 1 t.1) | inr n ↦ absurd n ]
 
   card_back : (c r : ℕ) (x : ℕ × ℕ) → In (pairs_of_card k words c r) x → (x.0 ≡ c) × (x.1 < r) × HasBit k words x
   card_back c zero x i = absurd i
   card_back c (suc r) x i = ⊎_elim
       (λ (a : In (pairs_of_card k words c r) x). let h = card_back c r x a in let lt : x.1 < r = h.1 in (h.0, omega arith, h.2))
-      (λ (a : In (one_pair (c, r)) x). let h = in_one (c, r) x a in let e : r ≡ x.1 = ap (λ (y : ℕ × ℕ). y.1) h.0 in (sym (ap (λ (y : ℕ × ℕ). y.0) h.0), omega arith, subst (HasBit k words) h.0 h.1))
+      (λ (a : In (one_pair (c, r)) x). let h = one_back (c, r) x a in let e : r ≡ x.1 = ap (λ (y : ℕ × ℕ). y.1) h.0 in (sym (ap (λ (y : ℕ × ℕ). y.0) h.0), omega arith, subst (HasBit k words) h.0 h.1))
       (in_either (pairs_of_card k words c r) (one_pair (c, r)) x i)
 
   card_on : (c q r : ℕ) → q < r → HasBit k words (c, q) → In (pairs_of_card k words c r) (c, q)

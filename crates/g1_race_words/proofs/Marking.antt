@@ -1,7 +1,7 @@
 -- A racer looks at a mark and dirties it, and a sweeper cleans it.
 use Rattle.std.specs.Prelude.{◌≡◌, ◌≢◌, ◌⊎◌, ◌+◌, ◌<◌, ◌∷◌}
 use Rattle.g1_race_words.specs.{ℕ, cond, eqb, List, length, set, get_or, Bool, true, false, Some, refl, sym, ◌∙◌, inl, inr, ⊎_elim, arith, length-set, eq-eqb, some, some-injective, ℕ_discrete, get_elem?, set_here, set_else, Shape, View, Begun, MadeDirty, mark_word, In, Held, claims_of, cleanings_of, claims_at, cleanings_at, as_number, times, total, Claimed, Counted, Raced, looked, owed_card, dirtied, Sits, flag, cleaned, Covered, Flagged}
-use Rattle.g1_race_words.proofs.Plain.{put_here, read_at, read_is, total_set, held_on, held_same, some_same}
+use Rattle.g1_race_words.proofs.Plain.{in_cond, in_cond_back, in_cond_here, put_here, read_at, read_is, total_set, held_on, held_same, some_same}
 use Rattle.g1_race_words.proofs.CoverStores.{covered_looked, covered_dirtied}
 use Rattle.g1_race_words.proofs.PairBits.{same_bits, bit_as}
 use Rattle.g1_race_words.proofs.Flags.{flags_stay, none_dirtied}
@@ -24,19 +24,7 @@ raced_looked begun words views id v c sits owes lt at h = let w = looked v (get_
     (counted_stays begun.shape begun.words words words views id v w at refl refl (λ c. refl) h.counted)
     (flags_stay begun.shape words words views id v w at refl (λ d below m. m) (λ d b. b) h.flagged) h
 
--- a list that gains a card, or doesn't
-
-in_cond : (b : Bool) (c x : ℕ) (l : List ℕ) → In l x → In (cond b (c ∷ l) l) x
-in_cond true c x l h = inr h
-in_cond false c x l h = h
-
-in_cond_back : (b : Bool) (c x : ℕ) (l : List ℕ) → In (cond b (c ∷ l) l) x → (c ≡ x) ⊎ In l x
-in_cond_back true c x l h = h
-in_cond_back false c x l h = inr h
-
-in_cond_here : (b : Bool) (c : ℕ) (l : List ℕ) → b ≡ true → In (cond b (c ∷ l) l) c
-in_cond_here true c l e = inl refl
-in_cond_here false c l e = absurd (cc)
+-- how often a card is in a list that gains it, or doesn't
 
 times_here : (d c : ℕ) (b : Bool) (l : List ℕ) → d ≡ c → times d (cond b (c ∷ l) l) ≡ as_number b + times d l
 times_here d c true l e = omega (arith, e, same_is d c)
@@ -106,7 +94,7 @@ pub raced_dirtied : (begun : Begun) (words : List ℕ) (views : List View) (id :
 raced_dirtied begun words views id v c sits owes is lt at h = raced_swapped begun words views id v w c 1 lt at h sits.weight (refl, refl, refl, refl) refl refl
     (covered_dirtied k begun.pairs words views id v c n owes (omega (arith, h.sized)) at h.covered)
     (claimed_swapped begun words views id v w c 1 lt at h (λ d i. in_cond (eqb n 0) c d v.claims i)
-    (λ d ne i. ⊎_elim (λ (e : c ≡ d). absurd (ne (sym e))) (λ (j : In v.claims d). j) (in_cond_back (eqb n 0) c d v.claims i)) (λ d i. i) made)
+    (λ d ne i. ⊎_elim (λ (e : (c ≡ d) × (eqb n 0 ≡ true)). absurd (ne (sym e.0))) (λ (j : In v.claims d). j) (in_cond_back (eqb n 0) c d v.claims i)) (λ d i. i) made)
     (counted_swapped begun words views id v w c 1 lt at h
     (λ d e. let a : claims_at d w ≡ as_number (eqb n 0) + claims_at d v = times_here d c (eqb n 0) v.claims e in let b = gains (mark_is begun words views id v w c 1 lt at h) in omega (arith, a, b)) (λ d ne. (times_other d c (eqb n 0) v.claims ne, refl)))
     (flagged_dirtied k words views id v c n owes is lt at h.flagged)

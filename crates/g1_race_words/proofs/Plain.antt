@@ -1,6 +1,6 @@
 -- Lists, and what some seat's view holds.
 use Rattle.std.specs.Prelude.{◌≡◌, ◌≢◌, ◌⊎◌, ◌↔◌, ◌+◌, ◌<◌, ◌≤◌, ◌∷◌, ◌++◌}
-use Rattle.g1_race_words.specs.{ℕ, zero, suc, cond, List, [], length, set, get_or, Bool, true, false, refl, sym, ap, ◌∙◌, subst, inl, inr, ⊎_elim, arith, some, some-ne-none, some-injective, ℕ_discrete, get_elem?, at_set, at_snoc, set_else, at_longer, View, In, Held, OfSome, total, weigh}
+use Rattle.g1_race_words.specs.{ℕ, zero, suc, cond, List, [], length, set, get_or, Bool, true, false, refl, sym, ap, ◌∙◌, subst, inl, inr, ⊎_elim, arith, some, some-ne-none, some-injective, ℕ_discrete, get_elem?, set_here, at_set, at_snoc, set_else, at_longer, View, In, Held, OfSome, total, weigh}
 use Rattle.g1_race_words.proofs.Places.{at_read, reads_as}
 
 module _ {A : Type 0} where
@@ -18,11 +18,6 @@ module _ {A : Type 0} where
   in_either (y ∷ xs) ys x (inl e) = inl (inl e)
   in_either (y ∷ xs) ys x (inr h) = ⊎_elim (λ (a : In xs x). inl (inr a)) (λ (b : In ys x). inr b) (in_either xs ys x h)
 
-  pub put_here : (l : List A) (i : ℕ) (a b : A) → get_elem? l i ≡ some a → get_elem? (set l i b) i ≡ some b
-  put_here [] i a b e = absurd (some-ne-none a (sym e))
-  put_here (x ∷ xs) zero a b e = refl
-  put_here (x ∷ xs) (suc i) a b e = put_here xs i a b e
-
   pub one_there : (l : List A) (i : ℕ) (a b : A) → get_elem? l i ≡ some a → get_elem? l i ≡ some b → a ≡ b
   one_there l i a b e f = some-injective a b (sym e ∙ f)
 
@@ -30,6 +25,27 @@ module _ {A : Type 0} where
   within [] i a e = absurd (some-ne-none a (sym e))
   within (x ∷ xs) zero a e = omega arith
   within (x ∷ xs) (suc i) a e = let h = within xs i a e in omega arith
+
+  pub put_here : (l : List A) (i : ℕ) (a b : A) → get_elem? l i ≡ some a → get_elem? (set l i b) i ≡ some b
+  put_here l i a b e = set_here l i b (within l i a e)
+
+  -- a list with one value
+  pub in_one : (l : List A) (x y : A) → l ≡ x ∷ [] → In l y → x ≡ y
+  in_one l x y one i = elim (rw one at i) [ inl e ↦ e | inr n ↦ absurd n ]
+
+  -- a list that gains a value, where a test says so
+  pub in_cond : (b : Bool) (c x : A) (l : List A) → In l x → In (cond b (c ∷ l) l) x
+  in_cond true c x l h = inr h
+  in_cond false c x l h = h
+
+  pub in_cond_back : (b : Bool) (c x : A) (l : List A) → In (cond b (c ∷ l) l) x → ((c ≡ x) × (b ≡ true)) ⊎ In l x
+  in_cond_back true c x l (inl e) = inl (e, refl)
+  in_cond_back true c x l (inr h) = inr h
+  in_cond_back false c x l h = inr h
+
+  pub in_cond_here : (b : Bool) (c : A) (l : List A) → b ≡ true → In (cond b (c ∷ l) l) c
+  in_cond_here true c l e = inl refl
+  in_cond_here false c l e = absurd (cc)
 
 pub set_read : (l : List ℕ) (i : ℕ) → set l i (get_or l i 0) ≡ l
 set_read [] i = refl

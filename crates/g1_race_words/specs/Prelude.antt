@@ -4,7 +4,7 @@ pub use Rattle.std.proofs.Common.{div-lt_iff_lt-mul, drop, eq-eqb, eqb, false, g
 pub use Rattle.std.proofs.Common.{length, length-set, List, ltb-true, map, mod-lt, nat_lt, ne_eqb}
 pub use Rattle.std.proofs.Common.{None, refl, set, Some, subst, suc, sym, take, true, w64, zero, ℕ}
 pub use Rattle.std.proofs.Common.{⊎_elim, ◌∙◌}
-pub use Rattle.std.proofs.lemmas.Bool.{cases_eq, cases_lt, le-ltb, lt-ltb}
+pub use Rattle.std.proofs.lemmas.Bool.{cases_eq, cases_lt, eqb-true, le-ltb, lt-ltb}
 pub use Rattle.std.proofs.lemmas.List.{append-nil, get_or-set_other, get_or-set_same, map-set}
 pub use Rattle.std.proofs.lemmas.List.{take-set-le, take-take}
 pub use Rattle.std.proofs.lemmas.Nat.{div-mul-add, mod-mul-add, mul-add-lt}
