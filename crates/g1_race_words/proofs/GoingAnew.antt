@@ -1,7 +1,7 @@
 -- What is known where one seat has all the weight, and how a race begins anew.
 use Rattle.std.specs.Prelude.{◌≡◌, ◌⊎◌, ◌<◌, ◌≤◌, ◌∷◌}
 use Rattle.g1_race_words.specs.{ℕ, zero, suc, List, [], set, true, refl, sym, ap, ◌∙◌, subst, inl, inr, ⊎_elim, arith, nat_lt, some, some-ne-none, get_elem?, Shape, View, Start, In, Held, cleanings_of, pairs_found, held_of, slot_card, region_at, mark_word, AnswersFor, IsMarked, IsWholeShape, HasBit, IsNoted, StoredInto, BeganInto, Someone, OfSome, cases_eq, AtRest, IsBlank, MadeDirty, total, as_number, tally, numbers, front, pairs_up_to, Raced, IsBegun, Going, started, beginning, start_of}
-use Rattle.g1_race_words.proofs.Plain.{one_there, each_set, total_none, weigh_set, weigh_all}
+use Rattle.g1_race_words.proofs.Plain.{one_there, each_set, total_none, weigh_all, total_set}
 use Rattle.g1_race_words.proofs.Tallies.{numbers_none}
 use Rattle.g1_race_words.proofs.AtBeginning.{raced_fresh, going_fresh}
 use Rattle.g1_race_words.proofs.Going.{others_blank, Agrees, known}
@@ -41,7 +41,7 @@ module _ (k : Shape) (words : List ℕ) (views : List View) (id : ℕ) (v : View
   pub going_anew : (new : List ℕ) (w : View) → IsBegun (started k new) → IsBlank w → w.weight ≡ k.members → w.spare ≡ k.members → start_of w ≡ started k new → Going k new (set views id w)
   going_anew new w b still weight spare is = going_fresh k new (set views id w) w.frozen b
       (raced_fresh k new (set views id w) b (each_set views id w IsBlank others still)
-      (let a = weigh_set views id v w at in let t = h.raced.weighed.0 in omega (arith, a, t, all, weight))
+      (let a = total_set (λ u. u.weight) views id v w at in let t = h.raced.weighed.0 in omega (arith, a, t, all, weight))
       (λ m.
       let a = total_alone (numbers m) views id v w at (no_numbers m) in
       let t : tally m w.histories ≡ 0 = ap (tally m) still.1 in

@@ -155,6 +155,9 @@ total_set f [] id v w at = absurd (some-ne-none v (sym at))
 total_set f (u ∷ us) zero v w at = let e : f u ≡ f v = ap f (some-injective u v at) in omega arith
 total_set f (u ∷ us) (suc id) v w at = let e = total_set f us id v w at in omega arith
 
+pub total_same : (f : View → ℕ) (views : List View) (id : ℕ) (v w : View) → get_elem? views id ≡ some v → f v ≡ f w → total f (set views id w) ≡ total f views
+total_same f views id v w at e = let a = total_set f views id v w at in omega (arith, a, e)
+
 pub total_snoc : (f : View → ℕ) (views : List View) (w : View) → total f (views ++ w ∷ []) ≡ total f views + f w
 total_snoc f [] w = omega arith
 total_snoc f (u ∷ us) w = let e = total_snoc f us w in omega arith
@@ -175,12 +178,6 @@ total_two f (x ∷ xs) zero zero u v at there apart = absurd (apart refl)
 total_two f (x ∷ xs) zero (suc j) u v at there apart = let a : f x ≡ f u = ap f (some-injective x u at) in let b = total_one f xs j v there in omega arith
 total_two f (x ∷ xs) (suc i) zero u v at there apart = let a : f x ≡ f v = ap f (some-injective x v there) in let b = total_one f xs i u at in omega arith
 total_two f (x ∷ xs) (suc i) (suc j) u v at there apart = let b = total_two f xs i j u v at there (λ k. apart (ap suc k)) in omega arith
-
-pub weigh_set : (views : List View) (id : ℕ) (v w : View) → get_elem? views id ≡ some v → weigh (set views id w) + v.weight ≡ weigh views + w.weight
-weigh_set views id v w at = total_set (λ (y : View). y.weight) views id v w at
-
-pub weigh_snoc : (views : List View) (w : View) → weigh (views ++ w ∷ []) ≡ weigh views + w.weight
-weigh_snoc views w = total_snoc (λ (y : View). y.weight) views w
 
 -- where one seat has all the weight, no other has any
 pub weigh_all : (views : List View) (id other : ℕ) (v u : View) → get_elem? views id ≡ some v → get_elem? views other ≡ some u → ¬ (other ≡ id) → weigh views ≡ v.weight → u.weight ≡ 0

@@ -1,7 +1,7 @@
 -- A seat is split off, takes in another, or comes.
 use Rattle.std.specs.Prelude.{◌≡◌, ◌⊎◌, ◌+◌, ◌<◌, ◌∷◌, ◌++◌, ◌≤◌}
 use Rattle.g1_race_words.specs.{ℕ, List, [], set, refl, sym, ap, ◌∙◌, inl, inr, ⊎_elim, arith, append-nil, some, get_elem?, Shape, View, Begun, In, Held, AnswersFor, StoreHistory, histories_of, claims_of, cleanings_of, pairs_found, held_of, flagged_of, Covered, AtRest, IsBlank, numbers, Weighed, Numbered, Raced, times, claims_at, cleanings_at, sum_at, stored_sum, overwritten_sum, total, after_split, both}
-use Rattle.g1_race_words.proofs.Plain.{each_set, each_snoc, some_longer, some_shorter, held_more, held_same, held_split, held_join, weigh_set, weigh_snoc, total_set, total_snoc}
+use Rattle.g1_race_words.proofs.Plain.{each_set, each_snoc, some_longer, some_shorter, held_more, held_same, held_split, held_join, total_set, total_snoc}
 use Rattle.g1_race_words.proofs.Tallies.{tally_append, times_append, numbers_none}
 use Rattle.g1_race_words.proofs.Cover.{covered_moves}
 use Rattle.g1_race_words.proofs.CoverSweeps.{covered_split, covered_join}
@@ -19,7 +19,7 @@ held_split_blank views id v left right at e none h = let same = held_same histor
 
 weighed_split : (k : Shape) (views : List View) (id : ℕ) (v right : View) → get_elem? views id ≡ some v → IsBlank v → 0 < v.weight → right.weight ≡ 1 → Weighed k views → Weighed k (set views id (after_split v) ++ right ∷ [])
 weighed_split k views id v right at still heavy one h = let left = after_split v in (
-  let a = weigh_set views id v left at in let b = weigh_snoc (set views id left) right in let t = h.0 in omega arith,
+  let a = total_set (λ u. u.weight) views id v left at in let b = total_snoc (λ u. u.weight) (set views id left) right in let t = h.0 in omega arith,
   each_snoc (set views id left) right (λ (u : View). u.weight ≡ 0 → IsBlank u) (each_set views id left (λ (u : View). u.weight ≡ 0 → IsBlank u) (λ seat u there ne. h.1 seat u there) (λ none. still)) (λ none. absurd (omega (arith, one, none))),
 )
 
@@ -44,12 +44,12 @@ raced_split begun words views id v right still heavy one fewer fresh claims clea
   weighed = weighed_split begun.shape views id v right at still heavy one h.weighed;
   numbered = numbered_split begun.shape views id v (after_split v) right at fewer h.numbered;
   stored = stored_same begun.shape begun.words words words views after (same_slots begun.shape words) (λ g. (held g).0) (λ g. (held g).1) h.stored;
-  balanced = balance_same begun.shape begun.words words views after (λ f q. total_split (stored_sum f q) views id v (after_split v) right at refl (none_in f q right.histories fresh))
+  balanced = balance_same begun.shape begun.words words words views after (same_slots begun.shape words) (λ f q. total_split (stored_sum f q) views id v (after_split v) right at refl (none_in f q right.histories fresh))
       (λ f q. total_split (overwritten_sum f q) views id v (after_split v) right at refl (ap (sum_at f q) over)) h.balanced;
   recorded = recorded_same begun.shape begun.words views after (λ g. (held g).0) (held_split pairs_found views id v (after_split v) right at refl pairs) h.recorded;
   kept = kept_same begun.shape begun.pairs words words views after (λ x. refl) (held_split pairs_found views id v (after_split v) right at refl pairs) (held_split held_of views id v (after_split v) right at refl held_none) h.kept;
   claimed = claimed_same begun.shape begun.words words words views after (λ c. refl) (held_split claims_of views id v (after_split v) right at refl claims) (held_split cleanings_of views id v (after_split v) right at refl cleanings) h.claimed;
-  counted = counted_same begun.shape begun.words words views after (λ c. total_split (claims_at c) views id v (after_split v) right at refl (ap (times c) claims))
+  counted = counted_same begun.shape begun.words words words views after (λ c. refl) (λ c. total_split (claims_at c) views id v (after_split v) right at refl (ap (times c) claims))
       (λ c. total_split (cleanings_at c) views id v (after_split v) right at refl (ap (times c) cleanings)) h.counted;
   flagged = flags_moved begun.shape words words views after (λ c lt m. m) (λ c b. b) (λ c. (held_split flagged_of views id v (after_split v) right at refl flag_none c).1) h.flagged;
 }
@@ -59,7 +59,7 @@ raced_split begun words views id v right still heavy one fewer fresh claims clea
 weighed_join : (k : Shape) (views : List View) (id : ℕ) (v : View) (other : ℕ) (u spent : View) → u.weight ≡ 1 → IsBlank spent → spent.weight ≡ 0
     → get_elem? views id ≡ some v → ¬ (other ≡ id) → get_elem? (set views id (both v u)) other ≡ some u → Weighed k views → Weighed k (set (set views id (both v u)) other spent)
 weighed_join k views id v other u spent one still none at apart there h = let w = both v u in (
-  let a = weigh_set views id v w at in let b = weigh_set (set views id w) other u spent there in let t = h.0 in omega arith,
+  let a = total_set (λ u. u.weight) views id v w at in let b = total_set (λ u. u.weight) (set views id w) other u spent there in let t = h.0 in omega arith,
   each_set (set views id w) other spent (λ (u : View). u.weight ≡ 0 → IsBlank u) (λ seat x is ne. each_set views id w (λ (u : View). u.weight ≡ 0 → IsBlank u) (λ seat x is ne. h.1 seat x is) (λ light. absurd (omega (arith, one, light))) seat x is) (λ light. still),
 )
 
@@ -81,13 +81,13 @@ raced_join begun words views id v other u spent one rest still none given at apa
   weighed = weighed_join begun.shape views id v other u spent one still none at apart there h.weighed;
   numbered = numbered_join begun.shape views id v other u spent still given at there h.numbered;
   stored = stored_same begun.shape begun.words words words views after (same_slots begun.shape words) (λ g. (held g).0) (λ g b. inl ((held g).1 b)) h.stored;
-  balanced = balance_same begun.shape begun.words words views after (λ f q. total_join (stored_sum f q) views id v w other u spent at there (sum_in_both f q v.histories u.histories) (ap (sum_in f q) still.1))
+  balanced = balance_same begun.shape begun.words words words views after (same_slots begun.shape words) (λ f q. total_join (stored_sum f q) views id v w other u spent at there (sum_in_both f q v.histories u.histories) (ap (sum_in f q) still.1))
       (λ f q. total_join (overwritten_sum f q) views id v w other u spent at there (sum_both f q v.overwritten u.overwritten) (ap (sum_at f q) still.5)) h.balanced;
   recorded = recorded_same begun.shape begun.words views after (λ g. (held g).0) (held_join pairs_found views id v u w spent other at apart there refl still.4) h.recorded;
   kept = kept_same begun.shape begun.pairs words words views after (λ x. refl) (held_join pairs_found views id v u w spent other at apart there refl still.4)
       (held_join held_of views id v u w spent other at apart there (sym (ap (λ (l : List (ℕ × ℕ)). v.held ++ l) rest.2 ∙ append-nil v.held)) still.0.2) h.kept;
   claimed = claimed_same begun.shape begun.words words words views after (λ c. refl) (held_join claims_of views id v u w spent other at apart there refl still.2) (held_join cleanings_of views id v u w spent other at apart there refl still.3) h.claimed;
-  counted = counted_same begun.shape begun.words words views after (λ c. total_join (claims_at c) views id v w other u spent at there (times_append c v.claims u.claims) (ap (times c) still.2))
+  counted = counted_same begun.shape begun.words words words views after (λ c. refl) (λ c. total_join (claims_at c) views id v w other u spent at there (times_append c v.claims u.claims) (ap (times c) still.2))
       (λ c. total_join (cleanings_at c) views id v w other u spent at there (times_append c v.cleanings u.cleanings) (ap (times c) still.3)) h.counted;
   flagged = flags_moved begun.shape words words views after (λ c lt m. m) (λ c b. b)
       (λ c. (held_join flagged_of views id v u w spent other at apart there (sym (ap (λ (l : List ℕ). v.flagged ++ l) rest.3 ∙ append-nil v.flagged)) still.0.3 c).1) h.flagged;
@@ -108,7 +108,7 @@ raced_enter begun words views w still light none h = let after = views ++ w ∷ 
   bounded = h.bounded;
   covered = covered_more begun.shape begun.pairs words views w h.covered;
   weighed = (
-    let e = weigh_snoc views w in let t = h.weighed.0 in omega arith,
+    let e = total_snoc (λ u. u.weight) views w in let t = h.weighed.0 in omega arith,
     each_snoc views w (λ (u : View). u.weight ≡ 0 → IsBlank u) h.weighed.1 (λ none. still),
   );
   numbered = λ m.
@@ -116,10 +116,10 @@ raced_enter begun words views w still light none h = let after = views ++ w ∷ 
       let d = numbers_none m w still.1 none in
       let t = h.numbered m in omega (arith, a, d, t);
   stored = stored_same begun.shape begun.words words words views after (same_slots begun.shape words) (λ g. (held g).0) (λ g b. inl ((held g).1 b)) h.stored;
-  balanced = balance_same begun.shape begun.words words views after (λ f q. total_more (stored_sum f q) views w (ap (sum_in f q) still.1)) (λ f q. total_more (overwritten_sum f q) views w (ap (sum_at f q) still.5)) h.balanced;
+  balanced = balance_same begun.shape begun.words words words views after (same_slots begun.shape words) (λ f q. total_more (stored_sum f q) views w (ap (sum_in f q) still.1)) (λ f q. total_more (overwritten_sum f q) views w (ap (sum_at f q) still.5)) h.balanced;
   recorded = recorded_same begun.shape begun.words views after (λ g. (held g).0) (held_more pairs_found views w still.4) h.recorded;
   kept = kept_same begun.shape begun.pairs words words views after (λ x. refl) (held_more pairs_found views w still.4) (held_more held_of views w still.0.2) h.kept;
   claimed = claimed_same begun.shape begun.words words words views after (λ c. refl) (held_more claims_of views w still.2) (held_more cleanings_of views w still.3) h.claimed;
-  counted = counted_same begun.shape begun.words words views after (λ c. total_more (claims_at c) views w (ap (times c) still.2)) (λ c. total_more (cleanings_at c) views w (ap (times c) still.3)) h.counted;
+  counted = counted_same begun.shape begun.words words words views after (λ c. refl) (λ c. total_more (claims_at c) views w (ap (times c) still.2)) (λ c. total_more (cleanings_at c) views w (ap (times c) still.3)) h.counted;
   flagged = flags_moved begun.shape words words views after (λ c lt m. m) (λ c b. b) (λ c. (held_more flagged_of views w still.0.3 c).1) h.flagged;
 }
