@@ -1,6 +1,6 @@
 -- What a race begins with keeps its rule.
 use Rattle.std.specs.Prelude.{◌≡◌, ◌+◌, ◌<◌, ◌≤◌, ◌∷◌}
-use Rattle.g1_race_words.specs.{ℕ, zero, suc, Bool, true, List, [], length, get_or, take, refl, sym, ap, ◌∙◌, subst, inl, inr, ⊎_elim, arith, replicate, bit_at, bit_at-zero, some, some-ne-none, some-injective, get_elem?, Shape, View, MadeDirty, IsBegun, IsWholeShape, HasBit, bit_word, bit_place, slot_card, mark_word, region_at, In, Held, claims_of, pairs_found, IsMarked, IsBlank, Raced, Going, front, pairs_up_to, null_of, started, beginning, start_of, Numbered, weigh, times, claims_at, cleanings_at, sum_at, stored_sum, overwritten_sum, histories_of, held_of, flagged_of, word_count, frozen_seat}
+use Rattle.g1_race_words.specs.{ℕ, zero, suc, Bool, true, List, [], length, get_or, take, refl, sym, ap, ◌∙◌, subst, inl, inr, ⊎_elim, arith, replicate, length-replicate, bit_at, bit_at-zero, some, some-ne-none, some-injective, get_elem?, Shape, View, MadeDirty, IsBegun, IsWholeShape, HasBit, bit_word, bit_place, slot_card, mark_word, region_at, In, Held, claims_of, pairs_found, IsMarked, IsBlank, Raced, Going, front, pairs_up_to, null_of, started, beginning, start_of, Numbered, weigh, times, claims_at, cleanings_at, sum_at, stored_sum, overwritten_sum, histories_of, held_of, flagged_of, word_count, frozen_seat}
 use Rattle.g1_race_words.proofs.PairBits.{crossing_pair}
 use Rattle.g1_race_words.proofs.Places.{at_read, at_take, at_untake, reads_as}
 use Rattle.g1_race_words.proofs.Listing.{in_set, set_in}
@@ -16,15 +16,11 @@ zeros_read zero i = refl
 zeros_read (suc n) zero = refl
 zeros_read (suc n) (suc i) = zeros_read n i
 
-pub length_zeros : (n : ℕ) → length (zeros n) ≡ n
-length_zeros zero = refl
-length_zeros (suc n) = ap suc (length_zeros n)
-
 pub at_zeros : (n i x : ℕ) → get_elem? (zeros n) i ≡ some x → x ≡ 0
 at_zeros n i x e = sym (reads_as (zeros n) i x 0 e) ∙ zeros_read n i
 
 pub zero_at : (n i : ℕ) → i < n → get_elem? (zeros n) i ≡ some 0
-zero_at n i h = at_read (zeros n) i 0 (omega (arith, length_zeros n)) ∙ ap some (zeros_read n i)
+zero_at n i h = at_read (zeros n) i 0 (omega (arith, length-replicate {A = ℕ} n 0)) ∙ ap some (zeros_read n i)
 
 only : (v w : View) (seat : ℕ) → get_elem? (v ∷ []) seat ≡ some w → v ≡ w
 only v w zero e = some-injective v w e
@@ -88,7 +84,7 @@ no_bit k words x e b = absurd (let z : bit_at (get_or words (bit_word k x) 0) (b
 pub null_begun : (k : Shape) → IsWholeShape k → IsBegun (null_of k)
 null_begun k shaped = let all = word_count k in record {
   shaped = shaped;
-  sized = length_zeros all;
+  sized = length-replicate all 0;
   bounded = λ p n lt at. inl (let e = at_zeros all p n at in omega arith);
   marks = λ c lt. inr (zero_at all (mark_word k c) (omega arith));
   covered = λ p n lt at cr. absurd (null_stays k p n (at_zeros all p n at) cr);

@@ -1,9 +1,9 @@
 -- What the calls of a step ask, of the table and the seat inside.
 use Rattle.std.specs.Prelude.{◌≡◌, ◌+◌, ◌-◌, ◌*◌, ◌%◌, ◌^◌, ◌<◌, ◌≤◌, ◌==◌, ◌∷◌}
-use Rattle.g1_race_words.specs.{ℕ, bit_or, cond, List, [], set, get_or, Bool, true, false, None, refl, sym, ap, ◌∙◌, subst, inl, inr, arith, some, get_elem?, either, State, Me, keeps, Allows, Splits, Joins, Enters, TableId, Seat, set_again, Shape, View, Start, AtRest, Going, In, StoreHistory, IsBegun, IsBlank, IsWholeShape, IsWord, Raced, beginning, mark_word, bit_word, bit_place, flag, started, start_of, word_count, blank, both, whole_seat, cleaned, dirtied, exchanged, frozen_seat, after_split, looked, new_racer, new_sweeper, new_reader, no_seat, numbers, owed_card, put, raised, read, recorded, sought, spotted, thawed, wrote, Freezes, HoldsBit, IsWholeSeat, IsFound, IsMark, IsPaused, IsLent, IsReading, OwesFlag, OwesMark, Sits}
+use Rattle.g1_race_words.specs.{ℕ, bit_or, cond, List, [], set, get_or, Bool, true, false, None, refl, sym, ap, ◌∙◌, subst, inl, inr, arith, some, get_elem?, either, State, Me, keeps, Allows, Splits, Joins, Enters, TableId, Seat, set_again, set-get_or, Shape, View, Start, AtRest, Going, In, StoreHistory, IsBegun, IsBlank, IsWholeShape, IsWord, Raced, beginning, mark_word, bit_word, bit_place, flag, started, start_of, word_count, blank, both, whole_seat, cleaned, dirtied, exchanged, frozen_seat, after_split, looked, new_racer, new_sweeper, new_reader, no_seat, numbers, owed_card, put, raised, read, recorded, sought, spotted, thawed, wrote, Freezes, HoldsBit, IsWholeSeat, IsFound, IsMark, IsPaused, IsLent, IsReading, OwesFlag, OwesMark, Sits}
 use Rattle.g1_race_words.proofs.PairBits.{word_below}
 use Rattle.g1_race_words.proofs.Flags.{flag_below}
-use Rattle.g1_race_words.proofs.Plain.{set_read, read_at}
+use Rattle.g1_race_words.proofs.Plain.{read_at}
 use Rattle.g1_race_words.proofs.Tallies.{number_given, number_dropped}
 use Rattle.g1_race_words.proofs.Writing.{raced_wrote}
 use Rattle.g1_race_words.proofs.Marking.{raced_looked, raced_dirtied, raced_cleaned}
@@ -61,7 +61,7 @@ module _ (z : TableId) (k : Shape) (fits : z.words ≡ word_count k) (shaped : I
       → ((words : List ℕ) (views : List View) (h : Going k words views) → get_elem? views s.id ≡ some v
       → Raced (begun k words views h) words (set views s.id (w (get_or words i 0))) × then (get_or words i 0) (w (get_or words i 0), s.me.1))
       → Owed i (λ n. n) then
-  loads i w then lt sits stays goes = swaps i (λ n. n) w then lt sits stays (λ words views h at. rw (set_read words i) (goes words views h at))
+  loads i w then lt sits stays goes = swaps i (λ n. n) w then lt sits stays (λ words views h at. rw (set-get_or words i 0) (goes words views h at))
 
   -- what a step finds at a slot
   found : (p : ℕ) (words : List ℕ) (views : List View) (h : Going k words views) → get_elem? views s.id ≡ some v → v.weight ≡ 1 → p < k.slots → IsFound v p (get_or words p 0)
@@ -90,7 +90,7 @@ module _ (z : TableId) (k : Shape) (fits : z.words ≡ word_count k) (shaped : I
 
       goes : (words : List ℕ) (views : List View) (h : Going k words views) → get_elem? views s.id ≡ some v → (b : Bool) → let m = get_or words p 0 in Raced (begun k words views h) (set words p (either b n m)) (set views s.id (cond b (wrote v p n m) v))
       goes words views h at true = raced_wrote (begun k words views h) words views s.id v p n racer.1.0 racer.0 free racer.1.1 lt bound at h.raced
-      goes words views h at false = rw (set_read words p, set_again views s.id v at) h.raced
+      goes words views h at false = rw (set-get_or words p 0, set_again views s.id v at) h.raced
 
   pub look_owed : (word : ℕ) → Sits k v → OwesMark k v word → Owed word (λ n. n) (Is (looked v))
   look_owed word sits (c, owes, lt, is) = rw is (loads (mark_word k c) (looked v) (Is (looked v)) (omega (arith, fits, lt)) sits (λ n. (refl, refl, refl, refl))
@@ -162,7 +162,7 @@ module _ (z : TableId) (k : Shape) (fits : z.words ≡ word_count k) (shaped : I
     table,
     omega (arith, fits, lt),
     λ t h len at bound.
-        (v, keeps, tt, rw (set_read t.words p, set_again t.views s.id v at) h, (refl, ap (λ (l : List ℕ). get_elem? l p) (sym (known k t.words t.views h s.id v at reads.weight reads.frozen)) ∙ read_at t.words p (omega (arith, h.raced.sized, lt)))),
+        (v, keeps, tt, rw (set-get_or t.words p 0, set_again t.views s.id v at) h, (refl, ap (λ (l : List ℕ). get_elem? l p) (sym (known k t.words t.views h s.id v at reads.weight reads.frozen)) ∙ read_at t.words p (omega (arith, h.raced.sized, lt)))),
   )
 
   module _ (pos : 0 < k.members) where
@@ -178,7 +178,7 @@ module _ (z : TableId) (k : Shape) (fits : z.words ≡ word_count k) (shaped : I
             w,
             keeps,
             tt,
-            rw (set_read t.words 0) (going_anew k t.words t.views s.id v all pos h at t.words w here ((refl, refl, refl, refl), refl, refl, refl, refl, refl) all all (ap (λ (x : Shape). started x t.words) shape)),
+            rw (set-get_or t.words 0 0) (going_anew k t.words t.views s.id v all pos h at t.words w here ((refl, refl, refl, refl), refl, refl, refl, refl, refl) all all (ap (λ (x : Shape). started x t.words) shape)),
             record {
               words = t.words;
               views = t.views;
@@ -214,7 +214,7 @@ module _ (z : TableId) (k : Shape) (fits : z.words ≡ word_count k) (shaped : I
       )
 
       pub thaw_owed : Owed 0 (λ n. n) (λ n after. after ≡ (thawed v, s.me.1))
-      thaw_owed = anew 0 (λ n. n) v.began_words false some_word paused.begun (set_read v.began_words 0)
+      thaw_owed = anew 0 (λ n. n) v.began_words false some_word paused.begun (set-get_or v.began_words 0 0)
 
       pub put_owed : (p n : ℕ) → p < word_count k → IsBegun (started k (set v.began_words p n)) → Owed p (λ _. n) (Is (λ _. put v p n))
       put_owed p n lt begun = anew p (λ _. n) (set v.began_words p n) v.frozen (omega (arith, fits, lt)) begun refl

@@ -47,11 +47,6 @@ module _ {A : Type 0} where
   in_cond_here true c l e = inl refl
   in_cond_here false c l e = absurd (cc)
 
-pub set_read : (l : List ℕ) (i : ℕ) → set l i (get_or l i 0) ≡ l
-set_read [] i = refl
-set_read (x ∷ xs) zero = refl
-set_read (x ∷ xs) (suc i) = ap (λ (l : List ℕ). x ∷ l) (set_read xs i)
-
 pub read_is : (l : List ℕ) (i n : ℕ) → get_elem? l i ≡ some n → get_or l i 0 ≡ n
 read_is l i n = reads_as l i n 0
 

@@ -6,7 +6,7 @@ pub use Rattle.std.proofs.Common.{None, refl, set, Some, subst, suc, sym, take, 
 pub use Rattle.std.proofs.Common.{⊎_elim, ◌∙◌}
 pub use Rattle.std.proofs.lemmas.Bool.{cases_eq, cases_lt, eqb-true, le-ltb, lt-ltb}
 pub use Rattle.std.proofs.lemmas.List.{append-nil, get_or-set_other, get_or-set_same, map-set}
-pub use Rattle.std.proofs.lemmas.List.{take-set-le, take-take}
+pub use Rattle.std.proofs.lemmas.List.{length-replicate, set-get_or, take-set-le, take-take}
 pub use Rattle.std.proofs.lemmas.Nat.{div-mul-add, mod-mul-add, mul-add-lt}
 pub use Rattle.std.proofs.lemmas.Nat.Bits.{bit_at-zero, bit_at_set_other, bit_at_set_same}
 pub use Rattle.std.specs.Int.{bit_at}
