@@ -3,7 +3,6 @@ use Rattle.std.specs.Prelude.{◌≡◌, ◌⊎◌, ◌<◌}
 use Rattle.g1_race_words.specs.{ℕ, List, set, true, inl, inr, ⊎_elim, some, get_elem?, Shape, View, slot_card, region_at, crosses, In, AnswersFor, IsMarked, Someone, Covered}
 use Rattle.g1_race_words.proofs.Plain.{put_here, some_or}
 
--- what the steps have in common: each reference that crosses is answered for anew, or was answered for, and each answer is handed on
 abbrev pub Answered : Shape → List ℕ → List View → ℕ → ℕ → Type 0
 Answered k words views p n = IsMarked k words p ⊎ Someone k views p n
 

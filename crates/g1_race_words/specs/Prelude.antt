@@ -1,7 +1,7 @@
 -- What the crate takes from the libraries below it.
 pub use Rattle.std.proofs.Common.{[], ap, arith, bit_or, Bool, cond, Contains, div-add-mod'}
 pub use Rattle.std.proofs.Common.{div-lt_iff_lt-mul, drop, eq-eqb, eqb, false, get_or, inl, inr}
-pub use Rattle.std.proofs.Common.{length, length-set, List, ltb-true, map, mod-lt, nat_lt, ne_eqb}
+pub use Rattle.std.proofs.Common.{length, length-set, List, map, mod-lt, nat_lt, ne_eqb}
 pub use Rattle.std.proofs.Common.{None, refl, set, Some, subst, suc, sym, take, true, w64, zero, ℕ}
 pub use Rattle.std.proofs.Common.{⊎_elim, ◌∙◌}
 pub use Rattle.std.proofs.lemmas.Bool.{cases_eq, cases_lt, eqb-true, le-ltb, lt-ltb}
