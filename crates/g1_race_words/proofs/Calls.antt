@@ -1,64 +1,131 @@
 -- What the calls of a step ask, of the table and the seat inside.
-use Rattle.std.specs.Prelude.{◌≡◌, ◌-◌, ◌*◌, ◌%◌, ◌^◌, ◌<◌, ◌==◌, ◌∷◌}
-use Rattle.g1_race_words.specs.{ℕ, bit_or, [], set, None, refl, sym, ap, subst, arith, either, State, Me, Allows, Splits, Joins, TableId, Seat, Shape, View, AtRest, Going, StoreHistory, IsBegun, IsBlank, IsWholeShape, IsWord, bit_place, flag, started, word_count, both, whole_seat, cleaned, dirtied, exchanged, frozen_seat, after_split, looked, new_racer, new_sweeper, no_seat, owed_card, put, raised, read, recorded, sought, spotted, thawed, wrote, Freezes, HoldsBit, IsWholeSeat, IsFound, IsMark, IsPaused, OwesFlag, OwesMark, Sits, Words}
+use Rattle.std.specs.Prelude.{◌≡◌, ◌+◌, ◌-◌, ◌*◌, ◌%◌, ◌^◌, ◌<◌, ◌≤◌, ◌==◌, ◌∷◌}
+use Rattle.g1_race_words.specs.{ℕ, bit_or, cond, List, [], set, get_or, Bool, true, false, None, refl, sym, ap, ◌∙◌, subst, inl, inr, arith, some, get_elem?, either, State, Me, keeps, Allows, Splits, Joins, Enters, TableId, Seat, set_again, set-get_or, Shape, View, Start, AtRest, Going, In, StoreHistory, IsBegun, IsBlank, IsWholeShape, IsWord, Raced, beginning, mark_word, bit_word, bit_place, flag, started, start_of, word_count, blank, both, whole_seat, cleaned, dirtied, exchanged, frozen_seat, after_split, looked, new_racer, new_sweeper, new_reader, no_seat, numbers, owed_card, put, raised, read, recorded, sought, spotted, thawed, wrote, Freezes, HoldsBit, IsWholeSeat, IsFound, IsMark, IsPaused, IsLent, IsReading, OwesFlag, OwesMark, Sits}
 use Rattle.g1_race_words.proofs.PairBits.{word_below}
 use Rattle.g1_race_words.proofs.Flags.{flag_below}
-use Rattle.g1_race_words.proofs.Flagging.{allows_raise, allows_spot}
-use Rattle.g1_race_words.proofs.Allowed.{allows_clean, allows_dirty, allows_exchange, allows_look, allows_read, allows_record, allows_seek, allows_write, joins_member, splits_racer, splits_sweeper}
-use Rattle.g1_race_words.proofs.AllowedAtPause.{Knows, allows_freeze, allows_set, allows_thaw}
-
--- what is so of the models is so of what is inside
-pub inside : (P : Words → Seat (Unit {0}) View → Type 0) (t w : Words) (s q : Seat (Unit {0}) View) → t ≡ w → s ≡ q → P w q → P t s
-inside P t w s q is at = subst (λ (x : Words × Seat (Unit {0}) View). P x.0 x.1) (λ i. (sym is i, sym at i))
+use Rattle.g1_race_words.proofs.Plain.{read_at}
+use Rattle.g1_race_words.proofs.Tallies.{number_given, number_dropped}
+use Rattle.g1_race_words.proofs.Writing.{raced_wrote}
+use Rattle.g1_race_words.proofs.Marking.{raced_looked, raced_dirtied, raced_cleaned}
+use Rattle.g1_race_words.proofs.Reading.{raced_read}
+use Rattle.g1_race_words.proofs.Recording.{raced_sought, raced_recorded}
+use Rattle.g1_race_words.proofs.Raising.{raced_spotted, raced_raised}
+use Rattle.g1_race_words.proofs.Splitting.{raced_split, raced_join, raced_enter}
+use Rattle.g1_race_words.proofs.Going.{Stays, begun, known, going_step, going_split, going_join, going_enter}
+use Rattle.g1_race_words.proofs.GoingAnew.{going_anew, begun_here, known_words, raced_mine, shape_mine}
 
 abbrev Rule : Shape → State (Unit {0}) View → Type 0
 Rule k s = Going k s.words s.views
 
+-- the mark's card
+card_back : (k : Shape) (v : View) (c : ℕ) → v.shape ≡ k → mark_word k c - v.shape.slots ≡ c
+card_back k v c e = let f : v.shape.slots ≡ k.slots = ap (λ (s : Shape). s.slots) e in omega arith
+
+-- a seat that is split off
+abbrev newcomer : View → Bool → List StoreHistory → View
+newcomer v frozen histories = record (blank (start_of v) 1 histories) { frozen = frozen }
+
+splits : (k : Shape) (id : ℕ) (v : View) (frozen : Bool) (hs : List StoreHistory) → IsBlank v → 0 < v.weight → v.frozen ≡ frozen → ((h : StoreHistory) → In hs h → h.1 ≡ []) → ((m : ℕ) → numbers m (after_split v) + numbers m (newcomer v frozen hs) ≤ numbers m v)
+    → Splits (Rule k) id v (after_split v) (newcomer v frozen hs)
+splits k id v frozen hs still heavy flag fresh fewer s h at = let right = newcomer v frozen hs in
+    going_split k s.words s.views h id v right at heavy refl (sym flag) (omega arith) (raced_split (begun k s.words s.views h) s.words s.views id v right still heavy refl fewer fresh refl refl refl refl refl refl at h.raced)
+
+pub enters_blank : (k : Shape) (slots i : ℕ) (b : Start) → Enters (Rule k) slots i (λ n w. ◌≡◌ {A = Me (Unit {0}) View} (w, []) (blank b 0 [], []))
+enters_blank k slots i b s h len fits = (blank b 0 [], going_enter k s.words s.views h (blank b 0 []) refl refl (raced_enter (begun k s.words s.views h) s.words s.views (blank b 0 []) ((refl, refl, refl, refl), refl, refl, refl, refl, refl) refl refl h.raced), refl)
+
 module _ (z : TableId) (k : Shape) (fits : z.words ≡ word_count k) (shaped : IsWholeShape k) (s : Seat (Unit {0}) View) (table : s.table_id ≡ z) where
+  abbrev v : View
+  v = s.me.0
+
   abbrev Owed : ℕ → (ℕ → ℕ) → (ℕ → Me (Unit {0}) View → Type 0) → Type 0
   Owed word f then = (s.table_id ≡ z) × (word < z.words) × Allows (Rule k) z.slots s.id s.me word f then
 
-  pub write_owed : (p n : ℕ) → Sits k s.me.0 × ((h : StoreHistory) × (s.me.0.histories ≡ h ∷ [])) → s.me.0.owed ≡ None → p < k.slots → IsWord k n
-      → Owed p (λ _. n) (λ m after. (after ≡ (wrote s.me.0 p n m, s.me.1)) × IsFound s.me.0 p m)
-  write_owed p n racer free lt bound = (table, omega (arith, fits, lt), allows_write k z.slots s.id p n s.me racer.1.0 racer.0 free racer.1.1 lt bound)
+  -- the seat's view is this after the step
+  abbrev Is : (ℕ → View) → ℕ → Me (Unit {0}) View → Type 0
+  Is w n after = after ≡ (w n, s.me.1)
 
-  pub exchange_owed : (p old n : ℕ) → Sits k s.me.0 × ((h : StoreHistory) × (s.me.0.histories ≡ h ∷ [])) → s.me.0.owed ≡ None → p < k.slots → IsWord k n
-      → Owed p (λ m. either (m == old) n m) (λ m after. (after ≡ (exchanged s.me.0 p old n m, s.me.1)) × IsFound s.me.0 p m)
-  exchange_owed p old n racer free lt bound = (table, omega (arith, fits, lt), allows_exchange k z.slots s.id p old n s.me racer.1.0 racer.0 free racer.1.1 lt bound)
+  -- a member's step on a word, where the race goes on
+  swaps : (i : ℕ) (f : ℕ → ℕ) (w : ℕ → View) (then : ℕ → Me (Unit {0}) View → Type 0) → i < z.words → Sits k v → ((n : ℕ) → Stays v (w n))
+      → ((words : List ℕ) (views : List View) (h : Going k words views) → get_elem? views s.id ≡ some v
+      → Raced (begun k words views h) (set words i (f (get_or words i 0))) (set views s.id (w (get_or words i 0))) × then (get_or words i 0) (w (get_or words i 0), s.me.1))
+      → Owed i f then
+  swaps i f w then lt sits stays goes = (
+    table,
+    lt,
+    λ t h len at bound. let g = goes t.words t.views h at in let n = get_or t.words i 0 in
+        (w n, keeps, tt, going_step k t.words t.views h (set t.words i (f n)) s.id v (w n) at (omega (arith, sits.weight)) sits.going (stays n) g.0, g.1),
+  )
 
-  pub look_owed : (word : ℕ) → Sits k s.me.0 → OwesMark k s.me.0 word → Owed word (λ n. n) (λ n after. after ≡ (looked s.me.0 n, s.me.1))
-  look_owed word sits (c, owes, lt, is) = subst (λ (w : ℕ). Owed w (λ n. n) (λ n after. after ≡ (looked s.me.0 n, s.me.1))) (sym is)
-      (table, omega (arith, fits, lt), allows_look k z.slots s.id c s.me sits owes lt)
+  -- one that leaves the word as it is
+  loads : (i : ℕ) (w : ℕ → View) (then : ℕ → Me (Unit {0}) View → Type 0) → i < z.words → Sits k v → ((n : ℕ) → Stays v (w n))
+      → ((words : List ℕ) (views : List View) (h : Going k words views) → get_elem? views s.id ≡ some v
+      → Raced (begun k words views h) words (set views s.id (w (get_or words i 0))) × then (get_or words i 0) (w (get_or words i 0), s.me.1))
+      → Owed i (λ n. n) then
+  loads i w then lt sits stays goes = swaps i (λ n. n) w then lt sits stays (λ words views h at. rw (set-get_or words i 0) (goes words views h at))
 
-  pub spot_owed : (word : ℕ) → Sits k s.me.0 → (c : ℕ) → OwesFlag k s.me.0 c word → Owed word (λ n. n) (λ n after. after ≡ (spotted s.me.0 n, s.me.1))
-  spot_owed word sits c (owes, lt, is) = subst (λ (w : ℕ). Owed w (λ n. n) (λ n after. after ≡ (spotted s.me.0 n, s.me.1))) (sym is)
-      (table, omega (arith, fits, flag_below k c shaped lt), allows_spot k z.slots s.id c s.me shaped sits owes)
+  -- what a step finds at a slot
+  found : (p : ℕ) (words : List ℕ) (views : List View) (h : Going k words views) → get_elem? views s.id ≡ some v → v.weight ≡ 1 → p < k.slots → IsFound v p (get_or words p 0)
+  found p words views h at one lt = record {
+    words = words;
+    views = views;
+    id = s.id;
+    raced = subst (λ (b : Start). Raced (beginning b) words views) (sym (h.agreed s.id v at (omega (arith, one))).0) h.raced;
+    mine = at;
+    there = read_at words p (omega (arith, h.raced.sized));
+  }
 
-  pub raise_owed : (word place : ℕ) → Sits k s.me.0 → (c : ℕ) → OwesFlag k s.me.0 c word → place ≡ bit_place k (flag k c)
-      → Owed word (λ n. bit_or n (1 * 2 ^ place % 2 ^ 64)) (λ _ after. after ≡ (raised s.me.0, s.me.1))
-  raise_owed word place sits c (owes, lt, is) at = subst (λ (w : ℕ × ℕ). Owed w.0 (λ n. bit_or n (1 * 2 ^ w.1 % 2 ^ 64)) (λ _ after. after ≡ (raised s.me.0, s.me.1))) (λ i. (sym is i, sym at i))
-      (table, omega (arith, fits, flag_below k c shaped lt), allows_raise k z.slots s.id c s.me shaped sits owes lt)
+  pub write_owed : (p n : ℕ) → Sits k v × ((h : StoreHistory) × (v.histories ≡ h ∷ [])) → v.owed ≡ None → p < k.slots → IsWord k n
+      → Owed p (λ _. n) (λ m after. Is (wrote v p n) m after × IsFound v p m)
+  write_owed p n racer free lt bound = swaps p (λ _. n) (wrote v p n) (λ m after. Is (wrote v p n) m after × IsFound v p m) (omega (arith, fits, lt)) racer.0 (λ m. (refl, refl, refl, refl))
+      (λ words views h at. (raced_wrote (begun k words views h) words views s.id v p n racer.1.0 racer.0 free racer.1.1 lt bound at h.raced, (refl, found p words views h at racer.0.weight lt)))
 
-  pub dirty_owed : (word : ℕ) → Sits k s.me.0 → OwesMark k s.me.0 word → s.me.0.flagged ≡ owed_card s.me.0.owed → Owed word (λ _. 1) (λ n after. after ≡ (dirtied s.me.0 (word - s.me.0.shape.slots) n, s.me.1))
-  dirty_owed word sits (c, owes, lt, is) flagged = subst (λ (w : ℕ). Owed w (λ _. 1) (λ n after. after ≡ (dirtied s.me.0 (w - s.me.0.shape.slots) n, s.me.1))) (sym is)
-      (table, omega (arith, fits, lt), allows_dirty k z.slots s.id c s.me sits owes flagged lt)
+  pub exchange_owed : (p old n : ℕ) → Sits k v × ((h : StoreHistory) × (v.histories ≡ h ∷ [])) → v.owed ≡ None → p < k.slots → IsWord k n
+      → Owed p (λ m. either (m == old) n m) (λ m after. Is (exchanged v p old n) m after × IsFound v p m)
+  exchange_owed p old n racer free lt bound = swaps p (λ m. either (m == old) n m) (exchanged v p old n) (λ m after. Is (exchanged v p old n) m after × IsFound v p m) (omega (arith, fits, lt)) racer.0 (λ m. stays (m == old) m)
+      (λ words views h at. (goes words views h at (get_or words p 0 == old), (refl, found p words views h at racer.0.weight lt)))
+    where
+      stays : (b : Bool) (m : ℕ) → Stays v (cond b (wrote v p n m) v)
+      stays true m = (refl, refl, refl, refl)
+      stays false m = (refl, refl, refl, refl)
 
-  pub clean_owed : (word : ℕ) → Sits k s.me.0 → s.me.0.next ≡ s.me.0.end → IsMark k word → Owed word (λ _. 0) (λ n after. after ≡ (cleaned s.me.0 (word - s.me.0.shape.slots) n, s.me.1))
-  clean_owed word sits done (c, lt, is) = subst (λ (w : ℕ). Owed w (λ _. 0) (λ n after. after ≡ (cleaned s.me.0 (w - s.me.0.shape.slots) n, s.me.1))) (sym is)
-      (table, omega (arith, fits, lt), allows_clean k z.slots s.id c s.me sits shaped.1 done lt)
+      goes : (words : List ℕ) (views : List View) (h : Going k words views) → get_elem? views s.id ≡ some v → (b : Bool) → let m = get_or words p 0 in Raced (begun k words views h) (set words p (either b n m)) (set views s.id (cond b (wrote v p n m) v))
+      goes words views h at true = raced_wrote (begun k words views h) words views s.id v p n racer.1.0 racer.0 free racer.1.1 lt bound at h.raced
+      goes words views h at false = rw (set-get_or words p 0, set_again views s.id v at) h.raced
 
-  pub read_owed : (p : ℕ) → Sits k s.me.0 → s.me.0.held ≡ [] → s.me.0.next ≡ p → p < k.slots
-      → Owed p (λ n. n) (λ n after. (after ≡ (read s.me.0 p n, s.me.1)) × IsWord s.me.0.shape n)
-  read_owed p sits free next lt = (table, omega (arith, fits, lt), allows_read k z.slots s.id p s.me sits free next lt)
+  pub look_owed : (word : ℕ) → Sits k v → OwesMark k v word → Owed word (λ n. n) (Is (looked v))
+  look_owed word sits (c, owes, lt, is) = rw is (loads (mark_word k c) (looked v) (Is (looked v)) (omega (arith, fits, lt)) sits (λ n. (refl, refl, refl, refl))
+      (λ words views h at. (raced_looked (begun k words views h) words views s.id v c sits owes lt at h.raced, refl)))
 
-  pub seek_owed : (word : ℕ) → Sits k s.me.0 → (x : ℕ × ℕ) → HoldsBit k s.me.0 x word → Owed word (λ n. n) (λ n after. after ≡ (sought s.me.0 n, s.me.1))
-  seek_owed word sits x (held, pair, is) = subst (λ (w : ℕ). Owed w (λ n. n) (λ n after. after ≡ (sought s.me.0 n, s.me.1))) (sym is)
-      (table, omega (arith, fits, word_below k x shaped pair), allows_seek k z.slots s.id x s.me shaped sits held)
+  pub spot_owed : (word : ℕ) → Sits k v → (c : ℕ) → OwesFlag k v c word → Owed word (λ n. n) (Is (spotted v))
+  spot_owed word sits c (owes, lt, is) = rw is (loads (bit_word k (flag k c)) (spotted v) (Is (spotted v)) (omega (arith, fits, flag_below k c shaped lt)) sits (λ n. (refl, refl, refl, refl))
+      (λ words views h at. (raced_spotted (begun k words views h) words views s.id v c shaped sits owes at h.raced, refl)))
 
-  pub record_owed : (word place : ℕ) → Sits k s.me.0 → (x : ℕ × ℕ) → HoldsBit k s.me.0 x word → place ≡ bit_place k x
-      → Owed word (λ n. bit_or n (1 * 2 ^ place % 2 ^ 64)) (λ _ after. after ≡ (recorded s.me.0, s.me.1))
-  record_owed word place sits x (held, pair, is) at = subst (λ (w : ℕ × ℕ). Owed w.0 (λ n. bit_or n (1 * 2 ^ w.1 % 2 ^ 64)) (λ _ after. after ≡ (recorded s.me.0, s.me.1))) (λ i. (sym is i, sym at i))
-      (table, omega (arith, fits, word_below k x shaped pair), allows_record k z.slots s.id x s.me shaped sits held pair)
+  pub raise_owed : (word place : ℕ) → Sits k v → (c : ℕ) → OwesFlag k v c word → place ≡ bit_place k (flag k c)
+      → Owed word (λ n. bit_or n (1 * 2 ^ place % 2 ^ 64)) (Is (λ _. raised v))
+  raise_owed word place sits c (owes, lt, is) at = rw (is, at) (swaps (bit_word k (flag k c)) (λ n. bit_or n (1 * 2 ^ bit_place k (flag k c) % 2 ^ 64)) (λ _. raised v) (Is (λ _. raised v)) (omega (arith, fits, flag_below k c shaped lt)) sits (λ n. (refl, refl, refl, refl))
+      (λ words views h at. (raced_raised (begun k words views h) words views s.id v c shaped sits owes lt at h.raced, refl)))
+
+  pub dirty_owed : (word : ℕ) → Sits k v → OwesMark k v word → v.flagged ≡ owed_card v.owed → Owed word (λ _. 1) (Is (dirtied v (word - v.shape.slots)))
+  dirty_owed word sits (c, owes, lt, is) flagged = rw (is, card_back k v c sits.shape) (swaps (mark_word k c) (λ _. 1) (dirtied v c) (Is (dirtied v c)) (omega (arith, fits, lt)) sits (λ n. (refl, refl, refl, refl))
+      (λ words views h at. (raced_dirtied (begun k words views h) words views s.id v c sits owes flagged lt at h.raced, refl)))
+
+  pub clean_owed : (word : ℕ) → Sits k v → v.next ≡ v.end → IsMark k word → Owed word (λ _. 0) (Is (cleaned v (word - v.shape.slots)))
+  clean_owed word sits done (c, lt, is) = rw (is, card_back k v c sits.shape) (swaps (mark_word k c) (λ _. 0) (cleaned v c) (Is (cleaned v c)) (omega (arith, fits, lt)) sits (λ n. (refl, refl, refl, refl))
+      (λ words views h at. (raced_cleaned (begun k words views h) words views s.id v c sits shaped.1 done lt at h.raced, refl)))
+
+  pub read_owed : (p : ℕ) → Sits k v → v.held ≡ [] → v.next ≡ p → p < k.slots
+      → Owed p (λ n. n) (λ n after. Is (read v p) n after × IsWord v.shape n)
+  read_owed p sits free next lt = loads p (read v p) (λ n after. Is (read v p) n after × IsWord v.shape n) (omega (arith, fits, lt)) sits (λ n. (refl, refl, refl, refl))
+      (λ words views h at. (raced_read (begun k words views h) words views s.id v p sits free next lt at h.raced, (refl, subst (λ (x : Shape). IsWord x (get_or words p 0)) (sym sits.shape) (h.raced.bounded p _ lt (read_at words p (omega (arith, h.raced.sized)))))))
+
+  pub seek_owed : (word : ℕ) → Sits k v → (x : ℕ × ℕ) → HoldsBit k v x word → Owed word (λ n. n) (Is (sought v))
+  seek_owed word sits x (held, pair, is) = rw is (loads (bit_word k x) (sought v) (Is (sought v)) (omega (arith, fits, word_below k x shaped pair)) sits (λ n. (refl, refl, refl, refl))
+      (λ words views h at. (raced_sought (begun k words views h) words views s.id v x shaped sits held at h.raced, refl)))
+
+  pub record_owed : (word place : ℕ) → Sits k v → (x : ℕ × ℕ) → HoldsBit k v x word → place ≡ bit_place k x
+      → Owed word (λ n. bit_or n (1 * 2 ^ place % 2 ^ 64)) (Is (λ _. recorded v))
+  record_owed word place sits x (held, pair, is) at = rw (is, at) (swaps (bit_word k x) (λ n. bit_or n (1 * 2 ^ bit_place k x % 2 ^ 64)) (λ _. recorded v) (Is (λ _. recorded v)) (omega (arith, fits, word_below k x shaped pair)) sits (λ n. (refl, refl, refl, refl))
+      (λ words views h at. (raced_recorded (begun k words views h) words views s.id v x shaped sits held pair at h.raced, refl)))
 
   -- seats
 
@@ -66,47 +133,88 @@ module _ (z : TableId) (k : Shape) (fits : z.words ≡ word_count k) (shaped : I
   some_word = omega (arith, fits, shaped.5)
 
   abbrev Cut : (View → View) → Type 0
-  Cut right = (s.table_id ≡ z) × (0 < z.words) × Splits (Rule k) s.id s.me.0 (after_split s.me.0) (right s.me.0)
+  Cut right = (s.table_id ≡ z) × (0 < z.words) × Splits (Rule k) s.id v (after_split v) (right v)
 
-  pub split_racer_owed : IsWholeSeat s.me.0 → Cut new_racer
-  split_racer_owed (begin, w, is, heavy) = (
-    table,
+  pub split_racer_owed : IsWholeSeat v → Cut new_racer
+  split_racer_owed (begin, w, is, heavy) = (table, some_word, rw is (splits k s.id (whole_seat begin w) false _ ((refl, refl, refl, refl), refl, refl, refl, refl, refl) heavy refl fresh (number_given (whole_seat begin w) heavy)))
+    where
+      fresh : (g : StoreHistory) → In ((w - 1, []) ∷ []) g → g.1 ≡ []
+      fresh g (inl e) = ap (λ (x : StoreHistory). x.1) (sym e)
+      fresh g (inr i) = absurd i
+
+  pub split_sweeper_owed : IsWholeSeat v → Cut new_sweeper
+  split_sweeper_owed (begin, w, is, heavy) = (table, some_word, rw is (splits k s.id (whole_seat begin w) false [] ((refl, refl, refl, refl), refl, refl, refl, refl, refl) heavy refl (λ g i. absurd i) (number_dropped (whole_seat begin w))))
+
+  pub split_reader_owed : IsLent z k s → 0 < v.weight → Cut new_reader
+  split_reader_owed lent heavy = (table, some_word, splits k s.id v true [] lent.blank heavy lent.frozen (λ g i. absurd i) (number_dropped v))
+
+  pub join_owed : (other : ℕ) (u : View) → u.weight ≡ 1 → AtRest u → (0 < z.words) × Joins (Rule k) s.id v other u (both v u) no_seat
+  join_owed other u one rest = (
     some_word,
-    subst (λ (v : View). Splits (Rule k) s.id v (after_split v) (new_racer v)) (sym is)
-        (splits_racer k s.id (whole_seat begin w) ((refl, refl, refl, refl), refl, refl, refl, refl, refl) heavy heavy refl),
+    λ t h at apart there. going_join k t.words t.views h s.id v other u at apart there (omega (arith, one))
+        (raced_join (begun k t.words t.views h) t.words t.views s.id v other u no_seat one rest ((refl, refl, refl, refl), refl, refl, refl, refl, refl) refl refl at apart there h.raced),
   )
-
-  pub split_sweeper_owed : IsWholeSeat s.me.0 → Cut new_sweeper
-  split_sweeper_owed (begin, w, is, heavy) = (
-    table,
-    some_word,
-    subst (λ (v : View). Splits (Rule k) s.id v (after_split v) (new_sweeper v)) (sym is)
-        (splits_sweeper k s.id (whole_seat begin w) ((refl, refl, refl, refl), refl, refl, refl, refl, refl) heavy refl),
-  )
-
-  pub join_owed : (other : ℕ) (u : View) → u.weight ≡ 1 → AtRest u → (0 < z.words) × Joins (Rule k) s.id s.me.0 other u (both s.me.0 u) no_seat
-  join_owed other u one rest = (some_word, joins_member k s.id s.me.0 other u one rest)
 
   -- a pause
 
+  pub see_owed : (p : ℕ) → IsReading z k s → p < word_count k → Owed p (λ n. n) (λ n after. (after ≡ s.me) × (get_elem? v.began_words p ≡ some n))
+  see_owed p reads lt = (
+    table,
+    omega (arith, fits, lt),
+    λ t h len at bound.
+        (v, keeps, tt, rw (set-get_or t.words p 0, set_again t.views s.id v at) h, (refl, ap (λ (l : List ℕ). get_elem? l p) (sym (known k t.words t.views h s.id v at reads.weight reads.frozen)) ∙ read_at t.words p (omega (arith, h.raced.sized, lt)))),
+  )
+
   module _ (pos : 0 < k.members) where
-    pub freeze_owed : s.me.0.weight ≡ k.members → AtRest s.me.0 → Owed 0 (λ n. n) (λ n after. Freezes s.me after)
-    freeze_owed all rest = (table, some_word, allows_freeze k z.slots s.id 0 s.me shaped all pos rest)
+    -- the words are learned
+    pub freeze_owed : v.weight ≡ k.members → AtRest v → Owed 0 (λ n. n) (λ n after. Freezes s.me after)
+    freeze_owed all rest = (
+      table,
+      some_word,
+      λ t h len at bound.
+          let shape = shape_mine k t.words t.views s.id v all pos h at in
+          let here = begun_here k t.words t.views s.id v all pos h at shaped rest in
+          let w = frozen_seat (started v.shape t.words) v.weight in (
+            w,
+            keeps,
+            tt,
+            rw (set-get_or t.words 0 0) (going_anew k t.words t.views s.id v all pos h at t.words w here ((refl, refl, refl, refl), refl, refl, refl, refl, refl) all all (ap (λ (x : Shape). started x t.words) shape)),
+            record {
+              words = t.words;
+              views = t.views;
+              id = s.id;
+              view = refl;
+              begun = subst (λ (x : Shape). IsBegun (started x t.words)) (sym shape) here;
+              raced = raced_mine k t.words t.views s.id v all pos h at;
+              mine = at;
+              still = known_words k t.words t.views s.id v all pos h at;
+            },
+          ),
+    )
 
     module _ (paused : IsPaused z k s) where
-      pub knows : Knows k s.me.0
-      knows = let view : s.me.0 ≡ frozen_seat (started k s.me.0.began_words) k.members = ap (λ (m : Me (Unit {0}) View). m.0) paused.view in record {
-        all = ap (λ (v : View). v.weight) view;
-        pos = pos;
-        spare = ap (λ (v : View). v.spare) view;
-        blank = subst IsBlank (sym view) ((refl, refl, refl, refl), refl, refl, refl, refl, refl);
-        shape = ap (λ (v : View). v.shape) view;
-        frozen = ap (λ (v : View). v.frozen) view;
-        begun = paused.begun;
-      }
+      view : v ≡ frozen_seat (started k v.began_words) k.members
+      view = ap (λ (m : Me (Unit {0}) View). m.0) paused.view
 
-      pub thaw_owed : Owed 0 (λ n. n) (λ n after. after ≡ (thawed s.me.0, s.me.1))
-      thaw_owed = (table, some_word, allows_thaw k z.slots s.id 0 s.me knows)
+      -- the race begins anew, with these words
+      anew : (p : ℕ) (f : ℕ → ℕ) (new : List ℕ) (frozen : Bool) → p < z.words → IsBegun (started k new) → set v.began_words p (f (get_or v.began_words p 0)) ≡ new → Owed p f (Is (λ _. record v { began_words = new; frozen = frozen }))
+      anew p f new frozen lt begun is = (
+        table,
+        lt,
+        λ t h len at bound.
+            let all = ap (λ (u : View). u.weight) view in
+            let w = record v { began_words = new; frozen = frozen } in
+            let words = known_words k t.words t.views s.id v all pos h at (ap (λ (u : View). u.frozen) view) in (
+              w,
+              keeps,
+              tt,
+              rw (words, is) (going_anew k t.words t.views s.id v all pos h at new w begun (subst IsBlank (sym view) ((refl, refl, refl, refl), refl, refl, refl, refl, refl)) all (ap (λ (u : View). u.spare) view) (ap (λ (u : View). started u.shape new) view)),
+              refl,
+            ),
+      )
 
-      pub put_owed : (p n : ℕ) → p < word_count k → IsBegun (started k (set s.me.0.began_words p n)) → Owed p (λ _. n) (λ _ after. after ≡ (put s.me.0 p n, s.me.1))
-      put_owed p n lt begun = (table, omega (arith, fits, lt), allows_set k z.slots s.id p n s.me knows begun)
+      pub thaw_owed : Owed 0 (λ n. n) (λ n after. after ≡ (thawed v, s.me.1))
+      thaw_owed = anew 0 (λ n. n) v.began_words false some_word paused.begun (set-get_or v.began_words 0 0)
+
+      pub put_owed : (p n : ℕ) → p < word_count k → IsBegun (started k (set v.began_words p n)) → Owed p (λ _. n) (Is (λ _. put v p n))
+      put_owed p n lt begun = anew p (λ _. n) (set v.began_words p n) v.frozen (omega (arith, fits, lt)) begun refl

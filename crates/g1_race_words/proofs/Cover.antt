@@ -1,14 +1,13 @@
 -- What the steps have in common: each reference between regions is answered for anew, or was answered for, and is still.
 use Rattle.std.specs.Prelude.{◌≡◌, ◌⊎◌, ◌<◌}
-use Rattle.g1_race_words.specs.{ℕ, List, set, true, ◌∙◌, subst, inl, inr, ⊎_elim, some, ℕ_discrete, get_elem?, set_else, Shape, View, slot_card, region_at, crosses, In, AnswersFor, IsMarked, Someone, Covered}
-use Rattle.g1_race_words.proofs.Plain.{put_here, one_there}
+use Rattle.g1_race_words.specs.{ℕ, List, set, true, inl, inr, ⊎_elim, some, get_elem?, Shape, View, slot_card, region_at, crosses, In, AnswersFor, IsMarked, Someone, Covered}
+use Rattle.g1_race_words.proofs.Plain.{put_here, some_or}
 
--- what the steps have in common: each reference that crosses is answered for anew, or was answered for, and each answer is handed on
 abbrev pub Answered : Shape → List ℕ → List View → ℕ → ℕ → Type 0
 Answered k words views p n = IsMarked k words p ⊎ Someone k views p n
 
 abbrev pub HandsOn : Shape → List ℕ → List View → List ℕ → List View → ℕ → ℕ → Type 0
-HandsOn k words views new after p n = (get_elem? words p ≡ some n) × (IsMarked k words p → Answered k new after p n) × ((seat : ℕ) (u : View) → get_elem? views seat ≡ some u → AnswersFor k u p n → Answered k new after p n)
+HandsOn k words views new after p n = (get_elem? words p ≡ some n) × (IsMarked k words p → Answered k new after p n) × (Someone k views p n → Answered k new after p n)
 
 pub covered_moves : (k : Shape) (known : List (ℕ × ℕ)) (words new : List ℕ) (views after : List View) → Covered k known words views
     → ((p n : ℕ) → p < k.slots → get_elem? new p ≡ some n → crosses k p n ≡ true → Answered k new after p n ⊎ HandsOn k words views new after p n)
@@ -16,7 +15,7 @@ pub covered_moves : (k : Shape) (known : List (ℕ × ℕ)) (words new : List �
 covered_moves k known words new views after h step p n lt at cr = ⊎_elim
     (λ (x : Answered k new after p n). inr x)
     (λ (x : HandsOn k words views new after p n). ⊎_elim (λ (i : In known (slot_card k p, region_at k n)). inl i)
-    (λ (y : IsMarked k words p ⊎ Someone k views p n). inr (⊎_elim x.1 (λ (s : Someone k views p n). x.2 s.0 s.1 s.2 s.3) y))
+    (λ (y : IsMarked k words p ⊎ Someone k views p n). inr (⊎_elim x.1 x.2 y))
     (h p n lt x.0 cr))
     (step p n lt at cr)
 
@@ -29,9 +28,5 @@ by_seat k new views id v w p n at (inl m) = inl m
 by_seat k new views id v w p n at (inr a) = inr (id, w, put_here views id v w at, a)
 
 pub others_pass : (k : Shape) (new : List ℕ) (views : List View) (id : ℕ) (v w : View) (p n : ℕ) → get_elem? views id ≡ some v → Passes k new v w p n
-    → (seat : ℕ) (u : View) → get_elem? views seat ≡ some u → AnswersFor k u p n → Answered k new (set views id w) p n
-others_pass k new views id v w p n at pass seat u there ans = pick (ℕ_discrete seat id)
-  where
-    pick : Dec (seat ≡ id) → Answered k new (set views id w) p n
-    pick (yes e) = by_seat k new views id v w p n at (pass (subst (λ (x : View). AnswersFor k x p n) (one_there views id u v (subst (λ (i : ℕ). get_elem? views i ≡ some u) e there) at) ans))
-    pick (no ne) = inr (seat, u, set_else views id seat w ne ∙ there, ans)
+    → Someone k views p n → Answered k new (set views id w) p n
+others_pass k new views id v w p n at = some_or (λ u. AnswersFor k u p n) (IsMarked k new p) views id v w at

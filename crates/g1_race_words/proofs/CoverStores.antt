@@ -57,32 +57,29 @@ covered_looked k known words views id v c owes short at h = covered_moves k know
     n : ℕ
     n = get_or words (mark_word k c) 0
 
+-- the mark of a card is swapped: its slots are answered for anew
+pub covered_swapped : (k : Shape) (known : List (ℕ × ℕ)) (words : List ℕ) (views : List View) (id : ℕ) (v w : View) (c m : ℕ) → get_elem? views id ≡ some v
+    → ((q n : ℕ) → slot_card k q ≡ c → IsMarked k (set words (mark_word k c) m) q ⊎ AnswersFor k w q n) → ((q n : ℕ) → slot_card k q ≢ c → Passes k (set words (mark_word k c) m) v w q n)
+    → Covered k known words views → Covered k known (set words (mark_word k c) m) (set views id w)
+covered_swapped k known words views id v w c m at here pass h = covered_moves k known words new views (set views id w) h (λ q n l e cr. pick q n l e (ℕ_discrete (slot_card k q) c))
+  where
+    new : List ℕ
+    new = set words (mark_word k c) m
+
+    pick : (q n : ℕ) → q < k.slots → get_elem? new q ≡ some n → Dec (slot_card k q ≡ c) → Answered k new (set views id w) q n ⊎ HandsOn k words views new (set views id w) q n
+    pick q n l e (yes is) = inl (by_seat k new views id v w q n at (here q n is))
+    pick q n l e (no apart) = inr (
+      sym (set_else words (mark_word k c) q m (λ x. mark_apart k q c l (sym x))) ∙ e,
+      (λ mk. inl (set_else words (mark_word k c) (mark_word k (slot_card k q)) m (λ x. apart (omega arith)) ∙ mk)),
+      others_pass k new views id v w q n at (pass q n apart),
+    )
+
 -- a racer dirties the card that it owes
 
 pub covered_dirtied : (k : Shape) (known : List (ℕ × ℕ)) (words : List ℕ) (views : List View) (id : ℕ) (v : View) (c n : ℕ) → v.owed ≡ Some c → mark_word k c < length words
     → get_elem? views id ≡ some v → Covered k known words views → Covered k known (set words (mark_word k c) 1) (set views id (dirtied v c n))
-covered_dirtied k known words views id v c n owes short at h = covered_moves k known words new views (set views id w) h one
+covered_dirtied k known words views id v c n owes short at = covered_swapped k known words views id v (dirtied v c n) c 1 at (λ q m is. inl (rw is (set_here words (mark_word k c) 1 short))) pass
   where
-    new : List ℕ
-    new = set words (mark_word k c) 1
-
-    w : View
-    w = dirtied v c n
-
-    here : (q : ℕ) → slot_card k q ≡ c → IsMarked k new q
-    here q e = subst (λ (x : ℕ). get_elem? new (mark_word k x) ≡ some 1) (sym e) (set_here words (mark_word k c) 1 short)
-
-    one : (q m : ℕ) → q < k.slots → get_elem? new q ≡ some m → crosses k q m ≡ true → Answered k new (set views id w) q m ⊎ HandsOn k words views new (set views id w) q m
-    one q m l e cr = pick (ℕ_discrete (slot_card k q) c)
-      where
-        pick : Dec (slot_card k q ≡ c) → Answered k new (set views id w) q m ⊎ HandsOn k words views new (set views id w) q m
-        pick (yes is) = inl (inl (here q is))
-        pick (no apart) = inr (
-          sym (set_else words (mark_word k c) q 1 (λ x. mark_apart k q c l (sym x))) ∙ e,
-          (λ mk. inl (set_else words (mark_word k c) (mark_word k (slot_card k q)) 1 (λ x. apart (omega arith)) ∙ mk)),
-          others_pass k new views id v w q m at pass,
-        )
-          where
-            pass : Passes k new v w q m
-            pass (inl o) = absurd (apart (cc (o, owes)))
-            pass (inr a) = inr (inr a)
+    pass : (q m : ℕ) → slot_card k q ≢ c → Passes k (set words (mark_word k c) 1) v (dirtied v c n) q m
+    pass q m apart (inl o) = absurd (apart (cc (o, owes)))
+    pass q m apart (inr a) = inr (inr a)

@@ -1,9 +1,9 @@
 -- A sweeper's steps, and those of seats, keep that every reference between regions is answered for.
-use Rattle.std.specs.Prelude.{◌≡◌, ◌⊎◌, ◌+◌, ◌*◌, ◌/◌, ◌%◌, ◌<◌, ◌≤◌, ◌∷◌, ◌++◌}
-use Rattle.g1_race_words.specs.{ℕ, List, [], set, get_or, true, None, refl, sym, ap, ◌∙◌, subst, inl, inr, arith, div-add-mod', mod-lt, some, ℕ_discrete, get_elem?, set_else, at_longer, Shape, View, slot_card, mark_word, region_at, crosses, In, AnswersFor, IsMarked, Covered, cleaned, pair_at, read, both}
-use Rattle.g1_race_words.proofs.Plain.{in_left, in_right, put_here, one_there, read_is, true_is}
-use Rattle.g1_race_words.proofs.Cover.{Answered, HandsOn, covered_moves, Passes, by_seat, others_pass}
-use Rattle.g1_race_words.proofs.CoverStores.{mark_apart}
+use Rattle.std.specs.Prelude.{◌≡◌, ◌≢◌, ◌⊎◌, ◌+◌, ◌*◌, ◌/◌, ◌%◌, ◌<◌, ◌≤◌, ◌∷◌, ◌++◌}
+use Rattle.g1_race_words.specs.{ℕ, List, [], set, get_or, true, None, refl, sym, ap, subst, inl, inr, arith, div-add-mod', mod-lt, some, ℕ_discrete, get_elem?, Shape, View, slot_card, mark_word, region_at, crosses, In, AnswersFor, IsMarked, Covered, cleaned, pair_at, read, both}
+use Rattle.g1_race_words.proofs.Plain.{in_cond_here, in_left, in_right, read_is, true_is, some_on, some_longer, some_joined}
+use Rattle.g1_race_words.proofs.Cover.{covered_moves, Passes, others_pass}
+use Rattle.g1_race_words.proofs.CoverStores.{covered_swapped}
 
 -- a sweeper cleans card c
 
@@ -13,37 +13,18 @@ card_slots size p c pos e = let a = div-add-mod' p size in let b = mod-lt p pos 
 
 pub covered_cleaned : (k : Shape) (known : List (ℕ × ℕ)) (words : List ℕ) (views : List View) (id : ℕ) (v : View) (c n : ℕ) → v.shape ≡ k → 0 < k.size → v.next ≡ v.end
     → get_elem? views id ≡ some v → Covered k known words views → Covered k known (set words (mark_word k c) 0) (set views id (cleaned v c n))
-covered_cleaned k known words views id v c n shape pos done at h = covered_moves k known words new views (set views id w) h one
+covered_cleaned k known words views id v c n shape pos done at = covered_swapped k known words views id v (cleaned v c n) c 0 at
+    (λ q m is. inr (inr (inl (subst (λ (s : Shape). (c * s.size ≤ q) × (q < c * s.size + s.size)) (sym shape) (card_slots k.size q c pos is))))) pass
   where
-    new : List ℕ
-    new = set words (mark_word k c) 0
-
-    w : View
-    w = cleaned v c n
-
-    reads : (q : ℕ) → slot_card k q ≡ c → (w.next ≤ q) × (q < w.end)
-    reads q e = subst (λ (s : Shape). (c * s.size ≤ q) × (q < c * s.size + s.size)) (sym shape) (card_slots k.size q c pos e)
-
-    one : (q m : ℕ) → q < k.slots → get_elem? new q ≡ some m → crosses k q m ≡ true → Answered k new (set views id w) q m ⊎ HandsOn k words views new (set views id w) q m
-    one q m l e cr = pick (ℕ_discrete (slot_card k q) c)
-      where
-        pass : Passes k new v w q m
-        pass (inl o) = inr (inl o)
-        pass (inr (inl a)) = absurd (omega (arith, a.0, a.1, done))
-        pass (inr (inr a)) = inr (inr (inr a))
-
-        pick : Dec (slot_card k q ≡ c) → Answered k new (set views id w) q m ⊎ HandsOn k words views new (set views id w) q m
-        pick (yes is) = inl (by_seat k new views id v w q m at (inr (inr (inl (reads q is)))))
-        pick (no apart) = inr (
-          sym (set_else words (mark_word k c) q 0 (λ x. mark_apart k q c l (sym x))) ∙ e,
-          (λ mk. inl (set_else words (mark_word k c) (mark_word k (slot_card k q)) 0 (λ x. apart (omega arith)) ∙ mk)),
-          others_pass k new views id v w q m at pass,
-        )
+    pass : (q m : ℕ) → slot_card k q ≢ c → Passes k (set words (mark_word k c) 0) v (cleaned v c n) q m
+    pass q m apart (inl o) = inr (inl o)
+    pass q m apart (inr (inl a)) = absurd (omega (arith, a.0, a.1, done))
+    pass q m apart (inr (inr a)) = inr (inr (inr a))
 
 -- a sweeper reads slot p
 
 pair_there : (k : Shape) (p n : ℕ) → crosses k p n ≡ true → In (pair_at k p n) (slot_card k p, region_at k n)
-pair_there k p n cr = subst (λ (l : List (ℕ × ℕ)). In l (slot_card k p, region_at k n)) (sym (true_is (crosses k p n) ((slot_card k p, region_at k n) ∷ []) [] cr)) (inl refl)
+pair_there k p n cr = in_cond_here (crosses k p n) (slot_card k p, region_at k n) [] cr
 
 pub covered_read : (k : Shape) (known : List (ℕ × ℕ)) (words : List ℕ) (views : List View) (id : ℕ) (v : View) (p : ℕ) → v.shape ≡ k → v.next ≡ p
     → get_elem? views id ≡ some v → Covered k known words views → Covered k known words (set views id (read v p (get_or words p 0)))
@@ -72,46 +53,22 @@ covered_read k known words views id v p shape next at h = covered_moves k known 
 pub covered_split : (k : Shape) (known : List (ℕ × ℕ)) (words : List ℕ) (views : List View) (id : ℕ) (v left right : View) → get_elem? views id ≡ some v → ((q m : ℕ) → AnswersFor k v q m → AnswersFor k left q m)
     → Covered k known words views → Covered k known words (set views id left ++ right ∷ [])
 covered_split k known words views id v left right at pass h = covered_moves k known words words views (set views id left ++ right ∷ []) h
-    (λ q m l e cr. inr (e, (λ mk. inl mk), λ seat u there ans. longer q m (others_pass k words views id v left q m at (λ a. inr (pass q m a)) seat u there ans)))
-  where
-    longer : (q m : ℕ) → Answered k words (set views id left) q m → Answered k words (set views id left ++ right ∷ []) q m
-    longer q m (inl mk) = inl mk
-    longer q m (inr s) = inr (s.0, s.1, at_longer (set views id left) (right ∷ []) s.0 s.1 s.2, s.3)
+    (λ q m l e cr. inr (e, (λ mk. inl mk), λ s. inr (some_longer (λ u. AnswersFor k u q m) (set views id left) right (some_on (λ u. AnswersFor k u q m) views id v left at (pass q m) s))))
 
 -- one seat at rest takes in another
 
 pub covered_join : (k : Shape) (known : List (ℕ × ℕ)) (words : List ℕ) (views : List View) (id : ℕ) (v : View) (other : ℕ) (u spent : View) → u.owed ≡ None → u.next ≡ u.end
     → get_elem? views id ≡ some v → ¬ (other ≡ id) → get_elem? (set views id (both v u)) other ≡ some u
     → Covered k known words views → Covered k known words (set (set views id (both v u)) other spent)
-covered_join k known words views id v other u spent free done at apart there h = covered_moves k known words words views after h
-    (λ q m l e cr. inr (e, (λ mk. inl mk), hand q m))
+covered_join k known words views id v other u spent free done at apart there h = covered_moves k known words words views (set (set views id (both v u)) other spent) h
+    (λ q m l e cr. inr (e, (λ mk. inl mk), λ s. inr (some_joined (λ x. AnswersFor k x q m) views id other v u (both v u) spent at apart there (mine q m) (theirs q m) s)))
   where
-    w : View
-    w = both v u
-
-    after : List View
-    after = set (set views id w) other spent
-
-    at_w : get_elem? after id ≡ some w
-    at_w = set_else (set views id w) other id spent (λ x. apart (sym x)) ∙ put_here views id v w at
-
-    was : get_elem? views other ≡ some u
-    was = sym (set_else views id other w apart) ∙ there
-
-    mine : (q m : ℕ) → AnswersFor k v q m → AnswersFor k w q m
+    mine : (q m : ℕ) → AnswersFor k v q m → AnswersFor k (both v u) q m
     mine q m (inl o) = inl o
     mine q m (inr (inl a)) = inr (inl a)
     mine q m (inr (inr a)) = inr (inr (in_left v.pairs u.pairs _ a))
 
-    theirs : (q m : ℕ) → AnswersFor k u q m → AnswersFor k w q m
+    theirs : (q m : ℕ) → AnswersFor k u q m → AnswersFor k (both v u) q m
     theirs q m (inl o) = absurd (cc (o, free))
     theirs q m (inr (inl a)) = absurd (omega (arith, a.0, a.1, done))
     theirs q m (inr (inr a)) = inr (inr (in_right v.pairs u.pairs _ a))
-
-    hand : (q m : ℕ) (seat : ℕ) (x : View) → get_elem? views seat ≡ some x → AnswersFor k x q m → Answered k words after q m
-    hand q m seat x at_x ans = pick (ℕ_discrete seat id) (ℕ_discrete seat other)
-      where
-        pick : Dec (seat ≡ id) → Dec (seat ≡ other) → Answered k words after q m
-        pick (yes e) d = inr (id, w, at_w, mine q m (subst (λ (y : View). AnswersFor k y q m) (one_there views id x v (subst (λ (i : ℕ). get_elem? views i ≡ some x) e at_x) at) ans))
-        pick (no n) (yes e) = inr (id, w, at_w, theirs q m (subst (λ (y : View). AnswersFor k y q m) (one_there views other x u (subst (λ (i : ℕ). get_elem? views i ≡ some x) e at_x) was) ans))
-        pick (no n) (no o) = inr (seat, x, set_else (set views id w) other seat spent o ∙ (set_else views id seat w n ∙ at_x), ans)

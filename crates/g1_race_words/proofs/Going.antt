@@ -1,22 +1,19 @@
 -- What the steps, the splits and the joins do to the rule beside the race itself: who agrees on the beginning, and what is known at a pause.
-use Rattle.std.specs.Prelude.{◌≡◌, ◌≢◌, ◌<◌, ◌≤◌, ◌∷◌, ◌++◌}
-use Rattle.g1_race_words.specs.{ℕ, List, [], set, Bool, true, false, sym, ap, ◌∙◌, subst, ⊎_elim, arith, some, get_elem?, at_set, at_snoc, set_else, Shape, View, Start, Begun, IsBlank, Raced, Going, started, beginning, start_of, after_split, both, no_seat}
-use Rattle.g1_race_words.proofs.Plain.{weigh_all}
+use Rattle.std.specs.Prelude.{◌≡◌, ◌<◌, ◌≤◌, ◌∷◌, ◌++◌}
+use Rattle.g1_race_words.specs.{ℕ, List, [], set, Bool, true, false, sym, ap, ◌∙◌, arith, some, get_elem?, set_else, Shape, View, Start, Begun, IsBlank, Raced, Going, started, beginning, start_of, after_split, both, no_seat}
+use Rattle.g1_race_words.proofs.Plain.{weigh_all, each_set, each_snoc}
 
 -- where one seat has all the weight, no other answers for anything
 pub others_blank : (begun : Begun) (words : List ℕ) (views : List View) (id : ℕ) (v : View) → Raced begun words views → get_elem? views id ≡ some v → v.weight ≡ begun.shape.members
     → (seat : ℕ) (u : View) → get_elem? views seat ≡ some u → ¬ (seat ≡ id) → IsBlank u
 others_blank begun words views id v h at all seat u there apart = h.weighed.1 seat u there (weigh_all views id seat v u at there apart (h.weighed.0 ∙ sym all))
 
--- what is so of every view stays so where one changes, or comes
-pub each_set : (views : List View) (id : ℕ) (w : View) (P : View → Type 0) → ((seat : ℕ) (v : View) → get_elem? views seat ≡ some v → ¬ (seat ≡ id) → P v) → P w → (seat : ℕ) (v : View) → get_elem? (set views id w) seat ≡ some v → P v
-each_set views id w P h p seat v at = ⊎_elim (λ (t : (seat ≡ id) × (w ≡ v)). subst P t.1 p) (λ (t : (seat ≢ id) × (get_elem? views seat ≡ some v)). h seat v t.1 t.0) (at_set views id seat w v at)
-
-pub each_snoc : (views : List View) (w : View) (P : View → Type 0) → ((seat : ℕ) (v : View) → get_elem? views seat ≡ some v → P v) → P w → (seat : ℕ) (v : View) → get_elem? (views ++ w ∷ []) seat ≡ some v → P v
-each_snoc views w P h p seat v at = ⊎_elim (λ (was : get_elem? views seat ≡ some v). h seat v was) (λ (is : w ≡ v). subst P is p) (at_snoc views w v seat at)
-
 abbrev pub Agrees : Start → Bool → View → Type 0
 Agrees begin frozen v = 0 < v.weight → (start_of v ≡ begin) × (v.frozen ≡ frozen)
+
+-- a member's step leaves its seat's weight, beginning and numbers
+abbrev pub Stays : View → View → Type 0
+Stays v w = (w.weight ≡ v.weight) × (start_of w ≡ start_of v) × (w.frozen ≡ v.frozen) × (w.spare ≡ v.spare)
 
 module _ (k : Shape) (words : List ℕ) (views : List View) (h : Going k words views) where
   abbrev pub begin : Start
@@ -36,8 +33,8 @@ module _ (k : Shape) (words : List ℕ) (views : List View) (h : Going k words v
   known id v at heavy e = let mine = h.agreed id v at heavy in h.still (sym mine.1 ∙ e) ∙ sym (ap (λ (b : Start). b.words) mine.0)
 
   -- a member's step
-  pub going_step : (new : List ℕ) (id : ℕ) (v w : View) → get_elem? views id ≡ some v → 0 < v.weight → v.frozen ≡ false → w.weight ≡ v.weight → start_of w ≡ start_of v → w.frozen ≡ v.frozen → w.spare ≡ v.spare → Raced begun new (set views id w) → Going k new (set views id w)
-  going_step new id v w at heavy moving weight same flag spare raced = record {
+  pub going_step : (new : List ℕ) (id : ℕ) (v w : View) → get_elem? views id ≡ some v → 0 < v.weight → v.frozen ≡ false → Stays v w → Raced begun new (set views id w) → Going k new (set views id w)
+  going_step new id v w at heavy moving (weight, same, flag, spare) raced = record {
     first = h.first;
     proper = h.proper;
     frozen = h.frozen;

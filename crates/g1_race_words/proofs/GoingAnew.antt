@@ -1,20 +1,12 @@
 -- What is known where one seat has all the weight, and how a race begins anew.
-use Rattle.std.specs.Prelude.{◌≡◌, ◌⊎◌, ◌+◌, ◌<◌, ◌≤◌, ◌∷◌}
-use Rattle.g1_race_words.specs.{ℕ, zero, suc, List, [], set, true, refl, sym, ap, ◌∙◌, subst, inl, inr, ⊎_elim, arith, nat_lt, some, some-ne-none, ℕ_discrete, get_elem?, Shape, View, Start, In, Held, histories_of, claims_of, cleanings_of, pairs_found, held_of, flagged_of, slot_card, region_at, mark_word, AnswersFor, IsMarked, IsWholeShape, HasBit, IsNoted, StoredInto, BeganInto, Someone, AtRest, IsBlank, MadeDirty, times, claims_at, cleanings_at, sum_at, stored_sum, overwritten_sum, total, as_number, tally, numbers, front, pairs_up_to, Raced, IsBegun, Going, started, beginning, start_of}
-use Rattle.g1_race_words.proofs.Plain.{one_there, weigh_set, weigh_all}
-use Rattle.g1_race_words.proofs.PairBits.{crossing_pair}
-use Rattle.g1_race_words.proofs.Places.{at_take, at_untake}
-use Rattle.g1_race_words.proofs.Listing.{in_set, set_in}
-use Rattle.g1_race_words.proofs.Tallies.{none_below}
-use Rattle.g1_race_words.proofs.Balance.{sum_in}
-use Rattle.g1_race_words.proofs.AtBeginning.{never_both, same_word}
-use Rattle.g1_race_words.proofs.Going.{others_blank, each_set, Agrees, known}
+use Rattle.std.specs.Prelude.{◌≡◌, ◌⊎◌, ◌<◌, ◌≤◌, ◌∷◌}
+use Rattle.g1_race_words.specs.{ℕ, zero, suc, List, [], set, true, refl, sym, ap, ◌∙◌, subst, inl, inr, ⊎_elim, arith, nat_lt, some, some-ne-none, get_elem?, Shape, View, Start, In, Held, cleanings_of, pairs_found, held_of, slot_card, region_at, mark_word, AnswersFor, IsMarked, IsWholeShape, HasBit, IsNoted, StoredInto, BeganInto, Someone, OfSome, cases_eq, AtRest, IsBlank, MadeDirty, total, as_number, tally, numbers, front, pairs_up_to, Raced, IsBegun, Going, started, beginning, start_of}
+use Rattle.g1_race_words.proofs.Plain.{one_there, each_set, total_none, weigh_all, total_set}
+use Rattle.g1_race_words.proofs.Tallies.{numbers_none}
+use Rattle.g1_race_words.proofs.AtBeginning.{raced_fresh, going_fresh}
+use Rattle.g1_race_words.proofs.Going.{others_blank, Agrees, known}
 
 -- totals where only one seat counts
-
-total_none : (f : View → ℕ) (views : List View) → ((seat : ℕ) (u : View) → get_elem? views seat ≡ some u → f u ≡ 0) → total f views ≡ 0
-total_none f [] none = refl
-total_none f (u ∷ us) none = let a = none 0 u refl in let b = total_none f us (λ seat x at. none (suc seat) x at) in omega arith
 
 pub total_alone : (f : View → ℕ) (views : List View) (id : ℕ) (v w : View) → get_elem? views id ≡ some v → ((seat : ℕ) (u : View) → get_elem? views seat ≡ some u → ¬ (seat ≡ id) → f u ≡ 0) → total f (set views id w) ≡ f w
 total_alone f [] id v w at none = absurd (some-ne-none v (sym at))
@@ -42,73 +34,20 @@ module _ (k : Shape) (words : List ℕ) (views : List View) (id : ℕ) (v : View
   pub known_words : v.frozen ≡ true → words ≡ v.began_words
   known_words = known k words views h id v at (omega (arith, all, pos))
 
-  -- nothing is held where the seat's new view holds nothing
-  none_held : {A : Type 0} (f : View → List A) → ((u : View) → IsBlank u → f u ≡ []) → (w : View) → IsBlank w → (x : A) → Held f (set views id w) x → ⊥
-  none_held {A} f none w still x b = subst (λ (l : List A). In l x) (each_set views id w (λ (u : View). f u ≡ []) (λ seat u there ne. none u (others seat u there ne)) (none w still) b.0 b.1 b.2) b.3
-
   no_numbers : (m seat : ℕ) (u : View) → get_elem? views seat ≡ some u → ¬ (seat ≡ id) → numbers m u ≡ 0
-  no_numbers m seat u there ne =
-      let few = h.spared seat u there in
-      let empty = light seat u there ne in
-      let zero_spare : u.spare ≡ 0 = omega (arith, few, empty) in
-      let a : as_number (nat_lt m u.spare) ≡ 0 = ap (λ (n : ℕ). as_number (nat_lt m n)) zero_spare ∙ none_below m in
-      let b : tally m u.histories ≡ 0 = ap (tally m) (others seat u there ne).1 in omega (arith, a, b)
+  no_numbers m seat u there ne = let few = h.spared seat u there in let empty = light seat u there ne in numbers_none m u (others seat u there ne).1 (omega (arith, few, empty))
 
   -- a race begins anew, with any words that one can start with
-  pub raced_anew : (new : List ℕ) (w : View) → IsBegun (started k new) → IsBlank w → w.weight ≡ k.members → w.spare ≡ k.members → Raced (beginning (started k new)) new (set views id w)
-  raced_anew new w b still weight spare = record {
-    sized = b.sized;
-    bounded = b.bounded;
-    covered = λ p n lt there cr. ⊎_elim (λ (i : HasBit k new (slot_card k p, region_at k n)). inl (set_in k new _ (crossing_pair k p n b.shaped lt (b.bounded p n lt there) cr) i)) (λ (m : IsMarked k new p). inr (inl m)) (b.covered p n lt there cr);
-    weighed = (
-      let a = weigh_set views id v w at in let t = h.raced.weighed.0 in omega (arith, a, t, all, weight),
-      each_set views id w (λ (u : View). u.weight ≡ 0 → IsBlank u) (λ seat u there ne. h.raced.weighed.1 seat u there) (λ z. still),
-    );
-    numbered = λ m.
-        let a = total_alone (numbers m) views id v w at (no_numbers m) in
-        let t : tally m w.histories ≡ 0 = ap (tally m) still.1 in
-        let c : as_number (nat_lt m w.spare) ≡ as_number (nat_lt m k.members) = ap (λ (n : ℕ). as_number (nat_lt m n)) spare in omega (arith, a, t, c);
-    stored = λ p n lt there. inr (at_take new (k.slots + k.cards) p n (omega (arith, lt)) there, λ g x. absurd (none_held histories_of (λ u s. s.1) w still g x));
-    balanced = λ f p first now lt was is.
-        let x = total_alone (stored_sum f p) views id v w at (λ seat u there ne. ap (sum_in f p) (others seat u there ne).1) in
-        let y = total_alone (overwritten_sum f p) views id v w at (λ seat u there ne. ap (sum_at f p) (others seat u there ne).5) in
-        let c : stored_sum f p w ≡ 0 = ap (sum_in f p) still.1 in
-        let d : overwritten_sum f p w ≡ 0 = ap (sum_at f p) still.5 in
-        let e = ap f (same_word new (k.slots + k.cards) p first now was is) in omega (arith, x, y, c, d, e);
-    recorded = λ x y. absurd (none_held pairs_found (λ u s. s.4) w still x y);
-    kept = record {
-      has = λ x n. ⊎_elim (λ (i : In (pairs_up_to k new k.cards) x). inl (in_set k new x i).1) (λ (a : Held pairs_found (set views id w) x). absurd (none_held pairs_found (λ u s. s.4) w still x a)) n;
-      only = λ x pair bit. inl (set_in k new x pair bit);
-      read = λ x a. absurd (none_held held_of (λ u s. s.0.2) w still x a);
-    };
-    claimed = λ c lt. ⊎_elim
-        (λ (m : get_elem? new (mark_word k c) ≡ some 1). inl (m, inr (at_take new (k.slots + k.cards) (mark_word k c) 1 (omega (arith, lt)) m)))
-        (λ (z : get_elem? new (mark_word k c) ≡ some 0). inr (
-          z,
-          inr (λ (y : MadeDirty k (front k new) (set views id w) c). ⊎_elim
-              (λ (x : Held claims_of (set views id w) c). none_held claims_of (λ u s. s.2) w still c x)
-              (λ (m : get_elem? (front k new) (mark_word k c) ≡ some 1). never_both new (mark_word k c) z (at_untake new (k.slots + k.cards) (mark_word k c) 1 m).1) y),
-        ))
-        (b.marks c lt);
-    counted = λ c m n lt was is.
-        let x = total_alone (claims_at c) views id v w at (λ seat u there ne. ap (times c) (others seat u there ne).2) in
-        let y = total_alone (cleanings_at c) views id v w at (λ seat u there ne. ap (times c) (others seat u there ne).3) in
-        let e : claims_at c w ≡ 0 = ap (times c) still.2 in
-        let f : cleanings_at c w ≡ 0 = ap (times c) still.3 in
-        let g = same_word new (k.slots + k.cards) (mark_word k c) m n was is in omega (arith, x, y, e, f, g);
-    flagged = record { marked = b.flagged; known = λ c x. absurd (none_held flagged_of (λ u s. s.0.3) w still c x) };
-  }
-
   pub going_anew : (new : List ℕ) (w : View) → IsBegun (started k new) → IsBlank w → w.weight ≡ k.members → w.spare ≡ k.members → start_of w ≡ started k new → Going k new (set views id w)
-  going_anew new w b still weight spare is = record {
-    first = new;
-    frozen = w.frozen;
-    raced = raced_anew new w b still weight spare;
-    proper = λ x i. let s = in_set k new x i in b.proper x s.0 s.1;
-    agreed = each_set views id w (λ (u : View). Agrees (started k new) w.frozen u) (λ seat u there ne lt. let z = light seat u there ne in absurd (omega (arith, z, lt))) (λ lt. (is, refl));
-    spared = each_set views id w (λ (u : View). u.spare ≤ u.weight) (λ seat u there ne. h.spared seat u there) (omega (arith, weight, spare));
-    still = λ e. refl;
-  }
+  going_anew new w b still weight spare is = going_fresh k new (set views id w) w.frozen b
+      (raced_fresh k new (set views id w) b (each_set views id w IsBlank others still)
+      (let a = total_set (λ u. u.weight) views id v w at in let t = h.raced.weighed.0 in omega (arith, a, t, all, weight))
+      (λ m.
+      let a = total_alone (numbers m) views id v w at (no_numbers m) in
+      let t : tally m w.histories ≡ 0 = ap (tally m) still.1 in
+      let c : as_number (nat_lt m w.spare) ≡ as_number (nat_lt m k.members) = ap (λ (n : ℕ). as_number (nat_lt m n)) spare in omega (arith, a, t, c)))
+      (each_set views id w (λ (u : View). Agrees (started k new) w.frozen u) (λ seat u there ne lt. let z = light seat u there ne in absurd (omega (arith, z, lt))) (λ lt. (is, refl)))
+      (each_set views id w (λ (u : View). u.spare ≤ u.weight) (λ seat u there ne. h.spared seat u there) (omega (arith, weight, spare)))
 
   -- at rest, the words are what a race can start with
   pub begun_here : IsWholeShape k → AtRest v → IsBegun (started k words)
@@ -144,19 +83,15 @@ module _ (k : Shape) (words : List ℕ) (views : List View) (id : ℕ) (v : View
       blank_answers u p n s (inr (inl a)) = absurd (omega (arith, a.0, a.1, s.0.1))
       blank_answers u p n s (inr (inr a)) = subst (λ (l : List (ℕ × ℕ)). In l (slot_card k p, region_at k n)) s.4 a
 
+      -- what is so of some seat is so of this one, or of one that answers for nothing
+      alone : (P : View → Type 0) → OfSome P views → P v ⊎ ((u : View) × IsBlank u × P u)
+      alone P s = elim (cases_eq s.0 id) [ inl e ↦ inl (subst P (one_there views id s.1 v (rw e at s.2) at) s.3) | inr ne ↦ inr (s.1, others s.0 s.1 s.2 ne, s.3) ]
+
       someone : (p n : ℕ) → Someone k views p n → In v.pairs (slot_card k p, region_at k n)
-      someone p n s = pick (ℕ_discrete s.0 id)
-        where
-          pick : Dec (s.0 ≡ id) → In v.pairs (slot_card k p, region_at k n)
-          pick (yes e) = mine_answers p n (subst (λ (u : View). AnswersFor k u p n) (one_there views id s.1 v (subst (λ (i : ℕ). get_elem? views i ≡ some s.1) e s.2) at) s.3)
-          pick (no ne) = absurd (blank_answers s.1 p n (others s.0 s.1 s.2 ne) s.3)
+      someone p n s = elim (alone (λ u. AnswersFor k u p n) s) [ inl a ↦ mine_answers p n a | inr b ↦ absurd (blank_answers b.0 p n b.1 b.2) ]
 
       no_pair : (x : ℕ × ℕ) → Held held_of views x → ⊥
-      no_pair x b = pick (ℕ_discrete b.0 id)
-        where
-          pick : Dec (b.0 ≡ id) → ⊥
-          pick (yes e) = subst (λ (l : List (ℕ × ℕ)). In l x) rest.2 (subst (λ (u : View). In u.held x) (one_there views id b.1 v (subst (λ (i : ℕ). get_elem? views i ≡ some b.1) e b.2) at) b.3)
-          pick (no ne) = subst (λ (l : List (ℕ × ℕ)). In l x) (others b.0 b.1 b.2 ne).0.2 b.3
+      no_pair x b = elim (alone (λ u. In u.held x) b) [ inl i ↦ absurd (rw rest.2 at i) | inr c ↦ absurd (rw c.1.0.2 at c.2) ]
 
       noted_bit : (x : ℕ × ℕ) → IsNoted (pairs_up_to k h.first k.cards) views x → HasBit k words x
       noted_bit x n = ⊎_elim (λ (b : HasBit k words x). b) (λ (b : Held held_of views x). absurd (no_pair x b)) (h.raced.kept.has x n)

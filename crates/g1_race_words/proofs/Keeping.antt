@@ -1,7 +1,7 @@
 -- Bits and pairs stay in step.
 use Rattle.std.specs.Prelude.{◌≡◌, ◌⊎◌}
-use Rattle.g1_race_words.specs.{ℕ, List, [], set, sym, ◌∙◌, subst, inl, inr, ⊎_elim, some, ℕ_discrete, get_elem?, set_else, Shape, View, In, Held, pairs_found, held_of, IsNoted, HasBit, Kept, pair_at, read}
-use Rattle.g1_race_words.proofs.Plain.{in_left, in_right, in_either, put_here, one_there, SameHeld, held_on, held_back, held_same}
+use Rattle.g1_race_words.specs.{ℕ, List, [], set, sym, inl, inr, ⊎_elim, some, get_elem?, Shape, View, In, Held, pairs_found, held_of, IsNoted, IsPair, HasBit, Kept, pair_at, read}
+use Rattle.g1_race_words.proofs.Plain.{some_or, in_left, in_right, in_either, put_here, SameHeld, held_on, held_back, held_same}
 use Rattle.g1_race_words.proofs.PairBits.{SameBits, bit_as}
 
 pub noted_on : (known : List (ℕ × ℕ)) (views after : List View) → ((x : ℕ × ℕ) → Held pairs_found views x → Held pairs_found after x) → (x : ℕ × ℕ) → IsNoted known views x → IsNoted known after x
@@ -19,38 +19,33 @@ kept_same k known words new views after bits pairs held h = record {
 pub kept_stays : (k : Shape) (known : List (ℕ × ℕ)) (words new : List ℕ) (views : List View) (id : ℕ) (v w : View) → get_elem? views id ≡ some v → v.pairs ≡ w.pairs → v.held ≡ w.held → SameBits k words new → Kept k known words views → Kept k known new (set views id w)
 kept_stays k known words new views id v w at pairs held bits = kept_same k known words new views (set views id w) bits (held_same pairs_found views id v w at pairs) (held_same held_of views id v w at held)
 
--- a sweeper that holds nothing reads a slot, and holds its pair then
-pub kept_read : (k : Shape) (known : List (ℕ × ℕ)) (words : List ℕ) (views : List View) (id : ℕ) (v : View) (p n : ℕ) → v.held ≡ [] → get_elem? views id ≡ some v → Kept k known words views → Kept k known words (set views id (read v p n))
-kept_read k known words views id v p n free at h = record {
-  has = has;
-  only = λ x pair b. noted_on known views after more x (h.only x pair b);
-  read = λ x a. ⊎_elim (λ (b : Held held_of views x). more x (h.read x b)) (λ (i : In (pair_at v.shape p n) x). (id, w, put_here views id v w at, in_right v.pairs (pair_at v.shape p n) x i)) (held_back held_of views id v w at x a);
+-- one seat's view changes, and bits may be set: a pair that is new with it is held, and one that it holds no more has its bit set
+pub kept_moves : (k : Shape) (known : List (ℕ × ℕ)) (words new : List ℕ) (views : List View) (id : ℕ) (v w : View) → get_elem? views id ≡ some v → ((x : ℕ × ℕ) → In v.pairs x → In w.pairs x) → ((x : ℕ × ℕ) → In w.pairs x → In v.pairs x ⊎ In w.held x)
+    → ((x : ℕ × ℕ) → HasBit k words x → HasBit k new x) → ((x : ℕ × ℕ) → IsPair k x → HasBit k new x → HasBit k words x ⊎ In v.held x)
+    → ((x : ℕ × ℕ) → In v.held x → HasBit k new x ⊎ In w.held x) → ((x : ℕ × ℕ) → In w.held x → In v.held x ⊎ In w.pairs x) → Kept k known words views → Kept k known new (set views id w)
+kept_moves k known words new views id v w at more found on back lost less h = record {
+  has = λ x n. ⊎_elim
+      (λ (m : IsNoted known views x). ⊎_elim (λ (b : HasBit k words x). inl (on x b)) (λ (a : Held held_of views x). some_or (λ u. In u.held x) (HasBit k new x) views id v w at (lost x) a) (h.has x m))
+      (λ (i : In w.held x). inr (id, w, put_here views id v w at, i))
+      (was x n);
+  only = λ x p b. noted_on known views (set views id w) wider x (⊎_elim (λ (o : HasBit k words x). h.only x p o) (λ (i : In v.held x). inr (h.read x (id, v, at, i))) (back x p b));
+  read = λ x a. ⊎_elim
+      (λ (b : Held held_of views x). wider x (h.read x b))
+      (λ (i : In w.held x). ⊎_elim (λ (j : In v.held x). wider x (h.read x (id, v, at, j))) (λ (j : In w.pairs x). (id, w, put_here views id v w at, j)) (less x i))
+      (held_back held_of views id w x a);
 }
   where
-    w : View
-    w = read v p n
+    wider : (x : ℕ × ℕ) → Held pairs_found views x → Held pairs_found (set views id w) x
+    wider = held_on pairs_found views id v w at more
 
-    after : List View
-    after = set views id w
+    was : (x : ℕ × ℕ) → IsNoted known (set views id w) x → IsNoted known views x ⊎ In w.held x
+    was x (inl i) = inl (inl i)
+    was x (inr a) = ⊎_elim
+        (λ (b : Held pairs_found views x). inl (inr b))
+        (λ (i : In w.pairs x). ⊎_elim (λ (j : In v.pairs x). inl (inr (id, v, at, j))) (λ (j : In w.held x). inr j) (found x i))
+        (held_back pairs_found views id w x a)
 
-    more : (x : ℕ × ℕ) → Held pairs_found views x → Held pairs_found after x
-    more = held_on pairs_found views id v w at (λ y i. in_left v.pairs (pair_at v.shape p n) y i)
-
-    old : (x : ℕ × ℕ) → IsNoted known views x → HasBit k words x ⊎ Held held_of after x
-    old x n = ⊎_elim (λ (b : HasBit k words x). inl b) (λ (a : Held held_of views x). inr (held_on held_of views id v w at (λ y i. absurd (subst (λ (l : List (ℕ × ℕ)). In l y) free i)) x a)) (h.has x n)
-
-    has : (x : ℕ × ℕ) → IsNoted known after x → HasBit k words x ⊎ Held held_of after x
-    has x (inl i) = old x (inl i)
-    has x (inr a) = ⊎_elim
-        (λ (b : Held pairs_found views x). old x (inr b))
-        (λ (i : In w.pairs x). ⊎_elim (λ (j : In v.pairs x). old x (inr (id, v, at, j))) (λ (j : In (pair_at v.shape p n) x). inr (id, w, put_here views id v w at, j)) (in_either v.pairs (pair_at v.shape p n) x i))
-        (held_back pairs_found views id v w at x a)
-
--- what a seat held it still holds, or it has been done with
-pub held_or : (Q : Type 0) (views : List View) (id : ℕ) (v w : View) (x : ℕ × ℕ) → get_elem? views id ≡ some v → (In v.held x → Q ⊎ In w.held x) → Held held_of views x → Q ⊎ Held held_of (set views id w) x
-held_or Q views id v w x at f h = pick (ℕ_discrete h.0 id)
-  where
-    pick : Dec (h.0 ≡ id) → Q ⊎ Held held_of (set views id w) x
-    pick (yes e) = ⊎_elim (λ (q : Q). inl q) (λ (i : In w.held x). inr (id, w, put_here views id v w at, i))
-        (f (subst (λ (u : View). In u.held x) (one_there views id h.1 v (subst (λ (i : ℕ). get_elem? views i ≡ some h.1) e h.2) at) h.3))
-    pick (no ne) = inr (h.0, h.1, set_else views id h.0 w ne ∙ h.2, h.3)
+-- a sweeper that holds nothing reads a slot, and holds its pair then
+pub kept_read : (k : Shape) (known : List (ℕ × ℕ)) (words : List ℕ) (views : List View) (id : ℕ) (v : View) (p n : ℕ) → v.held ≡ [] → get_elem? views id ≡ some v → Kept k known words views → Kept k known words (set views id (read v p n))
+kept_read k known words views id v p n free at = let l = pair_at v.shape p n in
+    kept_moves k known words words views id v (read v p n) at (λ x i. in_left v.pairs l x i) (λ x i. in_either v.pairs l x i) (λ x b. b) (λ x p b. inl b) (λ x i. absurd (rw free at i)) (λ x i. inr (in_right v.pairs l x i))

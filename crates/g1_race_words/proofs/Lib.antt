@@ -14,18 +14,13 @@ pub mod Recording
 pub mod Raising
 pub mod Writing
 pub mod Marking
-pub mod Cleaning
 pub mod Reading
 pub mod Splitting
 pub mod Listing
 pub mod AtBeginning
 pub mod Going
 pub mod GoingAnew
-pub mod Allowed
-pub mod AllowedAtPause
-pub mod Flagging
 pub mod Calls
-pub mod Readers
 pub mod StepKinds
 pub mod Together
 use Calls.*

@@ -69,17 +69,15 @@ module _ (k : Shape) (words : List ℕ) (x : ℕ × ℕ) where
     pub bit_here : HasBit k with_pair x
     bit_here = same_place x (λ i. bit_word k x) (λ i. bit_place k x)
 
-    pub bits_stay : (y : ℕ × ℕ) → HasBit k words y → HasBit k with_pair y
-    bits_stay y h = elim (cases_eq (bit_word k y) (bit_word k x)) [
-      | inl e ↦ elim (cases_eq (bit_place k y) (bit_place k x)) [ inl f ↦ same_place y e f | inr ne ↦ other_place y e ne ∙ h ]
-      | inr ne ↦ other_word y ne ∙ h
+    -- a bit is the pair's, or as it was
+    is_or_was : (y : ℕ × ℕ) → ((bit_word k y ≡ bit_word k x) × (bit_place k y ≡ bit_place k x)) ⊎ (bit_at (get_or with_pair (bit_word k y) 0) (bit_place k y) ≡ bit_at (get_or words (bit_word k y) 0) (bit_place k y))
+    is_or_was y = elim (cases_eq (bit_word k y) (bit_word k x)) [
+      | inl e ↦ elim (cases_eq (bit_place k y) (bit_place k x)) [ inl f ↦ inl (e, f) | inr ne ↦ inr (other_place y e ne) ]
+      | inr ne ↦ inr (other_word y ne)
     ]
 
+    pub bits_stay : (y : ℕ × ℕ) → HasBit k words y → HasBit k with_pair y
+    bits_stay y h = elim (is_or_was y) [ inl s ↦ same_place y s.0 s.1 | inr e ↦ e ∙ h ]
+
     pub bits_back : (y : ℕ × ℕ) → IsWholeShape k → x.0 < k.cards → y.0 < k.cards → HasBit k with_pair y → HasBit k words y ⊎ (x ≡ y)
-    bits_back y shaped px py h = elim (cases_eq (bit_word k y) (bit_word k x)) [
-      | inl e ↦ elim (cases_eq (bit_place k y) (bit_place k x)) [
-        | inl f ↦ inr (bit_apart k x y shaped px py (sym e) (sym f))
-        | inr ne ↦ inl (sym (other_place y e ne) ∙ h)
-      ]
-      | inr ne ↦ inl (sym (other_word y ne) ∙ h)
-    ]
+    bits_back y shaped px py h = elim (is_or_was y) [ inl s ↦ inr (bit_apart k x y shaped px py (sym s.0) (sym s.1)) | inr e ↦ inl (sym e ∙ h) ]

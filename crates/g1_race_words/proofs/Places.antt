@@ -4,12 +4,6 @@ use Rattle.g1_race_words.specs.{ℕ, zero, suc, List, [], length, map, take, dro
 use Rattle.std.proofs.Common.{take_all as all_taken}
 
 module _ {A : Type 0} where
-  pub at_take : (l : List A) (n i : ℕ) (a : A) → i < n → get_elem? l i ≡ some a → get_elem? (take n l) i ≡ some a
-  at_take [] n i a lt e = absurd (some-ne-none a (sym e))
-  at_take (x ∷ xs) zero i a lt e = absurd (omega arith)
-  at_take (x ∷ xs) (suc n) zero a lt e = e
-  at_take (x ∷ xs) (suc n) (suc i) a lt e = at_take xs n i a (omega arith) e
-
   pub at_untake : (l : List A) (n i : ℕ) (a : A) → get_elem? (take n l) i ≡ some a → (i < n) × (get_elem? l i ≡ some a)
   at_untake l zero i a e = absurd (some-ne-none a (sym e))
   at_untake [] (suc n) i a e = absurd (some-ne-none a (sym e))
@@ -21,6 +15,9 @@ module _ {A : Type 0} where
   take_at [] (suc n) i lt = refl
   take_at (x ∷ xs) (suc n) zero lt = refl
   take_at (x ∷ xs) (suc n) (suc i) lt = take_at xs n i (omega arith)
+
+  pub at_take : (l : List A) (n i : ℕ) (a : A) → i < n → get_elem? l i ≡ some a → get_elem? (take n l) i ≡ some a
+  at_take l n i a lt e = take_at l n i lt ∙ e
 
   pub take_same : (l m : List A) (n : ℕ) → ((i : ℕ) → i < n → get_elem? l i ≡ get_elem? m i) → take n l ≡ take n m
   take_same l m zero h = refl

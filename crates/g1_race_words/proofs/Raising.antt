@@ -1,46 +1,26 @@
 -- A racer looks for the flag of the card that it owes, sets it, and dirties the card.
 use Rattle.std.specs.Prelude.{◌≡◌, ◌<◌, ◌∷◌}
-use Rattle.g1_race_words.specs.{ℕ, eqb, eq-eqb, ne_eqb, List, [], length, set, get_or, Option, Some, None, refl, sym, ap, ◌∙◌, subst, inl, inr, ⊎_elim, arith, length-set, some, ℕ_discrete, get_elem?, bit_at, set_else, Shape, View, Begun, In, Held, pairs_found, held_of, flagged_of, mark_word, bit_word, bit_place, flag, IsFlagged, IsWholeShape, HasBit, Flagged, Raced, owed_card, set_flags, spotted, raised, dirtied, Sits}
-use Rattle.g1_race_words.proofs.Plain.{held_back, held_same, true_is, false_is}
+use Rattle.g1_race_words.specs.{ℕ, eqb, eqb-true, true, eq-eqb, ne_eqb, List, [], length, set, get_or, Option, Some, None, refl, sym, ap, ◌∙◌, subst, inl, inr, ⊎_elim, arith, length-set, some, ℕ_discrete, get_elem?, bit_at, set_else, Shape, View, Begun, In, Held, flagged_of, mark_word, bit_word, bit_place, flag, IsFlagged, IsWholeShape, HasBit, Flagged, Raced, owed_card, set_flags, spotted, raised, dirtied, Sits}
+use Rattle.g1_race_words.proofs.Plain.{in_one, in_cond_back, held_back, true_is, false_is}
 use Rattle.g1_race_words.proofs.PairBits.{with_pair, bit_here, bits_stay, bits_back, same_bits, bit_as}
-use Rattle.g1_race_words.proofs.Keeping.{kept_stays, noted_on}
+use Rattle.g1_race_words.proofs.Keeping.{kept_stays, kept_moves}
 use Rattle.g1_race_words.proofs.Recording.{raced_held}
 use Rattle.g1_race_words.proofs.Flags.{flag_below, flag_card, front_stays}
-
--- the one card that is owed
-only_owed : (o : Option ℕ) (c d : ℕ) → o ≡ Some c → In (owed_card o) d → c ≡ d
-only_owed None c d owes i = absurd i
-only_owed (Some b) c d owes (inl e) = let f : b ≡ c = cc (owes) in sym f ∙ e
-only_owed (Some b) c d owes (inr i) = absurd i
 
 -- the flag is looked for
 
 set_back : (k : Shape) (n : ℕ) (cs : List ℕ) (d : ℕ) → In (set_flags k n cs) d → In cs d × (bit_at n (bit_place k (flag k d)) ≡ 1)
 set_back k n [] d i = absurd i
-set_back k n (c ∷ cs) d i = pick (ℕ_discrete bit 1) (λ j. set_back k n cs d j)
-  where
-    bit : ℕ
-    bit = bit_at n (bit_place k (flag k c))
-
-    Goal : Type 0
-    Goal = In (c ∷ cs) d × (bit_at n (bit_place k (flag k d)) ≡ 1)
-
-    later : In cs d × (bit_at n (bit_place k (flag k d)) ≡ 1) → Goal
-    later m = (inr m.0, m.1)
-
-    first : bit ≡ 1 → In (c ∷ set_flags k n cs) d → (In (set_flags k n cs) d → In cs d × (bit_at n (bit_place k (flag k d)) ≡ 1)) → Goal
-    first e (inl is) more = (inl is, subst (λ (x : ℕ). bit_at n (bit_place k (flag k x)) ≡ 1) is e)
-    first e (inr j) more = later (more j)
-
-    pick : Dec (bit ≡ 1) → (In (set_flags k n cs) d → In cs d × (bit_at n (bit_place k (flag k d)) ≡ 1)) → Goal
-    pick (yes e) more = first e (subst (λ (l : List ℕ). In l d) (true_is (eqb bit 1) (c ∷ set_flags k n cs) (set_flags k n cs) (eq-eqb bit 1 e)) i) more
-    pick (no ne) more = later (more (subst (λ (l : List ℕ). In l d) (false_is (eqb bit 1) (c ∷ set_flags k n cs) (set_flags k n cs) (ne_eqb bit 1 ne)) i))
+set_back k n (c ∷ cs) d i = let bit = bit_at n (bit_place k (flag k c)) in ⊎_elim
+    (λ (t : (c ≡ d) × (eqb bit 1 ≡ true)). (inl t.0, subst (λ (x : ℕ). bit_at n (bit_place k (flag k x)) ≡ 1) t.0 (eqb-true bit 1 t.1)))
+    (λ (j : In (set_flags k n cs) d). let m = set_back k n cs d j in (inr m.0, m.1))
+    (in_cond_back (eqb bit 1) c d (set_flags k n cs) i)
 
 pub raced_spotted : (begun : Begun) (words : List ℕ) (views : List View) (id : ℕ) (v : View) (c : ℕ) → IsWholeShape begun.shape → Sits begun.shape v → v.owed ≡ Some c
     → get_elem? views id ≡ some v → Raced begun words views → Raced begun words (set views id (spotted v (get_or words (bit_word begun.shape (flag begun.shape c)) 0)))
 raced_spotted begun words views id v c shaped sits owes at h = raced_held begun words words views id v v.held w.flagged shaped sits refl (λ i lt. refl) at
     (kept_stays k begun.pairs words words views id v w at refl refl (λ x. refl) h.kept)
-    (record { marked = h.flagged.marked; known = λ d b. ⊎_elim (λ (a : Held flagged_of views d). h.flagged.known d a) (λ (i : In w.flagged d). found d i) (held_back flagged_of views id v w at d b) }) h
+    (record { marked = h.flagged.marked; known = λ d b. ⊎_elim (λ (a : Held flagged_of views d). h.flagged.known d a) (λ (i : In w.flagged d). found d i) (held_back flagged_of views id w d b) }) h
   where
     k : Shape
     k = begun.shape
@@ -54,7 +34,7 @@ raced_spotted begun words views id v c shaped sits owes at h = raced_held begun 
     found : (d : ℕ) → In w.flagged d → IsFlagged k words d
     found d i =
         let b = set_back k n (owed_card v.owed) d (subst (λ (s : Shape). In (set_flags s n (owed_card v.owed)) d) sits.shape i) in
-        let e : c ≡ d = only_owed v.owed c d owes b.0 in
+        let e : c ≡ d = in_one (owed_card v.owed) c d (ap owed_card owes) b.0 in
         subst (IsFlagged k words) e (subst (λ (x : ℕ). bit_at n (bit_place k (flag k x)) ≡ 1) (sym e) b.1)
 
 -- the flag is set
@@ -62,16 +42,12 @@ raced_spotted begun words views id v c shaped sits owes at h = raced_held begun 
 pub raced_raised : (begun : Begun) (words : List ℕ) (views : List View) (id : ℕ) (v : View) (c : ℕ) → IsWholeShape begun.shape → Sits begun.shape v → v.owed ≡ Some c → c < begun.shape.cards
     → get_elem? views id ≡ some v → Raced begun words views → Raced begun (with_pair begun.shape words (flag begun.shape c)) (set views id (raised v))
 raced_raised begun words views id v c shaped sits owes lt at h = raced_held begun words new views id v v.held w.flagged shaped sits (length-set words (bit_word k x) _) (front_stays k words x) at
-    (record {
-      has = λ y n. ⊎_elim (λ (b : HasBit k words y). inl (bits_stay k words x short y b)) (λ (a : Held held_of views y). inr ((held_same held_of views id v w at refl y).0 a)) (h.kept.has y (noted_on begun.pairs (set views id w) views (λ z. (pairs z).1) y n));
-      only = λ y p b. ⊎_elim (λ (o : HasBit k words y). noted_on begun.pairs views (set views id w) (λ z. (pairs z).0) y (h.kept.only y p o))
-          (λ (e : x ≡ y). absurd (let r : k.regions ≡ y.1 = ap (λ (z : ℕ × ℕ). z.1) e in let l : y.1 < k.regions = p.1 in omega (arith, r, l)))
-          (bits_back k words x short y shaped (flag_card k c lt) p.0 b);
-      read = λ y a. (pairs y).0 (h.kept.read y ((held_same held_of views id v w at refl y).1 a));
-    })
+    (kept_moves k begun.pairs words new views id v w at (λ y i. i) (λ y i. inl i) (bits_stay k words x short)
+    (λ y p b. ⊎_elim (λ (o : HasBit k words y). inl o) (λ (e : x ≡ y). absurd (let r : k.regions ≡ y.1 = ap (λ (z : ℕ × ℕ). z.1) e in let l : y.1 < k.regions = p.1 in omega (arith, r, l))) (bits_back k words x short y shaped (flag_card k c lt) p.0 b))
+    (λ y i. inr i) (λ y i. inl i) h.kept)
     (record {
       marked = λ d below m. bits_stay k words x short (flag k d) (h.flagged.marked d below (sym (front_stays k words x (mark_word k d) (omega (arith, below))) ∙ m));
-      known = λ d b. ⊎_elim (λ (a : Held flagged_of views d). bits_stay k words x short (flag k d) (h.flagged.known d a)) (λ (i : In w.flagged d). subst (IsFlagged k new) (only_owed v.owed c d owes i) (bit_here k words x short)) (held_back flagged_of views id v w at d b);
+      known = λ d b. ⊎_elim (λ (a : Held flagged_of views d). bits_stay k words x short (flag k d) (h.flagged.known d a)) (λ (i : In w.flagged d). subst (IsFlagged k new) (in_one (owed_card v.owed) c d (ap owed_card owes) i) (bit_here k words x short)) (held_back flagged_of views id w d b);
     }) h
   where
     k : Shape
@@ -89,16 +65,13 @@ raced_raised begun words views id v c shaped sits owes lt at h = raced_held begu
     short : bit_word k x < length words
     short = subst (λ (n : ℕ). bit_word k x < n) (sym h.sized) (flag_below k c shaped lt)
 
-    pairs : (z : ℕ × ℕ) → (Held pairs_found views z → Held pairs_found (set views id w) z) × (Held pairs_found (set views id w) z → Held pairs_found views z)
-    pairs = held_same pairs_found views id v w at refl
-
 -- the mark is made dirty
 
 pub flagged_dirtied : (k : Shape) (words : List ℕ) (views : List View) (id : ℕ) (v : View) (c n : ℕ) → v.owed ≡ Some c → v.flagged ≡ owed_card v.owed → c < k.cards
     → get_elem? views id ≡ some v → Flagged k words views → Flagged k (set words (mark_word k c) 1) (set views id (dirtied v c n))
 flagged_dirtied k words views id v c n owes is lt at h = record {
   marked = λ d below m. pick d below m (ℕ_discrete d c);
-  known = λ d b. ⊎_elim (λ (a : Held flagged_of views d). stays d (h.known d a)) (λ (i : In (dirtied v c n).flagged d). absurd i) (held_back flagged_of views id v (dirtied v c n) at d b);
+  known = λ d b. ⊎_elim (λ (a : Held flagged_of views d). stays d (h.known d a)) (λ (i : In (dirtied v c n).flagged d). absurd i) (held_back flagged_of views id (dirtied v c n) d b);
 }
   where
     stays : (d : ℕ) → IsFlagged k words d → IsFlagged k (set words (mark_word k c) 1) d

@@ -1,8 +1,8 @@
 -- A seat is split off, takes in another, or comes.
-use Rattle.std.specs.Prelude.{◌≡◌, ◌≢◌, ◌⊎◌, ◌+◌, ◌<◌, ◌∷◌, ◌++◌, ◌≤◌}
-use Rattle.g1_race_words.specs.{ℕ, List, [], set, refl, sym, ap, ◌∙◌, subst, inl, inr, ⊎_elim, arith, nat_lt, append-nil, some, get_elem?, at_set, at_snoc, at_longer, Shape, View, Begun, In, Held, StoreHistory, histories_of, claims_of, cleanings_of, pairs_found, held_of, flagged_of, Covered, AtRest, IsBlank, weigh, as_number, tally, numbers, Weighed, Numbered, Raced, times, claims_at, cleanings_at, sum_at, stored_sum, overwritten_sum, total, after_split, both}
-use Rattle.g1_race_words.proofs.Plain.{SameHeld, held_same, held_split, held_join, weigh_set, weigh_snoc, total_set, total_snoc}
-use Rattle.g1_race_words.proofs.Tallies.{tally_append, times_append, none_below}
+use Rattle.std.specs.Prelude.{◌≡◌, ◌⊎◌, ◌+◌, ◌<◌, ◌∷◌, ◌++◌, ◌≤◌}
+use Rattle.g1_race_words.specs.{ℕ, List, [], set, refl, sym, ap, ◌∙◌, inl, inr, ⊎_elim, arith, append-nil, some, get_elem?, Shape, View, Begun, In, Held, AnswersFor, StoreHistory, histories_of, claims_of, cleanings_of, pairs_found, held_of, flagged_of, Covered, AtRest, IsBlank, numbers, Weighed, Numbered, Raced, times, claims_at, cleanings_at, sum_at, stored_sum, overwritten_sum, total, after_split, both}
+use Rattle.g1_race_words.proofs.Plain.{each_set, each_snoc, some_longer, some_shorter, held_more, held_same, held_split, held_join, total_set, total_snoc}
+use Rattle.g1_race_words.proofs.Tallies.{tally_append, times_append, numbers_none}
 use Rattle.g1_race_words.proofs.Cover.{covered_moves}
 use Rattle.g1_race_words.proofs.CoverSweeps.{covered_split, covered_join}
 use Rattle.g1_race_words.proofs.Keeping.{kept_same}
@@ -14,27 +14,14 @@ use Rattle.g1_race_words.proofs.Unchanged.{stored_same, same_slots, recorded_sam
 
 held_split_blank : (views : List View) (id : ℕ) (v left right : View) → get_elem? views id ≡ some v → v.histories ≡ left.histories → ((h : StoreHistory) → In right.histories h → h.1 ≡ [])
     → (h : StoreHistory) → (Held histories_of views h → Held histories_of (set views id left ++ right ∷ []) h) × (Held histories_of (set views id left ++ right ∷ []) h → Held histories_of views h ⊎ (h.1 ≡ []))
-held_split_blank views id v left right at e none h = let same = held_same histories_of views id v left at e h in (
-  λ x. let y = same.0 x in (y.0, y.1, at_longer (set views id left) (right ∷ []) y.0 y.1 y.2, y.3),
-  λ x. ⊎_elim (λ (was : get_elem? (set views id left) x.0 ≡ some x.1). inl (same.1 (x.0, x.1, was, x.3)))
-      (λ (is : right ≡ x.1). inr (none h (subst (λ (u : View). In u.histories h) (sym is) x.3)))
-      (at_snoc (set views id left) right x.1 x.0 x.2),
-)
+held_split_blank views id v left right at e none h = let same = held_same histories_of views id v left at e h in
+    (λ x. some_longer (λ u. In u.histories h) (set views id left) right (same.0 x), λ x. ⊎_elim (λ (a : Held histories_of (set views id left) h). inl (same.1 a)) (λ (i : In right.histories h). inr (none h i)) (some_shorter (λ u. In u.histories h) (set views id left) right x))
 
 weighed_split : (k : Shape) (views : List View) (id : ℕ) (v right : View) → get_elem? views id ≡ some v → IsBlank v → 0 < v.weight → right.weight ≡ 1 → Weighed k views → Weighed k (set views id (after_split v) ++ right ∷ [])
-weighed_split k views id v right at still heavy one h = (total, blanks)
-  where
-    total : weigh (set views id (after_split v) ++ right ∷ []) ≡ k.members
-    total = let a = weigh_set views id v (after_split v) at in let b = weigh_snoc (set views id (after_split v)) right in let t = h.0 in omega arith
-
-    blanks : (seat : ℕ) (u : View) → get_elem? (set views id (after_split v) ++ right ∷ []) seat ≡ some u → u.weight ≡ 0 → IsBlank u
-    blanks seat u there none = ⊎_elim
-        (λ (was : get_elem? (set views id (after_split v)) seat ≡ some u). ⊎_elim
-        (λ (t : (seat ≡ id) × (after_split v ≡ u)). subst IsBlank t.1 still)
-        (λ (t : (seat ≢ id) × (get_elem? views seat ≡ some u)). h.1 seat u t.1 none)
-        (at_set views id seat (after_split v) u was))
-        (λ (is : right ≡ u). absurd (let e : right.weight ≡ u.weight = ap (λ (y : View). y.weight) is in omega arith))
-        (at_snoc (set views id (after_split v)) right u seat there)
+weighed_split k views id v right at still heavy one h = let left = after_split v in (
+  let a = total_set (λ u. u.weight) views id v left at in let b = total_snoc (λ u. u.weight) (set views id left) right in let t = h.0 in omega arith,
+  each_snoc (set views id left) right (λ (u : View). u.weight ≡ 0 → IsBlank u) (each_set views id left (λ (u : View). u.weight ≡ 0 → IsBlank u) (λ seat u there ne. h.1 seat u there) (λ none. still)) (λ none. absurd (omega (arith, one, none))),
+)
 
 numbered_split : (k : Shape) (views : List View) (id : ℕ) (v left right : View) → get_elem? views id ≡ some v → ((m : ℕ) → numbers m left + numbers m right ≤ numbers m v) → Numbered k views → Numbered k (set views id left ++ right ∷ [])
 numbered_split k views id v left right at fewer h m = let a = total_set (numbers m) views id v left at in let b = total_snoc (numbers m) (set views id left) right in let c = fewer m in let t = h m in omega arith
@@ -57,12 +44,12 @@ raced_split begun words views id v right still heavy one fewer fresh claims clea
   weighed = weighed_split begun.shape views id v right at still heavy one h.weighed;
   numbered = numbered_split begun.shape views id v (after_split v) right at fewer h.numbered;
   stored = stored_same begun.shape begun.words words words views after (same_slots begun.shape words) (λ g. (held g).0) (λ g. (held g).1) h.stored;
-  balanced = balance_same begun.shape begun.words words views after (λ f q. total_split (stored_sum f q) views id v (after_split v) right at refl (none_in f q right.histories fresh))
+  balanced = balance_same begun.shape begun.words words words views after (same_slots begun.shape words) (λ f q. total_split (stored_sum f q) views id v (after_split v) right at refl (none_in f q right.histories fresh))
       (λ f q. total_split (overwritten_sum f q) views id v (after_split v) right at refl (ap (sum_at f q) over)) h.balanced;
   recorded = recorded_same begun.shape begun.words views after (λ g. (held g).0) (held_split pairs_found views id v (after_split v) right at refl pairs) h.recorded;
   kept = kept_same begun.shape begun.pairs words words views after (λ x. refl) (held_split pairs_found views id v (after_split v) right at refl pairs) (held_split held_of views id v (after_split v) right at refl held_none) h.kept;
   claimed = claimed_same begun.shape begun.words words words views after (λ c. refl) (held_split claims_of views id v (after_split v) right at refl claims) (held_split cleanings_of views id v (after_split v) right at refl cleanings) h.claimed;
-  counted = counted_same begun.shape begun.words words views after (λ c. total_split (claims_at c) views id v (after_split v) right at refl (ap (times c) claims))
+  counted = counted_same begun.shape begun.words words words views after (λ c. refl) (λ c. total_split (claims_at c) views id v (after_split v) right at refl (ap (times c) claims))
       (λ c. total_split (cleanings_at c) views id v (after_split v) right at refl (ap (times c) cleanings)) h.counted;
   flagged = flags_moved begun.shape words words views after (λ c lt m. m) (λ c b. b) (λ c. (held_split flagged_of views id v (after_split v) right at refl flag_none c).1) h.flagged;
 }
@@ -71,19 +58,10 @@ raced_split begun words views id v right still heavy one fewer fresh claims clea
 
 weighed_join : (k : Shape) (views : List View) (id : ℕ) (v : View) (other : ℕ) (u spent : View) → u.weight ≡ 1 → IsBlank spent → spent.weight ≡ 0
     → get_elem? views id ≡ some v → ¬ (other ≡ id) → get_elem? (set views id (both v u)) other ≡ some u → Weighed k views → Weighed k (set (set views id (both v u)) other spent)
-weighed_join k views id v other u spent one still none at apart there h = (total, blanks)
-  where
-    total : weigh (set (set views id (both v u)) other spent) ≡ k.members
-    total = let a = weigh_set views id v (both v u) at in let b = weigh_set (set views id (both v u)) other u spent there in let t = h.0 in omega arith
-
-    blanks : (seat : ℕ) (x : View) → get_elem? (set (set views id (both v u)) other spent) seat ≡ some x → x.weight ≡ 0 → IsBlank x
-    blanks seat x is light = ⊎_elim
-        (λ (t : (seat ≡ other) × (spent ≡ x)). subst IsBlank t.1 still)
-        (λ (t : (seat ≢ other) × (get_elem? (set views id (both v u)) seat ≡ some x)). ⊎_elim
-        (λ (s : (seat ≡ id) × (both v u ≡ x)). absurd (let e : v.weight + u.weight ≡ x.weight = ap (λ (y : View). y.weight) s.1 in omega arith))
-        (λ (s : (seat ≢ id) × (get_elem? views seat ≡ some x)). h.1 seat x s.1 light)
-        (at_set views id seat (both v u) x t.1))
-        (at_set (set views id (both v u)) other seat spent x is)
+weighed_join k views id v other u spent one still none at apart there h = let w = both v u in (
+  let a = total_set (λ u. u.weight) views id v w at in let b = total_set (λ u. u.weight) (set views id w) other u spent there in let t = h.0 in omega arith,
+  each_set (set views id w) other spent (λ (u : View). u.weight ≡ 0 → IsBlank u) (λ seat x is ne. each_set views id w (λ (u : View). u.weight ≡ 0 → IsBlank u) (λ seat x is ne. h.1 seat x is) (λ light. absurd (omega (arith, one, light))) seat x is) (λ light. still),
+)
 
 numbered_join : (k : Shape) (views : List View) (id : ℕ) (v : View) (other : ℕ) (u spent : View) → IsBlank spent → spent.spare ≡ 0
     → get_elem? views id ≡ some v → get_elem? (set views id (both v u)) other ≡ some u → Numbered k views → Numbered k (set (set views id (both v u)) other spent)
@@ -91,8 +69,7 @@ numbered_join k views id v other u spent still none at there h m =
     let a = total_set (numbers m) views id v (both v u) at in
     let b = total_set (numbers m) (set views id (both v u)) other u spent there in
     let c = tally_append m v.histories u.histories in
-    let d : tally m spent.histories ≡ 0 = ap (tally m) still.1 in
-    let e : as_number (nat_lt m spent.spare) ≡ 0 = ap (λ (x : ℕ). as_number (nat_lt m x)) none ∙ none_below m in
+    let d = numbers_none m spent still.1 none in
     let t = h m in omega arith
 
 pub raced_join : (begun : Begun) (words : List ℕ) (views : List View) (id : ℕ) (v : View) (other : ℕ) (u spent : View) → u.weight ≡ 1 → AtRest u → IsBlank spent → spent.weight ≡ 0 → spent.spare ≡ 0
@@ -104,13 +81,13 @@ raced_join begun words views id v other u spent one rest still none given at apa
   weighed = weighed_join begun.shape views id v other u spent one still none at apart there h.weighed;
   numbered = numbered_join begun.shape views id v other u spent still given at there h.numbered;
   stored = stored_same begun.shape begun.words words words views after (same_slots begun.shape words) (λ g. (held g).0) (λ g b. inl ((held g).1 b)) h.stored;
-  balanced = balance_same begun.shape begun.words words views after (λ f q. total_join (stored_sum f q) views id v w other u spent at there (sum_in_both f q v.histories u.histories) (ap (sum_in f q) still.1))
+  balanced = balance_same begun.shape begun.words words words views after (same_slots begun.shape words) (λ f q. total_join (stored_sum f q) views id v w other u spent at there (sum_in_both f q v.histories u.histories) (ap (sum_in f q) still.1))
       (λ f q. total_join (overwritten_sum f q) views id v w other u spent at there (sum_both f q v.overwritten u.overwritten) (ap (sum_at f q) still.5)) h.balanced;
   recorded = recorded_same begun.shape begun.words views after (λ g. (held g).0) (held_join pairs_found views id v u w spent other at apart there refl still.4) h.recorded;
   kept = kept_same begun.shape begun.pairs words words views after (λ x. refl) (held_join pairs_found views id v u w spent other at apart there refl still.4)
       (held_join held_of views id v u w spent other at apart there (sym (ap (λ (l : List (ℕ × ℕ)). v.held ++ l) rest.2 ∙ append-nil v.held)) still.0.2) h.kept;
   claimed = claimed_same begun.shape begun.words words words views after (λ c. refl) (held_join claims_of views id v u w spent other at apart there refl still.2) (held_join cleanings_of views id v u w spent other at apart there refl still.3) h.claimed;
-  counted = counted_same begun.shape begun.words words views after (λ c. total_join (claims_at c) views id v w other u spent at there (times_append c v.claims u.claims) (ap (times c) still.2))
+  counted = counted_same begun.shape begun.words words words views after (λ c. refl) (λ c. total_join (claims_at c) views id v w other u spent at there (times_append c v.claims u.claims) (ap (times c) still.2))
       (λ c. total_join (cleanings_at c) views id v w other u spent at there (times_append c v.cleanings u.cleanings) (ap (times c) still.3)) h.counted;
   flagged = flags_moved begun.shape words words views after (λ c lt m. m) (λ c b. b)
       (λ c. (held_join flagged_of views id v u w spent other at apart there (sym (ap (λ (l : List ℕ). v.flagged ++ l) rest.3 ∙ append-nil v.flagged)) still.0.3 c).1) h.flagged;
@@ -118,20 +95,12 @@ raced_join begun words views id v other u spent one rest still none given at apa
 
 -- a seat comes that answers for nothing
 
-held_more : {A : Type 0} (f : View → List A) (views : List View) (w : View) → f w ≡ [] → SameHeld f views (views ++ w ∷ [])
-held_more {A} f views w none x = (
-  λ h. (h.0, h.1, at_longer views (w ∷ []) h.0 h.1 h.2, h.3),
-  λ h. ⊎_elim (λ (was : get_elem? views h.0 ≡ some h.1). (h.0, h.1, was, h.3))
-      (λ (is : w ≡ h.1). absurd (subst (λ (l : List A). In l x) none (subst (λ (u : View). In (f u) x) (sym is) h.3)))
-      (at_snoc views w h.1 h.0 h.2),
-)
-
 total_more : (f : View → ℕ) (views : List View) (w : View) → f w ≡ 0 → total f (views ++ w ∷ []) ≡ total f views
 total_more f views w none = let a = total_snoc f views w in omega (arith, a, none)
 
 covered_more : (k : Shape) (known : List (ℕ × ℕ)) (words : List ℕ) (views : List View) (w : View) → Covered k known words views → Covered k known words (views ++ w ∷ [])
 covered_more k known words views w h = covered_moves k known words words views (views ++ w ∷ []) h
-    (λ p n lt at cr. inr (at, (λ m. inl m), λ seat u there ans. inr (seat, u, at_longer views (w ∷ []) seat u there, ans)))
+    (λ p n lt at cr. inr (at, (λ m. inl m), λ s. inr (some_longer (λ u. AnswersFor k u p n) views w s)))
 
 pub raced_enter : (begun : Begun) (words : List ℕ) (views : List View) (w : View) → IsBlank w → w.weight ≡ 0 → w.spare ≡ 0 → Raced begun words views → Raced begun words (views ++ w ∷ [])
 raced_enter begun words views w still light none h = let after = views ++ w ∷ [] in let held = held_more histories_of views w still.1 in record {
@@ -139,19 +108,18 @@ raced_enter begun words views w still light none h = let after = views ++ w ∷ 
   bounded = h.bounded;
   covered = covered_more begun.shape begun.pairs words views w h.covered;
   weighed = (
-    let e = weigh_snoc views w in let t = h.weighed.0 in omega arith,
-    λ seat u there empty. ⊎_elim (λ (was : get_elem? views seat ≡ some u). h.weighed.1 seat u was empty) (λ (is : w ≡ u). subst IsBlank is still) (at_snoc views w u seat there),
+    let e = total_snoc (λ u. u.weight) views w in let t = h.weighed.0 in omega arith,
+    each_snoc views w (λ (u : View). u.weight ≡ 0 → IsBlank u) h.weighed.1 (λ none. still),
   );
   numbered = λ m.
       let a = total_snoc (numbers m) views w in
-      let d : tally m w.histories ≡ 0 = ap (tally m) still.1 in
-      let e : as_number (nat_lt m w.spare) ≡ 0 = ap (λ (x : ℕ). as_number (nat_lt m x)) none ∙ none_below m in
-      let t = h.numbered m in omega arith;
+      let d = numbers_none m w still.1 none in
+      let t = h.numbered m in omega (arith, a, d, t);
   stored = stored_same begun.shape begun.words words words views after (same_slots begun.shape words) (λ g. (held g).0) (λ g b. inl ((held g).1 b)) h.stored;
-  balanced = balance_same begun.shape begun.words words views after (λ f q. total_more (stored_sum f q) views w (ap (sum_in f q) still.1)) (λ f q. total_more (overwritten_sum f q) views w (ap (sum_at f q) still.5)) h.balanced;
+  balanced = balance_same begun.shape begun.words words words views after (same_slots begun.shape words) (λ f q. total_more (stored_sum f q) views w (ap (sum_in f q) still.1)) (λ f q. total_more (overwritten_sum f q) views w (ap (sum_at f q) still.5)) h.balanced;
   recorded = recorded_same begun.shape begun.words views after (λ g. (held g).0) (held_more pairs_found views w still.4) h.recorded;
   kept = kept_same begun.shape begun.pairs words words views after (λ x. refl) (held_more pairs_found views w still.4) (held_more held_of views w still.0.2) h.kept;
   claimed = claimed_same begun.shape begun.words words words views after (λ c. refl) (held_more claims_of views w still.2) (held_more cleanings_of views w still.3) h.claimed;
-  counted = counted_same begun.shape begun.words words views after (λ c. total_more (claims_at c) views w (ap (times c) still.2)) (λ c. total_more (cleanings_at c) views w (ap (times c) still.3)) h.counted;
+  counted = counted_same begun.shape begun.words words words views after (λ c. refl) (λ c. total_more (claims_at c) views w (ap (times c) still.2)) (λ c. total_more (cleanings_at c) views w (ap (times c) still.3)) h.counted;
   flagged = flags_moved begun.shape words words views after (λ c lt m. m) (λ c b. b) (λ c. (held_more flagged_of views w still.0.3 c).1) h.flagged;
 }

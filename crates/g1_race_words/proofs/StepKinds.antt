@@ -53,23 +53,6 @@ module _ (heap : Shape) where
     listed : (b : Bool) → eqb f old ≡ b → five_of seat (Exchange p old n f) ≡ cond b as_write []
     listed b e = ap (λ (b : Bool). cond b as_write []) e
 
-  pub steps_are : (seat : ℕ) (step : Step) (before next : Status) → Makes heap seat step before next
-      → ((five : Step) × (five_of seat step ≡ (seat, five) ∷ []) × Makes heap seat five before next) ⊎ ((five_of seat step ≡ []) × (seen heap next ≡ seen heap before))
-  steps_are seat (Write p n f) before next m = inl (Write p n f, refl, m)
-  steps_are seat (Exchange p old n f) before next m = pick (eqb f old) refl
-    where
-      pick : (b : Bool) → eqb f old ≡ b → ((five : Step) × (five_of seat (Exchange p old n f) ≡ (seat, five) ∷ []) × Makes heap seat five before next) ⊎ ((five_of seat (Exchange p old n f) ≡ []) × (seen heap next ≡ seen heap before))
-      pick true e = inl (Write p n f, listed seat p old n f before next m true e, stores seat p old n f before next m e)
-      pick false e = inr (listed seat p old n f before next m false e, fails seat p old n f before next m e)
-  steps_are seat (Look c f) before next m = inl (Look c f, refl, m)
-  steps_are seat (Dirty c f) before next m = inl (Dirty c f, refl, m)
-  steps_are seat (Spot c f) before next m = inr (refl, on_bit seat (Spot c f) before next m (flag heap c) refl refl)
-  steps_are seat (Raise c f) before next m = inr (refl, on_bit seat (Raise c f) before next m (flag heap c) refl refl)
-  steps_are seat (Clean c f) before next m = inl (Clean c f, refl, m)
-  steps_are seat (Read p f) before next m = inl (Read p f, refl, m)
-  steps_are seat (Seek x f) before next m = inr (refl, on_bit seat (Seek x f) before next m x refl refl)
-  steps_are seat (Record x f) before next m = inr (refl, on_bit seat (Record x f) before next m x refl refl)
-
   -- one of the five, on what is seen
   shows : (seat : ℕ) (step : Step) (before next : Status) (m : Makes heap seat step before next) → place_of heap step < many → May heap step (seen_view m.view) → seen_view (after step (seen_view m.view)) ≡ seen_view (after step m.view)
       → SeenRun heap (seen heap before) ((seat, step) ∷ []) (seen heap next)
@@ -88,33 +71,41 @@ module _ (heap : Shape) where
       is : front heap (set before.words (place_of heap step) (left_by heap step)) ≡ set (front heap before.words) (place_of heap step) (left_by heap step)
       is = take-set-lt many before.words (place_of heap step) (left_by heap step) lt
 
-  one : (seat : ℕ) (step : Step) (before next : Status) → Makes heap seat step before next → SeenRun heap (seen heap before) (five_of seat step) (seen heap next)
-  one seat (Write p n f) before next m = shows seat (Write p n f) before next m (omega (arith, m.may.2)) m.may refl
-  one seat (Exchange p old n f) before next m = pick (eqb f old) refl
+  -- a step is one of the five, which shows, or it shows nowhere
+  abbrev Kind : ℕ → Step → Status → Status → Type 0
+  Kind seat step before next = ((five : Step) × (five_of seat step ≡ (seat, five) ∷ []) × Makes heap seat five before next × SeenRun heap (seen heap before) ((seat, five) ∷ []) (seen heap next))
+      ⊎ ((five_of seat step ≡ []) × (seen heap next ≡ seen heap before))
+
+  kind : (seat : ℕ) (step : Step) (before next : Status) → Makes heap seat step before next → Kind seat step before next
+  kind seat (Write p n f) before next m = inl (Write p n f, refl, m, shows seat (Write p n f) before next m (omega (arith, m.may.2)) m.may refl)
+  kind seat (Exchange p old n f) before next m = pick (eqb f old) refl
     where
-      pick : (b : Bool) → eqb f old ≡ b → SeenRun heap (seen heap before) (five_of seat (Exchange p old n f)) (seen heap next)
-      pick true e = subst (λ l. SeenRun heap (seen heap before) l (seen heap next)) (sym (listed seat p old n f before next m true e))
-          (let s = stores seat p old n f before next m e in shows seat (Write p n f) before next s (omega (arith, m.may.2)) s.may refl)
-      pick false e = subst (λ l. SeenRun heap (seen heap before) l (seen heap next)) (sym (listed seat p old n f before next m false e)) (sym (fails seat p old n f before next m e))
-  one seat (Look c f) before next m = shows seat (Look c f) before next m (omega (arith, m.may.1)) m.may refl
-  one seat (Dirty c f) before next m = shows seat (Dirty c f) before next m (omega (arith, m.may.1)) m.may refl
-  one seat (Spot c f) before next m = sym (on_bit seat (Spot c f) before next m (flag heap c) refl refl)
-  one seat (Raise c f) before next m = sym (on_bit seat (Raise c f) before next m (flag heap c) refl refl)
-  one seat (Clean c f) before next m = shows seat (Clean c f) before next m (omega (arith, m.may.1)) m.may refl
-  one seat (Read p f) before next m = shows seat (Read p f) before next m (omega (arith, m.may.2)) m.may refl
-  one seat (Seek x f) before next m = sym (on_bit seat (Seek x f) before next m x refl refl)
-  one seat (Record x f) before next m = sym (on_bit seat (Record x f) before next m x refl refl)
+      pick : (b : Bool) → eqb f old ≡ b → Kind seat (Exchange p old n f) before next
+      pick true e = let s = stores seat p old n f before next m e in inl (Write p n f, listed seat p old n f before next m true e, s, shows seat (Write p n f) before next s (omega (arith, s.may.2)) s.may refl)
+      pick false e = inr (listed seat p old n f before next m false e, fails seat p old n f before next m e)
+  kind seat (Look c f) before next m = inl (Look c f, refl, m, shows seat (Look c f) before next m (omega (arith, m.may.1)) m.may refl)
+  kind seat (Dirty c f) before next m = inl (Dirty c f, refl, m, shows seat (Dirty c f) before next m (omega (arith, m.may.1)) m.may refl)
+  kind seat (Spot c f) before next m = inr (refl, on_bit seat (Spot c f) before next m (flag heap c) refl refl)
+  kind seat (Raise c f) before next m = inr (refl, on_bit seat (Raise c f) before next m (flag heap c) refl refl)
+  kind seat (Clean c f) before next m = inl (Clean c f, refl, m, shows seat (Clean c f) before next m (omega (arith, m.may.1)) m.may refl)
+  kind seat (Read p f) before next m = inl (Read p f, refl, m, shows seat (Read p f) before next m (omega (arith, m.may.2)) m.may refl)
+  kind seat (Seek x f) before next m = inr (refl, on_bit seat (Seek x f) before next m x refl refl)
+  kind seat (Record x f) before next m = inr (refl, on_bit seat (Record x f) before next m x refl refl)
 
   follow : (xs ys : List (ℕ × Step)) (a b c : Status) → SeenRun heap a xs b → SeenRun heap b ys c → SeenRun heap a (xs ++ ys) c
   follow [] ys a b c e r = subst (λ (s : Status). SeenRun heap s ys c) (sym e) r
   follow (x ∷ xs) ys a b c (next, made, rest) r = (next, made, follow xs ys (seen heap next) b c rest r)
 
+  one : (seat : ℕ) (step : Step) (before next : Status) → Kind seat step before next → SeenRun heap (seen heap before) (five_of seat step) (seen heap next)
+  one seat step before next (inl (five, is, made, shown)) = rw is shown
+  one seat step before next (inr (is, same)) = rw is (sym same)
+
   runs_are : (first last : Status) (moves : List (ℕ × Step)) → Run heap first moves last → SeenRun heap (seen heap first) (fives_of moves) (seen heap last)
   runs_are first last [] e = ap (seen heap) e
-  runs_are first last (m ∷ ms) (next, made, rest) = follow (five_of m.0 m.1) (fives_of ms) (seen heap first) (seen heap next) (seen heap last) (one m.0 m.1 first next made) (runs_are next last ms rest)
+  runs_are first last (m ∷ ms) (next, made, rest) = follow (five_of m.0 m.1) (fives_of ms) (seen heap first) (seen heap next) (seen heap last) (one m.0 m.1 first next (kind m.0 m.1 first next made)) (runs_are next last ms rest)
 
 pub steps_are_of_five : StepsAreOfFive
-steps_are_of_five = steps_are
+steps_are_of_five heap seat step before next made = elim (kind heap seat step before next made) [ inl x ↦ inl (x.0, x.1, x.2) | inr none ↦ inr none ]
 
 pub runs_are_of_five : RunsAreOfFive
 runs_are_of_five = runs_are

@@ -1,22 +1,16 @@
 -- What a step leaves as it was: the weights and numbers of seats, stores, slots, pairs and claims.
 use Rattle.std.specs.Prelude.{◌≡◌, ◌≢◌, ◌⊎◌, ◌+◌, ◌<◌, ◌≤◌}
-use Rattle.g1_race_words.specs.{subst, ℕ, List, [], set, Some, None, sym, ap, ◌∙◌, inl, inr, ⊎_elim, arith, nat_lt, some, get_elem?, at_set, set_else, Shape, View, IsWord, BeganInto, MadeDirty, mark_word, Held, StoreHistory, histories_of, claims_of, cleanings_of, pairs_found, last_to, Bounded, IsBlank, weigh, as_number, tally, numbers, Weighed, Numbered, Stored, StoredInto, Recorded, Claimed, Counted, times, claims_at, cleanings_at, total}
-use Rattle.g1_race_words.proofs.Plain.{SameHeld, held_same, weigh_set, total_set}
+use Rattle.g1_race_words.specs.{subst, ℕ, List, [], set, Some, None, sym, ap, ◌∙◌, inl, inr, ⊎_elim, arith, nat_lt, some, get_elem?, at_set, set_else, Shape, View, IsWord, BeganInto, MadeDirty, mark_word, Held, StoreHistory, histories_of, claims_of, cleanings_of, pairs_found, last_to, Bounded, IsBlank, as_number, tally, numbers, Weighed, Numbered, Stored, StoredInto, Recorded, Claimed, Counted, times, claims_at, cleanings_at, total}
+use Rattle.g1_race_words.proofs.Plain.{total_same, each_set, SameHeld, held_same, total_set}
 use Rattle.g1_race_words.proofs.CoverStores.{mark_apart}
 
 -- the weight, at a step of one member
 
 pub weighed_step : (k : Shape) (views : List View) (id : ℕ) (v w : View) → get_elem? views id ≡ some v → v.weight ≡ 1 → w.weight ≡ 1 → Weighed k views → Weighed k (set views id w)
-weighed_step k views id v w at a b h = (total, blanks)
-  where
-    total : weigh (set views id w) ≡ k.members
-    total = let e = weigh_set views id v w at in let t = h.0 in omega arith
-
-    blanks : (seat : ℕ) (u : View) → get_elem? (set views id w) seat ≡ some u → u.weight ≡ 0 → IsBlank u
-    blanks seat u there none = ⊎_elim
-        (λ (t : (seat ≡ id) × (w ≡ u)). absurd (let e : w.weight ≡ u.weight = ap (λ (y : View). y.weight) t.1 in omega arith))
-        (λ (t : (seat ≢ id) × (get_elem? views seat ≡ some u)). h.1 seat u t.1 none)
-        (at_set views id seat w u there)
+weighed_step k views id v w at a b h = (
+  let e = total_set (λ u. u.weight) views id v w at in let t = h.0 in omega arith,
+  each_set views id w (λ (u : View). u.weight ≡ 0 → IsBlank u) (λ seat u there ne. h.1 seat u there) (λ none. absurd (omega (arith, b, none))),
+)
 
 -- the numbers, at a step that leaves a view's numbers as they are, or takes some away
 
@@ -103,19 +97,13 @@ stores_stay k began words new views id v w at same slots = let held = held_same 
 pub pairs_stay : (k : Shape) (began : List ℕ) (views : List View) (id : ℕ) (v w : View) → get_elem? views id ≡ some v → v.histories ≡ w.histories → v.pairs ≡ w.pairs → Recorded k began views → Recorded k began (set views id w)
 pairs_stay k began views id v w at same pairs = recorded_same k began views (set views id w) (λ h. (held_same histories_of views id v w at same h).0) (held_same pairs_found views id v w at pairs)
 
--- the counts, where a seat's claims and cleanings stay as they are, and no mark changes
+-- the counts, where the seats' claims and cleanings add up to what they did, and no mark changes
+
+pub counted_same : (k : Shape) (began words new : List ℕ) (views after : List View) → ((c : ℕ) → get_elem? new (mark_word k c) ≡ get_elem? words (mark_word k c)) → ((c : ℕ) → total (claims_at c) after ≡ total (claims_at c) views)
+    → ((c : ℕ) → total (cleanings_at c) after ≡ total (cleanings_at c) views) → Counted k began words views → Counted k began new after
+counted_same k began words new views after same claims cleans h c first now lt was is =
+    let t = h c first now lt was (sym (same c) ∙ is) in omega (arith, claims c, cleans c, t)
 
 pub counted_stays : (k : Shape) (began words new : List ℕ) (views : List View) (id : ℕ) (v w : View) → get_elem? views id ≡ some v → v.claims ≡ w.claims → v.cleanings ≡ w.cleanings
     → ((c : ℕ) → get_elem? new (mark_word k c) ≡ get_elem? words (mark_word k c)) → Counted k began words views → Counted k began new (set views id w)
-counted_stays k began words new views id v w at claims cleans same h c first now lt was is =
-    let a = total_set (claims_at c) views id v w at in
-    let b = total_set (cleanings_at c) views id v w at in
-    let e : claims_at c v ≡ claims_at c w = ap (times c) claims in
-    let f : cleanings_at c v ≡ cleanings_at c w = ap (times c) cleans in
-    let t = h c first now lt was (sym (same c) ∙ is) in omega (arith, a, b, e, f, t)
-
--- the counts, where the seats' claims and cleanings add up to what they did
-pub counted_same : (k : Shape) (began words : List ℕ) (views after : List View) → ((c : ℕ) → total (claims_at c) after ≡ total (claims_at c) views)
-    → ((c : ℕ) → total (cleanings_at c) after ≡ total (cleanings_at c) views) → Counted k began words views → Counted k began words after
-counted_same k began words views after claims cleans h c first now lt was is =
-    let t = h c first now lt was is in omega (arith, claims c, cleans c, t)
+counted_stays k began words new views id v w at claims cleans same = counted_same k began words new views (set views id w) same (λ c. total_same (claims_at c) views id v w at (ap (times c) claims)) (λ c. total_same (cleanings_at c) views id v w at (ap (times c) cleans))

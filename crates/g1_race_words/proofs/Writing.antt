@@ -1,7 +1,7 @@
 -- A racer writes a slot.
 use Rattle.std.specs.Prelude.{◌≡◌, ◌≢◌, ◌⊎◌, ◌<◌, ◌∷◌}
-use Rattle.g1_race_words.specs.{ℕ, eqb, List, [], set, get_or, Some, None, refl, sym, ap, ◌∙◌, subst, inl, inr, ⊎_elim, length-set, eq-eqb, ne_eqb, arith, some, ℕ_discrete, get_elem?, at_set, set_else, Shape, View, Begun, IsWord, BeganInto, mark_word, flag, In, Held, StoreHistory, histories_of, claims_of, cleanings_of, pairs_found, last_to, Stored, StoredInto, Recorded, Raced, gains_store, wrote, Sits}
-use Rattle.g1_race_words.proofs.Plain.{put_here, one_there, true_is, false_is, held_back, held_same}
+use Rattle.g1_race_words.specs.{ℕ, eqb, List, [], set, get_or, Some, None, refl, sym, ap, ◌∙◌, subst, inl, inr, ⊎_elim, length-set, eq-eqb, ne_eqb, arith, some, get_elem?, at_set, set_else, Shape, View, Begun, IsWord, BeganInto, mark_word, flag, In, Held, StoreHistory, histories_of, claims_of, cleanings_of, pairs_found, last_to, Stored, StoredInto, Recorded, Raced, gains_store, wrote, Sits}
+use Rattle.g1_race_words.proofs.Plain.{put_here, some_or, true_is, false_is, held_back, held_same}
 use Rattle.g1_race_words.proofs.Tallies.{tally_gained}
 use Rattle.g1_race_words.proofs.CoverStores.{mark_apart, covered_wrote}
 use Rattle.g1_race_words.proofs.PairBits.{same_bits, bit_as}
@@ -33,23 +33,15 @@ gained_back p n (g ∷ gs) h (inl e) = inr (g, inl refl, sym e)
 gained_back p n (g ∷ gs) h (inr i) = inl (inr i)
 
 held_gained : (views : List View) (id : ℕ) (v : View) (p n o : ℕ) → get_elem? views id ≡ some v → (h : StoreHistory) → Held histories_of views h → Held histories_of (set views id (wrote v p n o)) h ⊎ Held histories_of (set views id (wrote v p n o)) (grown p n h)
-held_gained views id v p n o at h x = pick (ℕ_discrete x.0 id)
-  where
-    w : View
-    w = wrote v p n o
-
-    mine : In v.histories h → Held histories_of (set views id w) h ⊎ Held histories_of (set views id w) (grown p n h)
-    mine i = ⊎_elim (λ (a : In (gains_store p n v.histories) h). inl (id, w, put_here views id v w at, a)) (λ (a : In (gains_store p n v.histories) (grown p n h)). inr (id, w, put_here views id v w at, a)) (gained_on p n v.histories h i)
-
-    pick : Dec (x.0 ≡ id) → Held histories_of (set views id w) h ⊎ Held histories_of (set views id w) (grown p n h)
-    pick (yes e) = mine (subst (λ (u : View). In u.histories h) (one_there views id x.1 v (subst (λ (i : ℕ). get_elem? views i ≡ some x.1) e x.2) at) x.3)
-    pick (no ne) = inl (x.0, x.1, set_else views id x.0 w ne ∙ x.2, x.3)
+held_gained views id v p n o at h x = let w = wrote v p n o in ⊎_elim (λ (a : Held histories_of (set views id w) (grown p n h)). inr a) (λ (a : Held histories_of (set views id w) h). inl a)
+    (some_or (λ u. In u.histories h) (Held histories_of (set views id w) (grown p n h)) views id v w at
+    (λ i. ⊎_elim (λ (a : In w.histories h). inr a) (λ (a : In w.histories (grown p n h)). inl (id, w, put_here views id v w at, a)) (gained_on p n v.histories h i)) x)
 
 held_before : (views : List View) (id : ℕ) (v : View) (p n o : ℕ) → get_elem? views id ≡ some v → (h : StoreHistory) → Held histories_of (set views id (wrote v p n o)) h → Held histories_of views h ⊎ ((g : StoreHistory) × Held histories_of views g × (h ≡ grown p n g))
 held_before views id v p n o at h x = ⊎_elim
     (λ (a : Held histories_of views h). inl a)
     (λ (i : In (gains_store p n v.histories) h). ⊎_elim (λ (a : In v.histories h). inl (id, v, at, a)) (λ (a : (g : StoreHistory) × In v.histories g × (h ≡ grown p n g)). inr (a.0, (id, v, at, a.1), a.2)) (gained_back p n v.histories h i))
-    (held_back histories_of views id v (wrote v p n o) at h x)
+    (held_back histories_of views id (wrote v p n o) h x)
 
 stored_wrote : (k : Shape) (began : List ℕ) (words : List ℕ) (views : List View) (id : ℕ) (v : View) (p n o : ℕ) (mine : StoreHistory) → get_elem? views id ≡ some v → v.histories ≡ mine ∷ [] → Stored k began words views → Stored k began (set words p n) (set views id (wrote v p n o))
 stored_wrote k began words views id v p n o mine at one h q m lt there = ⊎_elim

@@ -1,12 +1,12 @@
 -- What the crate takes from the libraries below it.
 pub use Rattle.std.proofs.Common.{[], ap, arith, bit_or, Bool, cond, Contains, div-add-mod'}
 pub use Rattle.std.proofs.Common.{div-lt_iff_lt-mul, drop, eq-eqb, eqb, false, get_or, inl, inr}
-pub use Rattle.std.proofs.Common.{length, length-set, List, ltb-true, map, mod-lt, nat_lt, ne_eqb}
+pub use Rattle.std.proofs.Common.{length, length-set, List, map, mod-lt, nat_lt, ne_eqb}
 pub use Rattle.std.proofs.Common.{None, refl, set, Some, subst, suc, sym, take, true, w64, zero, ℕ}
 pub use Rattle.std.proofs.Common.{⊎_elim, ◌∙◌}
-pub use Rattle.std.proofs.lemmas.Bool.{cases_eq, cases_lt, le-ltb, lt-ltb}
+pub use Rattle.std.proofs.lemmas.Bool.{cases_eq, cases_lt, eqb-true, le-ltb, lt-ltb}
 pub use Rattle.std.proofs.lemmas.List.{append-nil, get_or-set_other, get_or-set_same, map-set}
-pub use Rattle.std.proofs.lemmas.List.{take-set-le, take-take}
+pub use Rattle.std.proofs.lemmas.List.{length-replicate, set-get_or, take-set-le, take-take}
 pub use Rattle.std.proofs.lemmas.Nat.{div-mul-add, mod-mul-add, mul-add-lt}
 pub use Rattle.std.proofs.lemmas.Nat.Bits.{bit_at-zero, bit_at_set_other, bit_at_set_same}
 pub use Rattle.std.specs.Int.{bit_at}

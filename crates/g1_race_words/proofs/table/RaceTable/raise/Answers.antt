@@ -1,9 +1,7 @@
-use Rattle.std.specs.Prelude.{◌≡◌}
-use Rattle.g1_race_words.specs.{ℕ, bit_place, flag, OwesFlag, Sits}
-use Rattle.g1_race_words.proofs.{inside, raise_owed}
+use Rattle.g1_race_words.proofs.{raise_owed}
 use Rattle.g1_race_words.proofs.table.RaceTable.raise.Goals as goal
 
 pub fetch_or-requires : goal.fetch_or-requires
 fetch_or-requires c =
-    let asked = inside (λ w s. (s.table_id ≡ w.table_id) × Sits w.shape s.me.0 × ((d : ℕ) × OwesFlag w.shape s.me.0 d c.args.word × (c.args.place ≡ bit_place w.shape (flag w.shape d)))) _ _ _ _ c.self.view_is c.seat.view_is (c.requires.table, c.requires.racer, c.requires.flag) in
-    raise_owed _ _ c.self.invariant.0 c.self.invariant.2 c.seat.inside.seat asked.0 c.args.word c.args.place asked.1 asked.2.0 asked.2.1 asked.2.2
+    let asked = rw (← c.self.view_is, ← c.seat.view_is) at c.requires in
+    raise_owed _ _ c.self.invariant.0 c.self.invariant.2 c.seat.inside.seat asked.table c.args.word c.args.place asked.racer asked.flag.0 asked.flag.1 asked.flag.2

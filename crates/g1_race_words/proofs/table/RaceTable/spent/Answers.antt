@@ -1,5 +1,5 @@
 use Rattle.g1_race_words.specs.{arith, start_of, no_seat}
-use Rattle.g1_race_words.proofs.Allowed.{enters_blank}
+use Rattle.g1_race_words.proofs.{enters_blank}
 use Rattle.g1_race_words.proofs.table.RaceTable.spent.Goals as goal
 
 pub load_new_seat-seat-requires : goal.load_new_seat-seat-requires

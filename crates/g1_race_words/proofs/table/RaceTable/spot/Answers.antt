@@ -1,9 +1,7 @@
-use Rattle.std.specs.Prelude.{◌≡◌}
-use Rattle.g1_race_words.specs.{ℕ, OwesFlag, Sits}
-use Rattle.g1_race_words.proofs.{inside, spot_owed}
+use Rattle.g1_race_words.proofs.{spot_owed}
 use Rattle.g1_race_words.proofs.table.RaceTable.spot.Goals as goal
 
 pub load-requires : goal.load-requires
 load-requires c =
-    let asked = inside (λ w s. (s.table_id ≡ w.table_id) × Sits w.shape s.me.0 × ((d : ℕ) × OwesFlag w.shape s.me.0 d c.args.word)) _ _ _ _ c.self.view_is c.seat.view_is (c.requires.table, c.requires.racer, c.requires.flag) in
-    spot_owed _ _ c.self.invariant.0 c.self.invariant.2 c.seat.inside.seat asked.0 c.args.word asked.1 asked.2.0 asked.2.1
+    let asked = rw (← c.self.view_is, ← c.seat.view_is) at c.requires in
+    spot_owed _ _ c.self.invariant.0 c.self.invariant.2 c.seat.inside.seat asked.table c.args.word asked.racer asked.flag.0 asked.flag.1
