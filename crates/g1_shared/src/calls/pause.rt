@@ -15,7 +15,7 @@ use std::sync::Wait;
 use std::sync::ledger::Ledger;
 
 /// Each is the call of the book, by the number of its caller.
-#[tactic(auto, using(crate::proofs::CallLemmas::counted_call))]
+#[tactic(auto, using(crate::proofs::counted_call))]
 impl<M: Terms, S: Ledger, H: Keeps> Counted<M, S, H> {
     /// Drains a region, as `Book::drain` does, for this caller. The list of a whole drain is exact.
     pub fn drain(&mut self, caller: &mut Caller<M, S>, region: Region) -> Result<Drained, Refusal>

@@ -17,7 +17,7 @@ use std::sync::Wait;
 use std::sync::ledger::Ledger;
 
 /// Each is the call of the book, by the number of its caller.
-#[tactic(auto, using(crate::proofs::CallLemmas::counted_call))]
+#[tactic(auto, using(crate::proofs::counted_call))]
 impl<M: Terms, S: Ledger, H: Keeps> Counted<M, S, H> {
     /// Returns what a slot refers to, as `Book::target` does, for this caller.
     pub fn target(&mut self, caller: &mut Caller<M, S>, slot: Slot) -> Result<Option<Slot>, Refusal>

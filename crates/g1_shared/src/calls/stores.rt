@@ -18,7 +18,7 @@ use std::sync::ledger;
 use std::sync::ledger::Ledger;
 
 /// Each is the call of the book, by the number of its caller.
-#[tactic(auto, using(crate::proofs::CallLemmas::counted_call, crate::proofs::KindLemmas::kind_at))]
+#[tactic(auto, using(crate::proofs::counted_call, crate::proofs::KindLemmas::kind_at))]
 impl<M: Terms, S: Ledger, H: Keeps> Counted<M, S, H> {
     /// Stores a reference, or null, with this caller's log, as `Book::store` does.
     ///

@@ -30,7 +30,7 @@ impl<M: Terms, S: Ledger, H: Keeps> Shared<M, S, H> {
     /// settings' limit. The ledgers are cut into one part for each caller.
     ///
     /// If a growth was refused, the book is returned as it was, and the ledgers are given up.
-    #[tactic(auto, using(crate::proofs::CallLemmas::none_counted, crate::proofs::CallLemmas::kept_mutators))]
+    #[tactic(auto, using(crate::proofs::none_counted, crate::proofs::kept_mutators))]
     pub fn open(
         made: Blank,
         stored: Blank,

@@ -88,6 +88,7 @@ impl<M: Terms, S: Ledger, H: Keeps> Shared<M, S, H> {
     ///
     /// If the call is refused, a buffer that was taken is given up. Each of its cards is then
     /// pending by its mark, unless it was refined meanwhile.
+    #[tactic(auto, using(crate::proofs::CountLemmas::refinement_gains))]
     pub fn refine<R: Wait>(&self, rt: &R, caller: &mut Caller<M, S>) -> Result<RefineReply, Refusal>
         requires mine { IsCallerOf self.now caller.old }
         ensures mark { caller_mark caller.new ≡ caller_mark caller.old }
@@ -138,6 +139,7 @@ impl<M: Terms, S: Ledger, H: Keeps> Shared<M, S, H> {
     }
 
     /// A round of these counts' caller, by its taker.
+    #[tactic(auto, using(crate::proofs::CountLemmas::round_counted, crate::proofs::CountLemmas::size_within))]
     fn work_by<R: Wait>(
         &self,
         rt: &R,

@@ -1,8 +1,5 @@
-use Rattle.g1_shared.proofs.{call_counted, made_raised, asked_plain}
+use Rattle.g1_shared.proofs.{call_counted, asked_plain}
 use Rattle.g1_shared.proofs.counted.Counted.ask.Goals as goal
-
-pub raise_made-requires : goal.raise_made-requires
-raise_made-requires g c = record { entered = made_raised _ g.M.Terms.terms _ _ _ _ _ c.self.invariant c.in_ok-reply.ensures.made.1.entered }
 
 pub invariant_of-self-2 : goal.invariant_of-self-2
 invariant_of-self-2 g c = call_counted _ g.M.Terms.terms _ _ _ _ _ _ c.self.invariant c.in_ok-reply.ensures.made.1.entered (asked_plain _ _ c.requires) c.raise_made.ensures.total

@@ -1,13 +1,7 @@
 use Rattle.g1_shared.specs.{refl, rules}
-use Rattle.g1_shared.proofs.{store_counted, total_fits, stored_fits}
+use Rattle.g1_shared.proofs.{store_counted}
 use Rattle.g1_shared.proofs.KindLemmas.{kind_at}
 use Rattle.g1_shared.proofs.counted.Counted.store_by.Goals as goal
-
-pub raise-requires-clause-fits : goal.raise-requires-clause-fits
-raise-requires-clause-fits g c = total_fits _ g.M.Terms.terms _ _ _ _ _ c.self.invariant c.in_ok-reply.ensures.made.entered c.layout-layout.ensures.kept
-
-pub raise-requires-2-clause-fits : goal.raise-requires-2-clause-fits
-raise-requires-2-clause-fits g c = stored_fits _ g.M.Terms.terms _ _ _ _ _ c.self.invariant c.in_ok-reply.ensures.made.entered refl c.layout-layout.ensures.kept
 
 pub invariant_of-self-2 : goal.invariant_of-self-2
 invariant_of-self-2 g c = store_counted _ g.M.Terms.terms _ _ _ _ _ _ _ c.self.invariant c.in_ok-reply.ensures.made.entered refl c.raise.ensures.total c.raise-2.ensures.total

@@ -1,27 +1,7 @@
 use Rattle.std.specs.Prelude.{◌≡◌, ◌≤◌}
-use Rattle.g1_shared.specs.{rules, arith, ap, subst, sym, length, capacity_of, taken_of, IsRound, round_size, CallerCounts, CountsDid}
-use Rattle.g1_shared.proofs.CountLemmas.{IsWorked, round_counted, size_within}
+use Rattle.g1_shared.specs.{rules, subst, capacity_of, taken_of, IsRound, round_size, CallerCounts, CountsDid}
 use Rattle.g1_shared.proofs.DeskLemmas.{rounds_as}
 use Rattle.g1_shared.proofs.shared.Shared.work_by.Goals as goal
-
-pub returns-clause-kept : goal.returns-clause-kept
-returns-clause-kept g c =
-    let round = c.in_ok-reply.ensures.round.2 in
-    let worked : IsWorked c.args.counts.now (length round.turns) c.work.new.calls.counts.now = subst (IsWorked c.args.counts.now (length round.turns)) (sym round.made.1) (round_counted c.args.counts.now round.turns round.refused) in
-    let number = worked.number in
-    let stored = worked.stored in
-    search rules
-
-pub returns-clause-made : goal.returns-clause-made
-returns-clause-made g c =
-    let round = c.in_ok-reply.ensures.round.2 in
-    let worked : IsWorked c.args.counts.now (length round.turns) c.work.new.calls.counts.now = subst (IsWorked c.args.counts.now (length round.turns)) (sym round.made.1) (round_counted c.args.counts.now round.turns round.refused) in
-    let made = worked.made in
-    let seen = c.in_ok-reply.ensures.round.0 in
-    let within : length round.turns ≤ round_size c.self.inside.start seen = round.within in
-    let fits : seen ≤ capacity_of c.self.inside.line = c.in_ok-reply.ensures.round.1 in
-    let few : length round.turns ≤ capacity_of c.args.self.now = omega (arith, within, size_within c.self.inside.start seen, fits, ap capacity_of c.self.view_is) in
-    (search rules, search rules)
 
 pub returns-clause-round : goal.returns-clause-round
 returns-clause-round g c =
