@@ -1,6 +1,6 @@
 -- What the calls of a step ask, of the table and the seat inside.
-use Rattle.std.specs.Prelude.{◌≡◌, ◌+◌, ◌-◌, ◌*◌, ◌%◌, ◌^◌, ◌<◌, ◌≤◌, ◌==◌, ◌∷◌}
-use Rattle.g1_race_words.specs.{ℕ, bit_or, cond, List, [], set, get_or, Bool, true, false, None, refl, sym, ap, ◌∙◌, subst, inl, inr, arith, some, get_elem?, either, State, Me, keeps, Allows, Splits, Joins, Enters, TableId, Seat, set_again, set-get_or, Shape, View, Start, AtRest, Going, In, StoreHistory, IsBegun, IsBlank, IsWholeShape, IsWord, Raced, beginning, mark_word, bit_word, bit_place, flag, started, start_of, word_count, blank, both, whole_seat, cleaned, dirtied, exchanged, frozen_seat, after_split, looked, new_racer, new_sweeper, new_reader, no_seat, numbers, owed_card, put, raised, read, recorded, sought, spotted, thawed, wrote, Freezes, HoldsBit, IsWholeSeat, IsFound, IsMark, IsPaused, IsLent, IsReading, OwesFlag, OwesMark, Sits}
+use Rattle.std.specs.Prelude.{◌≡◌, ◌-◌, ◌*◌, ◌%◌, ◌^◌, ◌<◌, ◌==◌, ◌∷◌}
+use Rattle.g1_race_words.specs.{ℕ, bit_or, cond, List, [], set, get_or, Bool, true, false, None, refl, sym, ap, ◌∙◌, subst, inl, inr, arith, some, get_elem?, either, Me, keeps, Allows, Splits, Joins, TableId, Seat, set_again, set-get_or, Shape, View, Start, AtRest, Going, In, StoreHistory, IsBegun, IsBlank, IsWholeShape, IsWord, Raced, beginning, mark_word, bit_word, bit_place, flag, started, word_count, blank, both, whole_seat, cleaned, dirtied, exchanged, frozen_seat, after_split, looked, new_racer, new_sweeper, new_reader, no_seat, owed_card, put, raised, read, recorded, sought, spotted, thawed, wrote, Freezes, HoldsBit, IsWholeSeat, IsFound, IsMark, IsPaused, IsLent, IsReading, OwesFlag, OwesMark, Sits}
 use Rattle.g1_race_words.proofs.PairBits.{word_below}
 use Rattle.g1_race_words.proofs.Flags.{flag_below}
 use Rattle.g1_race_words.proofs.Plain.{read_at}
@@ -10,28 +10,10 @@ use Rattle.g1_race_words.proofs.Marking.{raced_looked, raced_dirtied, raced_clea
 use Rattle.g1_race_words.proofs.Reading.{raced_read}
 use Rattle.g1_race_words.proofs.Recording.{raced_sought, raced_recorded}
 use Rattle.g1_race_words.proofs.Raising.{raced_spotted, raced_raised}
-use Rattle.g1_race_words.proofs.Splitting.{raced_split, raced_join, raced_enter}
-use Rattle.g1_race_words.proofs.Going.{Stays, begun, known, going_step, going_split, going_join, going_enter}
+use Rattle.g1_race_words.proofs.Splitting.{raced_join}
+use Rattle.g1_race_words.proofs.Going.{Stays, begun, known, going_step, going_join}
 use Rattle.g1_race_words.proofs.GoingAnew.{going_anew, begun_here, known_words, raced_mine, shape_mine}
-
-abbrev Rule : Shape → State (Unit {0}) View → Type 0
-Rule k s = Going k s.words s.views
-
--- the mark's card
-card_back : (k : Shape) (v : View) (c : ℕ) → v.shape ≡ k → mark_word k c - v.shape.slots ≡ c
-card_back k v c e = let f : v.shape.slots ≡ k.slots = ap (λ (s : Shape). s.slots) e in omega arith
-
--- a seat that is split off
-abbrev newcomer : View → Bool → List StoreHistory → View
-newcomer v frozen histories = record (blank (start_of v) 1 histories) { frozen = frozen }
-
-splits : (k : Shape) (id : ℕ) (v : View) (frozen : Bool) (hs : List StoreHistory) → IsBlank v → 0 < v.weight → v.frozen ≡ frozen → ((h : StoreHistory) → In hs h → h.1 ≡ []) → ((m : ℕ) → numbers m (after_split v) + numbers m (newcomer v frozen hs) ≤ numbers m v)
-    → Splits (Rule k) id v (after_split v) (newcomer v frozen hs)
-splits k id v frozen hs still heavy flag fresh fewer s h at = let right = newcomer v frozen hs in
-    going_split k s.words s.views h id v right at heavy refl (sym flag) (omega arith) (raced_split (begun k s.words s.views h) s.words s.views id v right still heavy refl fewer fresh refl refl refl refl refl refl at h.raced)
-
-pub enters_blank : (k : Shape) (slots i : ℕ) (b : Start) → Enters (Rule k) slots i (λ n w. ◌≡◌ {A = Me (Unit {0}) View} (w, []) (blank b 0 [], []))
-enters_blank k slots i b s h len fits = (blank b 0 [], going_enter k s.words s.views h (blank b 0 []) refl refl (raced_enter (begun k s.words s.views h) s.words s.views (blank b 0 []) ((refl, refl, refl, refl), refl, refl, refl, refl, refl) refl refl h.raced), refl)
+use Rattle.g1_race_words.proofs.Blanks.{Rule, card_back, fresh, splits}
 
 module _ (z : TableId) (k : Shape) (fits : z.words ≡ word_count k) (shaped : IsWholeShape k) (s : Seat (Unit {0}) View) (table : s.table_id ≡ z) where
   abbrev v : View
@@ -136,11 +118,7 @@ module _ (z : TableId) (k : Shape) (fits : z.words ≡ word_count k) (shaped : I
   Cut right = (s.table_id ≡ z) × (0 < z.words) × Splits (Rule k) s.id v (after_split v) (right v)
 
   pub split_racer_owed : IsWholeSeat v → Cut new_racer
-  split_racer_owed (begin, w, is, heavy) = (table, some_word, rw is (splits k s.id (whole_seat begin w) false _ ((refl, refl, refl, refl), refl, refl, refl, refl, refl) heavy refl fresh (number_given (whole_seat begin w) heavy)))
-    where
-      fresh : (g : StoreHistory) → In ((w - 1, []) ∷ []) g → g.1 ≡ []
-      fresh g (inl e) = ap (λ (x : StoreHistory). x.1) (sym e)
-      fresh g (inr i) = absurd i
+  split_racer_owed (begin, w, is, heavy) = (table, some_word, rw is (splits k s.id (whole_seat begin w) false _ ((refl, refl, refl, refl), refl, refl, refl, refl, refl) heavy refl (fresh (w - 1)) (number_given (whole_seat begin w) heavy)))
 
   pub split_sweeper_owed : IsWholeSeat v → Cut new_sweeper
   split_sweeper_owed (begin, w, is, heavy) = (table, some_word, rw is (splits k s.id (whole_seat begin w) false [] ((refl, refl, refl, refl), refl, refl, refl, refl, refl) heavy refl (λ g i. absurd i) (number_dropped (whole_seat begin w))))

@@ -20,7 +20,10 @@ pub mod Listing
 pub mod AtBeginning
 pub mod Going
 pub mod GoingAnew
+pub mod Blanks
 pub mod Calls
 pub mod StepKinds
 pub mod Together
+use AtBeginning.*
+use Blanks.*
 use Calls.*
