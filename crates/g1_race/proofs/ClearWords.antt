@@ -1,9 +1,10 @@
 -- What a clear at a pause reads and does.
 use Rattle.std.specs.Prelude.{◌≡◌, ◌≢◌, ◌+◌, ◌-◌, ◌*◌, ◌/◌, ◌<◌, ◌≤◌}
-use Rattle.g1_race.specs.{ℕ, not, eqb, List, length, set, get_or, length-set, eq-eqb, Some, None, refl, sym, ap, ◌∙◌, subst, inl, inr, ⊎_elim, arith, some, ℕ_discrete, get_elem?, cases_eq, eqb-true, not-false, take-set-le, get_or-set_same, get_or-set_other, div-mul-add, bit_at, set_else, slot_count, Enters, Table, clear_entry, Shape, IsBegun, IsMarked, IsWholeShape, HasBit, bit_word, bit_place, slot_card, flag, front, mark_word, word_count, region_at, started, shape_of, ended, table_of, Clear, Cleared, Pending, StillReferenced, IsStep, settled, refined_none, none_refinable, Into, IsLeastInto, IsEmptied, marked_cards, no_bit, at_take, at_untake, reads_as, crosses_reference, card_below, card_in_row, crossing_pair, in_row, flag_card, word_in_row}
+use Rattle.g1_race.specs.{ℕ, not, eqb, List, length, set, get_or, length-set, eq-eqb, Some, None, refl, sym, ap, ◌∙◌, subst, inl, inr, arith, some, ℕ_discrete, get_elem?, cases_eq, eqb-true, not-false, take-set-le, get_or-set_same, get_or-set_other, div-mul-add, bit_at, set_else, slot_count, Enters, Table, clear_entry, Shape, IsBegun, IsWholeShape, HasBit, bit_word, bit_place, slot_card, flag, front, mark_word, word_count, region_at, started, shape_of, ended, table_of, Clear, Cleared, Pending, StillReferenced, IsStep, settled, refined_none, none_refinable, Into, IsLeastInto, IsEmptied, marked_cards, no_bit, at_take, at_untake, reads_as, crosses_reference, card_in_row, crossing_pair, in_row, flag_card, word_in_row}
 use Rattle.std.specs.FinSet as fin
 use Rattle.g1_layout.specs.Shape as layout
 use Rattle.g1_core.specs.declared.entry.Reply.TheVariants as reply
+use Rattle.g1_race.proofs.AtPause.{begun_front}
 use Rattle.g1_race.proofs.StoreCalls.{other_region}
 use Rattle.g1_race.proofs.Ends.{crosses_apart, word_back, word_refers}
 use Rattle.g1_race.proofs.ForgottenTable.{retained_is}
@@ -48,19 +49,9 @@ module _ (k : Shape) (words : List ℕ) (region i : ℕ) (h : IsBegun (started k
   ]
 
   pub begun_emptied : ((p : ℕ) → Into k words region p → ⊥) → (region ≡ k.regions → (c : ℕ) → c < k.cards → get_elem? words (mark_word k c) ≡ some 1 → ⊥) → IsBegun (started k less)
-  begun_emptied none clean = record {
-    shaped = h.shaped;
-    sized = length-set words (row_word k region i) 0 ∙ h.sized;
-    bounded = λ p n low at. h.bounded p n low (sym (far p (omega (arith, low))) ∙ at);
-    marks = λ c low. ⊎_elim (λ (m : get_elem? words (mark_word k c) ≡ some 1). inl (far (mark_word k c) (omega (arith, low)) ∙ m)) (λ (z : get_elem? words (mark_word k c) ≡ some 0). inr (far (mark_word k c) (omega (arith, low)) ∙ z)) (h.marks c low);
-    covered = λ p n low at cr. let there = sym (far p (omega (arith, low))) ∙ at in ⊎_elim
-        (λ (b : HasBit k words (slot_card k p, region_at k n)). inl (bit_on _ (row_apart k (slot_card k p, region_at k n) region i h.shaped (crossing_pair k p n h.shaped low (h.bounded p n low there) cr).0 (λ e. none p (n, low, there, cr, e)) below) b))
-        (λ (m : IsMarked k words p). inr (far (mark_word k (slot_card k p)) (let c = card_below k p h.shaped low in omega (arith, c)) ∙ m))
-        (h.covered p n low there cr);
-    proper = λ x pair b. h.proper x pair (bit_back x b);
-    flagged = λ c low m. let was = sym (far (mark_word k c) (omega (arith, low))) ∙ m in
-        bit_on (flag k c) (row_apart k (flag k c) region i h.shaped (flag_card k c low) (λ e. clean (sym e) c low was) below) (h.flagged c low was);
-  }
+  begun_emptied none clean = begun_front k words less h (length-set words (row_word k region i) 0) far
+      (λ p n low at cr. bit_on _ (row_apart k (slot_card k p, region_at k n) region i h.shaped (crossing_pair k p n h.shaped low (h.bounded p n low at) cr).0 (λ e. none p (n, low, at, cr, e)) below))
+      (λ x pair b. inl (bit_back x b)) (λ c low m. bit_on (flag k c) (row_apart k (flag k c) region i h.shaped (flag_card k c low) (λ e. clean (sym e) c low m) below))
 
   pub emptied_next : (old : List ℕ) → IsEmptied k old words region i → IsEmptied k old less region (i + 1)
   emptied_next old g = record {

@@ -1,6 +1,7 @@
 -- Bits of pairs that are cleared, row by row.
 use Rattle.std.specs.Prelude.{◌≡◌, ◌≢◌, ◌+◌, ◌*◌, ◌/◌, ◌%◌, ◌^◌, ◌<◌, ◌≤◌}
-use Rattle.g1_race.specs.{ℕ, true, false, List, length, set, get_or, bit_and, w64, length-set, sym, ap, ◌∙◌, subst, inl, inr, ⊎_elim, arith, eq-eqb, some, get_elem?, bit_at, bit_not, cases_eq, cases_lt, true≢false, get_or-set_same, get_or-set_other, take-set-le, bit_at_clear_same, bit_at_clear_other, set_else, Shape, IsBegun, IsMarked, IsPair, HasBit, bit_place, bit_word, slot_card, crosses, flag, front, mark_word, region_at, started, AreUnset, is_member, at_take, at_untake, reads_as, bit_apart, card_below, crossing_pair, bit_below, flag_card}
+use Rattle.g1_race.specs.{ℕ, true, false, List, length, set, get_or, bit_and, w64, length-set, sym, ap, ◌∙◌, subst, inl, inr, arith, eq-eqb, some, get_elem?, bit_at, bit_not, cases_eq, cases_lt, true≢false, get_or-set_same, get_or-set_other, take-set-le, bit_at_clear_same, bit_at_clear_other, set_else, Shape, IsBegun, IsPair, HasBit, bit_place, bit_word, slot_card, crosses, flag, front, region_at, started, AreUnset, is_member, at_take, at_untake, reads_as, bit_apart, crossing_pair, bit_below, flag_card}
+use Rattle.g1_race.proofs.AtPause.{begun_front}
 
 module _ (k : Shape) (words : List ℕ) (x : ℕ × ℕ) where
   abbrev pub without_bit : ℕ
@@ -44,18 +45,9 @@ module _ (k : Shape) (words : List ℕ) (x : ℕ × ℕ) where
     ]
 
     pub begun_unset : ((p n : ℕ) → p < k.slots → get_elem? words p ≡ some n → crosses k p n ≡ true → x ≡ (slot_card k p, region_at k n) → ⊥) → IsBegun (started k without)
-    begun_unset closed = record {
-      shaped = h.shaped;
-      sized = length-set words (bit_word k x) without_bit ∙ h.sized;
-      bounded = λ p n lt at. h.bounded p n lt (sym (far p (omega (arith, lt))) ∙ at);
-      marks = λ c lt. ⊎_elim (λ (m : get_elem? words (mark_word k c) ≡ some 1). inl (far (mark_word k c) (omega (arith, lt)) ∙ m)) (λ (z : get_elem? words (mark_word k c) ≡ some 0). inr (far (mark_word k c) (omega (arith, lt)) ∙ z)) (h.marks c lt);
-      covered = λ p n lt at cr. let was = sym (far p (omega (arith, lt))) ∙ at in ⊎_elim
-          (λ (b : HasBit k words (slot_card k p, region_at k n)). inl (stays (slot_card k p, region_at k n) (crossing_pair k p n h.shaped lt (h.bounded p n lt was) cr).0 (closed p n lt was cr) b))
-          (λ (m : IsMarked k words p). inr (far (mark_word k (slot_card k p)) (let c = card_below k p h.shaped lt in omega (arith, c)) ∙ m))
-          (h.covered p n lt was cr);
-      proper = λ y py b. h.proper y py (back y b);
-      flagged = λ c lt m. stays (flag k c) (flag_card k c lt) (λ e. absurd (let r : x.1 ≡ k.regions = ap (λ (y : ℕ × ℕ). y.1) e in let low : x.1 < k.regions = pair.1 in omega (arith, r, low))) (h.flagged c lt (sym (far (mark_word k c) (omega (arith, lt))) ∙ m));
-    }
+    begun_unset closed = begun_front k words without h (length-set words (bit_word k x) without_bit) far
+        (λ p n lt at cr. stays (slot_card k p, region_at k n) (crossing_pair k p n h.shaped lt (h.bounded p n lt at) cr).0 (closed p n lt at cr)) (λ y py b. inl (back y b))
+        (λ c lt m. stays (flag k c) (flag_card k c lt) (λ e. absurd (let r : x.1 ≡ k.regions = ap (λ (y : ℕ × ℕ). y.1) e in let low : x.1 < k.regions = pair.1 in omega (arith, r, low))))
 
     pub unset_is : AreUnset k words without (λ y. y ≡ x)
     unset_is = record {

@@ -1,17 +1,12 @@
 -- Members that a resume hands out are fresh where the logs are empty.
 use Rattle.std.specs.Prelude.{◌≡◌, ◌+◌, ◌<◌, ◌∷◌}
-use Rattle.g1_race.specs.{ℕ, zero, suc, Vec, vec_len, List, [], drop, get_or, length, map, replicate, All, sym, ap, ◌∙◌, subst, arith, Global, length-replicate, TableId, Table, Shape, Racer, Sweeper, Start, began, Pause, table_at, start_at, beginning, started, start_of, blank, race_begun, racer_view, sweeper_view, racer_log, racer_number, racer_start, sweeper_start, AreFreshRacers, AreFreshSweepers, HaveBegun, HaveBegunWith, IsNewRacer, IsNewSweeper, IsFreshRacer, IsFreshSweeper}
+use Rattle.g1_race.specs.{ℕ, zero, Vec, vec_len, List, [], get_or, length, map, replicate, All, sym, ap, ◌∙◌, subst, arith, Global, get_or-map, length-map, length-replicate, TableId, Table, Shape, Racer, Sweeper, Start, began, Pause, table_at, start_at, beginning, started, start_of, blank, race_begun, racer_view, sweeper_view, racer_log, racer_number, racer_start, sweeper_start, AreFreshRacers, AreFreshSweepers, HaveBegun, HaveBegunWith, IsNewRacer, IsNewSweeper, IsFreshRacer, IsFreshSweeper}
+use Rattle.std.proofs.lemmas.List.{get_or-replicate}
 use Rattle.g1_layout.specs.Shape as layout
 use Rattle.g1_race.specs.declared.race.Race.{Race}
 
 empty_log : (rs : List Racer) (n : ℕ) → map racer_log rs ≡ replicate n [] → All (λ r. racer_log r ≡ []) rs
-empty_log [] n e i d lt = absurd (omega (arith, lt))
-empty_log (r ∷ rs) zero e i d lt = absurd (let f : suc (length rs) ≡ 0 = ap_length e in omega (arith, f))
-  where
-    ap_length : map racer_log (r ∷ rs) ≡ [] → suc (length rs) ≡ 0
-    ap_length e = absurd (cc (e))
-empty_log (r ∷ rs) (suc n) e zero d lt = ap (λ (l : List (List ℕ)). get_or l 0 []) e
-empty_log (r ∷ rs) (suc n) e (suc i) d lt = empty_log rs n (ap (λ (l : List (List ℕ)). drop 1 l) e) i d (omega (arith, lt))
+empty_log rs n e i d lt = sym (get_or-map racer_log rs i d [] lt) ∙ (ap (λ (l : List (List ℕ)). get_or l i []) e ∙ get_or-replicate n i [] [] (let few = ap length e in omega (arith, length-map rs racer_log, length-replicate {A = List ℕ} n [], few, lt)))
 
 module _ (z : TableId) (begin : Start) where
   pub racers_begun : (rs : List Racer) → All (IsNewRacer z begin) rs → All (λ r. racer_start r ≡ begin) rs

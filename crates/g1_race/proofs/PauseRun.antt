@@ -1,6 +1,6 @@
 -- What is recorded at a pause after some of its calls.
 use Rattle.std.specs.Prelude.{◌≡◌, ◌⊎◌, ◌<◌, ◌∷◌}
-use Rattle.g1_race.specs.{inl, inr, ℕ, suc, List, [], length, Contains, sym, ap, ◌∙◌, subst, ⊎_elim, arith, fold, and_parts, Table, Holds, IsRecorded, refined, Entry, Store, Clear, Redirect, written, settled, table_after, in_pairs, to_pairs, recorded_cases, Holds_from_held, Shape, View, Begun, BeganInto, In, IsWholeShape, AmongStores, IsKnown, IsOver, shape_of, Ended, table_of, DrainAtPause, HadInto, HeldDuring, table_at_moment, in_contains}
+use Rattle.g1_race.specs.{inl, inr, ℕ, suc, List, [], length, sym, ap, ◌∙◌, subst, ⊎_elim, arith, fold, and_parts, Table, Holds, IsRecorded, refined, Entry, Store, Clear, Redirect, written, settled, table_after, recorded_cases, Holds_from_held, Shape, table_of, DrainAtPause, HadInto, HeldDuring, table_at_moment}
 use Rattle.std.proofs.lemmas.List.{take_all}
 use Rattle.g1_core.specs.declared.entry.Call.{Call}
 use Rattle.g1_core.specs.declared.entry.Reply.{Reply}
@@ -8,7 +8,7 @@ use Rattle.g1_core.specs.declared.entry.Reply.TheVariants as reply
 use Rattle.g1_core.specs.declared.reply.ClearReply.TheVariants as clear_reply
 use Rattle.g1_core.proofs.MovedLemmas.{moved_known}
 use Rattle.g1_core.proofs.RunLemmas.{forgotten, HasSlots, layout_after, written_layout}
-use Rattle.g1_race.proofs.Draining.{HoldsInto, began_holds, in_shape, known_once, stored_now}
+use Rattle.g1_race.proofs.Draining.{held_first, recorded_first}
 
 -- one call
 
@@ -62,22 +62,6 @@ held_had t [] card region h = inr (inl h)
 held_had t (e ∷ calls) card region h = inr (inr (record { moment = length (e ∷ calls); some_call = omega arith; within = omega arith; held = subst (λ (l : List Entry). Holds (fold table_after t l) card region) (sym (take_all (length (e ∷ calls)) (e ∷ calls) (omega arith))) h }))
 
 -- since the race last resumed
-
-module _ (e : Ended) (begun : Begun) (racers sweepers : List View) (shaped : IsWholeShape begun.shape) (laid : begun.shape ≡ shape_of e.layout begun.shape.members) (over : IsOver begun e.words racers sweepers)
-    (same : (x : ℕ × ℕ) → (Contains e.pairs x → IsKnown begun sweepers x) × (IsKnown begun sweepers x → Contains e.pairs x)) (card region : ℕ) where
-  abbrev first : Ended
-  first = record { layout = e.layout; words = begun.words; pairs = begun.pairs }
-
-  had : AmongStores begun.shape racers (card, region) ⊎ BeganInto begun.shape begun.words (card, region) ⊎ In begun.pairs (card, region) → HadInto e.layout begun racers card region
-  had (inl s) = inl s
-  had (inr (inl b)) = inr (inl (began_holds first begun.shape.members card region (subst IsWholeShape laid shaped) (subst (λ (k : Shape). BeganInto k begun.words (card, region)) laid b)))
-  had (inr (inr i)) = inr (inr (to_pairs begun.pairs (card, region) (in_contains begun.pairs (card, region) i)))
-
-  pub recorded_first : IsRecorded (table_of e) card region → HadInto e.layout begun racers card region
-  recorded_first r = had (known_once begun e.words racers sweepers over card region ((same (card, region)).0 (in_pairs e.pairs (card, region) r)))
-
-  pub held_first : Holds (table_of e) card region → HadInto e.layout begun racers card region
-  held_first h = had (stored_now begun e.words racers sweepers over card region (subst (λ (s : Shape). HoldsInto s e.words card region) (sym laid) (in_shape e begun.shape.members card region h)))
 
 pub drain_at_pause : DrainAtPause
 drain_at_pause e begun racers sweepers calls caller region cards done after shaped laid over same step card c = pick (

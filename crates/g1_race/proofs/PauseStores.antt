@@ -12,9 +12,7 @@ store_step t new caller slot target kind lt within is e = record { allowed = rec
 -- the slots of a region
 
 pub slot_in : (k : Shape) (region i : ℕ) → IsWholeShape k → region < k.regions → i < k.span → region * k.span + i < k.slots
-slot_in k region i shaped lt below =
-    let r : ℕ = region * k.span in let all : ℕ = k.span * k.regions in let same : ℕ = k.regions * k.span in
-    let a : r + i < all = mul-add-lt region k.span i k.regions lt below in let e : k.slots ≡ same = shaped.6 in let f : all ≡ same = omega arith in omega arith
+slot_in k region i shaped lt below = omega (arith, mul-add-lt region k.span i k.regions lt below, shaped.6)
 
 -- what a slot with this word refers to
 pub slot_gives : (k : Shape) (l : layout.Shape) (words : List ℕ) (p n : ℕ) → k ≡ shape_of l k.members → p < k.slots → get_elem? words p ≡ some n → get_or (refs_of (ended l k words)) p None ≡ target_of_word n
