@@ -1,12 +1,12 @@
 -- What a clear at a pause reads and does.
 use Rattle.std.specs.Prelude.{◌≡◌, ◌≢◌, ◌+◌, ◌-◌, ◌*◌, ◌/◌, ◌<◌, ◌≤◌}
-use Rattle.g1_race.specs.{ℕ, not, eqb, List, length, set, get_or, length-set, eq-eqb, Some, None, refl, sym, ap, ◌∙◌, subst, inl, inr, arith, some, ℕ_discrete, get_elem?, cases_eq, eqb-true, not-false, take-set-le, get_or-set_same, get_or-set_other, div-mul-add, bit_at, set_else, slot_count, Enters, Table, clear_entry, Shape, IsBegun, IsWholeShape, HasBit, bit_word, bit_place, slot_card, flag, front, mark_word, word_count, region_at, started, shape_of, ended, table_of, Clear, Cleared, Pending, StillReferenced, IsStep, settled, refined_none, none_refinable, Into, IsLeastInto, IsEmptied, marked_cards, no_bit, at_take, at_untake, reads_as, crosses_reference, card_in_row, crossing_pair, in_row, flag_card, word_in_row}
+use Rattle.g1_race.specs.{ℕ, not, eqb, List, length, set, get_or, length-set, eq-eqb, Some, None, refl, sym, ap, ◌∙◌, subst, inl, inr, arith, some, ℕ_discrete, get_elem?, cases_eq, eqb-true, not-false, take-set-le, get_or-set_same, get_or-set_other, div-mul-add, bit_at, set_else, Enters, Table, clear_entry, Shape, IsBegun, IsWholeShape, HasBit, bit_word, bit_place, slot_card, flag, front, mark_word, word_count, region_at, started, shape_of, ended, table_of, Clear, Cleared, Pending, StillReferenced, IsStep, settled, refined_none, none_refinable, Into, IsLeastInto, IsEmptied, marked_cards, no_bit, at_take, at_untake, reads_as, crosses_reference, card_in_row, crossing_pair, in_row, flag_card, word_in_row}
 use Rattle.std.specs.FinSet as fin
 use Rattle.g1_layout.specs.Shape as layout
 use Rattle.g1_core.specs.declared.entry.Reply.TheVariants as reply
 use Rattle.g1_race.proofs.AtPause.{begun_front}
-use Rattle.g1_race.proofs.StoreCalls.{other_region}
-use Rattle.g1_race.proofs.Ends.{crosses_apart, word_back, word_refers}
+use Rattle.g1_race.proofs.Ends.{crosses_apart, crossing_back, word_refers}
+use Rattle.g1_race.proofs.Forgetting.{slot_back}
 use Rattle.g1_race.proofs.ForgottenTable.{retained_is}
 use Rattle.g1_race.proofs.PauseTable.{none_pending, pending_len}
 
@@ -78,38 +78,23 @@ pub none_behind : (k : Shape) (words : List ℕ) (p : ℕ) → IsBegun (started 
 none_behind k words p h i = absurd (let pair = crossing_pair k p i.0 h.shaped i.1 (h.bounded p i.0 i.1 i.2) i.3 in omega (arith, pair.1, i.4))
 
 pub into_back : (k : Shape) (old new : List ℕ) (region p : ℕ) → front k new ≡ front k old → Into k new region p → Into k old region p
-into_back k old new region p same i = (i.0, i.1, (at_untake old (k.slots + k.cards) p i.0 (subst (λ (l : List ℕ). get_elem? l p ≡ some i.0) same (at_take new (k.slots + k.cards) p i.0 (let lt : p < k.slots = i.1 in omega (arith, lt)) i.2))).1, i.3, i.4)
+into_back k old new region p same i = (i.0, i.1, slot_back k old new p i.0 same i.1 i.2, i.3, i.4)
 
 -- as a table
 
 module _ (k : Shape) (l : layout.Shape) (laid : k ≡ shape_of l k.members) where
   enters_word : (words : List ℕ) (slot region : ℕ) → Enters (table_of (ended l k words)) slot region → Into k words region slot
   enters_word words slot region h =
-      let e = ended l k words in
-      let word = word_back e slot h.place h.refers in
-      let n = word.0 in
-      let is : n ≡ h.place + 1 = word.3 in
-      let span : k.span ≡ l.cards * l.slots = ap (λ (s : Shape). s.span) laid in
-      let slots : k.slots ≡ slot_count l = ap (λ (s : Shape). s.slots) laid in
-      let lt : slot < slot_count l = word.1 in
-      let into : h.place / k.span ≡ region = ap (λ (s : ℕ). h.place / s) span ∙ h.into in (
-        n,
-        omega (arith, lt, slots),
-        (at_untake words (k.slots + k.cards) slot n word.2).1,
-        other_region k slot h.place n is word.4 (λ q. h.outside (ap (λ (s : ℕ). slot / s) (sym span) ∙ (q ∙ into))),
-        ap (λ (m : ℕ). m / k.span) (let f : n - 1 ≡ h.place = omega (arith, is) in f) ∙ into,
-      )
+      let w = crossing_back (ended l k words) k.members slot h.place h.refers (λ q. h.outside (q ∙ h.into)) in
+      subst (λ (s : Shape). Into s words region slot) (sym laid) (w.0, w.1, (at_untake words (k.slots + k.cards) slot w.0 w.2).1, w.3, w.4 ∙ h.into)
 
   word_enters : (words : List ℕ) (slot region : ℕ) → Into k words region slot → Enters (table_of (ended l k words)) slot region
-  word_enters words slot region i =
-      let span : k.span ≡ l.cards * l.slots = ap (λ (s : Shape). s.span) laid in
-      let slots : k.slots ≡ slot_count l = ap (λ (s : Shape). s.slots) laid in
-      let lt : slot < k.slots = i.1 in record {
-        place = i.0 - 1;
-        refers = word_refers (ended l k words) slot i.0 (omega (arith, lt, slots)) (at_take words (k.slots + k.cards) slot i.0 (omega (arith, lt)) i.2) (crosses_reference k slot i.0 i.3);
-        into = ap (λ (s : ℕ). (i.0 - 1) / s) (sym span) ∙ i.4;
-        outside = λ q. crosses_apart k slot i.0 i.3 (ap (λ (s : ℕ). slot / s) span ∙ (q ∙ sym i.4));
-      }
+  word_enters words slot region i = let x = subst (λ (s : Shape). Into s words region slot) laid i in record {
+    place = x.0 - 1;
+    refers = word_refers (ended l k words) slot x.0 x.1 (at_take words (k.slots + k.cards) slot x.0 (omega (arith, i.1)) x.2) (crosses_reference (shape_of l k.members) slot x.0 x.3);
+    into = x.4;
+    outside = λ q. crosses_apart (shape_of l k.members) slot x.0 x.3 (q ∙ sym x.4);
+  }
 
   -- what a clear answers
   module _ (old read : List ℕ) (begun : IsBegun (started k old)) (same : read ≡ old) (caller region : ℕ) (lt : region < l.regions) (count : ℕ) (counted : count ≡ length (marked_cards k old)) where

@@ -1,7 +1,8 @@
 -- Bits of pairs that are cleared, row by row.
 use Rattle.std.specs.Prelude.{◌≡◌, ◌≢◌, ◌+◌, ◌*◌, ◌/◌, ◌%◌, ◌^◌, ◌<◌, ◌≤◌}
-use Rattle.g1_race.specs.{ℕ, true, false, List, length, set, get_or, bit_and, w64, length-set, sym, ap, ◌∙◌, subst, inl, inr, arith, eq-eqb, some, get_elem?, bit_at, bit_not, cases_eq, cases_lt, true≢false, get_or-set_same, get_or-set_other, take-set-le, bit_at_clear_same, bit_at_clear_other, set_else, Shape, IsBegun, IsPair, HasBit, bit_place, bit_word, slot_card, crosses, flag, front, region_at, started, AreUnset, is_member, at_take, at_untake, reads_as, bit_apart, crossing_pair, bit_below, flag_card}
+use Rattle.g1_race.specs.{ℕ, true, false, List, length, set, get_or, bit_and, w64, length-set, sym, ap, ◌∙◌, subst, inl, inr, arith, eq-eqb, some, get_elem?, bit_at, bit_not, cases_eq, cases_lt, true≢false, get_or-set_same, get_or-set_other, take-set-le, bit_at_clear_same, bit_at_clear_other, set_else, Shape, IsBegun, IsPair, HasBit, bit_place, bit_word, slot_card, crosses, flag, front, region_at, started, AreUnset, is_member, reads_as, bit_apart, crossing_pair, bit_below, flag_card}
 use Rattle.g1_race.proofs.AtPause.{begun_front}
+use Rattle.g1_race.proofs.FlagWords.{front_at}
 
 module _ (k : Shape) (words : List ℕ) (x : ℕ × ℕ) where
   abbrev pub without_bit : ℕ
@@ -63,7 +64,7 @@ without_found k words seen x at place found same e f here = λ i. set (same i) (
 
 -- a slot's word among words with the same front
 pub slot_back : (k : Shape) (old new : List ℕ) (p n : ℕ) → front k new ≡ front k old → p < k.slots → get_elem? new p ≡ some n → get_elem? old p ≡ some n
-slot_back k old new p n same lt at = (at_untake old (k.slots + k.cards) p n (subst (λ (l : List ℕ). get_elem? l p ≡ some n) same (at_take new (k.slots + k.cards) p n (omega (arith, lt)) at))).1
+slot_back k old new p n same lt at = sym (front_at k old new p same (omega (arith, lt))) ∙ at
 
 -- one after another in a row
 

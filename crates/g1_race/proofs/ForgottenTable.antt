@@ -1,6 +1,6 @@
 -- Tables some of whose pairs are gone, and that of a region that is forgotten.
 use Rattle.std.specs.Prelude.{◌≡◌, ◌≢◌, ◌+◌, ◌-◌, ◌*◌, ◌/◌, ◌%◌, ◌<◌, ◌≤◌, ◌&&◌}
-use Rattle.g1_race.specs.{ℕ, div-add-mod', mod-lt, not, eqb, Bool, true, false, List, sym, ap, ◌∙◌, subst, inl, inr, arith, eq-eqb, some, get_elem?, mul-div_cancel_left, mul-le-mul_right, suc-mul, and_from, and_parts, cases_Bool, eqb-true, not-false, true≢false, div-mul-add, slot_count, region_of, Crosses, pair_exact, same_pairs, Shape, IsBegun, IsWholeShape, slot_card, crosses, pairs_up_to, started, shape_of, ended, refs_of, table_of, AreUnset, forgotten, at_take, crosses_reference}
+use Rattle.g1_race.specs.{ℕ, div-add-mod', mod-lt, not, eqb, Bool, true, false, List, sym, ap, ◌∙◌, subst, inl, inr, arith, eq-eqb, some, get_elem?, mul-div_cancel_left, mul-le-mul_right, suc-mul, and_from, and_parts, cases_Bool, eqb-true, not-false, true≢false, div-mul-add, region_of, Crosses, pair_exact, same_pairs, Shape, IsBegun, IsWholeShape, slot_card, crosses, pairs_up_to, started, shape_of, ended, refs_of, table_of, AreUnset, forgotten, at_take, crosses_reference}
 use Rattle.std.specs.FinSet as fin
 use Rattle.g1_layout.specs.Shape as layout
 use Rattle.g1_race.proofs.Ends.{crosses_apart, recorded_set, region_of_quotient, set_recorded, word_refers}
@@ -56,13 +56,10 @@ module _ (k : Shape) (l : layout.Shape) (laid : k ≡ shape_of l k.members) (sha
     pub closed_words : (words : List ℕ) → ((slot place : ℕ) → Crosses (table_of (ended l k words)) slot place → region_of l slot ≢ region)
         → (p n : ℕ) → p < k.slots → get_elem? words p ≡ some n → crosses k p n ≡ true → region * (k.cards / k.regions) ≤ slot_card k p → slot_card k p < region * (k.cards / k.regions) + k.cards / k.regions → ⊥
     closed_words words closed p n lt at cr le below =
-        let slots : k.slots ≡ slot_count l = ap (λ (s : Shape). s.slots) laid in
-        let span : k.span ≡ l.cards * l.slots = ap (λ (s : Shape). s.span) laid in
-        let card : slot_card k p ≡ layout.card_of l p = ap (λ (s : Shape). p / s.size) laid in
         closed p (n - 1) (record {
-          refers = word_refers (ended l k words) p n (omega (arith, lt, slots)) (at_take words (k.slots + k.cards) p n (omega (arith, lt)) at) (crosses_reference k p n cr);
-          across = λ e. crosses_apart k p n cr (ap (λ (s : ℕ). p / s) span ∙ (e ∙ ap (λ (s : ℕ). (n - 1) / s) (sym span)));
-        }) (sym (region_of_quotient l p) ∙ (ap (λ (c : ℕ). c / l.cards) (sym card)
+          refers = word_refers (ended l k words) p n (omega (arith, lt, ap (λ (s : Shape). s.slots) laid)) (at_take words (k.slots + k.cards) p n (omega (arith, lt)) at) (crosses_reference k p n cr);
+          across = crosses_apart (shape_of l k.members) p n (subst (λ (s : Shape). crosses s p n ≡ true) laid cr);
+        }) (sym (region_of_quotient l p) ∙ (ap (λ (s : Shape). p / s.size / l.cards) (sym laid)
         ∙ in_card l.cards region (slot_card k p) (subst (λ (m : ℕ). region * m ≤ slot_card k p) each le) (subst (λ (m : ℕ). slot_card k p < region * m + m) each below)))
 
     pub forgotten_is : (old new : List ℕ) → IsBegun (started k old) → IsBegun (started k new) → AreUnset k old new (λ x. (region * (k.cards / k.regions) ≤ x.0) × (x.0 < region * (k.cards / k.regions) + k.cards / k.regions))

@@ -1,6 +1,6 @@
 -- What is recorded at a pause after some of its calls.
 use Rattle.std.specs.Prelude.{◌≡◌, ◌⊎◌, ◌<◌, ◌∷◌}
-use Rattle.g1_race.specs.{inl, inr, ℕ, suc, List, [], length, sym, ap, ◌∙◌, subst, ⊎_elim, arith, fold, and_parts, Table, Holds, IsRecorded, refined, Entry, Store, Clear, Redirect, written, settled, table_after, recorded_cases, Holds_from_held, Shape, table_of, DrainAtPause, HadInto, HeldDuring, table_at_moment}
+use Rattle.g1_race.specs.{inl, inr, ℕ, suc, List, [], length, sym, ap, ◌∙◌, subst, arith, fold, and_parts, Table, Holds, IsRecorded, refined, Entry, Store, Clear, Redirect, written, settled, table_after, recorded_cases, Holds_from_held, Shape, table_of, DrainAtPause, HadInto, HeldDuring, table_at_moment}
 use Rattle.std.proofs.lemmas.List.{take_all}
 use Rattle.g1_core.specs.declared.entry.Call.{Call}
 use Rattle.g1_core.specs.declared.entry.Reply.{Reply}
@@ -26,36 +26,29 @@ held_by (Store slot target) r cards t card region h = inr (record { slot = h.slo
 held_by _ r cards t card region h = inl h
 
 recorded_step : (t : Table) (e : Entry) (card region : ℕ) → HasSlots t.layout → IsRecorded (table_after t e) card region → IsRecorded t card region ⊎ Holds t card region ⊎ Holds (table_after t e) card region
-recorded_step t e card region some_slot h = ⊎_elim
-    (λ (r : IsRecorded (refined e.refined (written e.call t)) card region). elim (recorded_cases e.refined (written e.call t) card region r) [
-      | inl old ↦ inl (written_known e.call t card region old)
-      | inr new ↦ inr (⊎_elim (λ (a : Holds t card region). inl a) (λ (b : Holds (table_after t e) card region). inr b) (held_by e.call e.reply e.refined t card region (Holds_from_held (written e.call t) card region new)))
-    ])
-    (λ (b : Holds (table_after t e) card region). inr (inr b))
-    (settled_known e.call e.reply (refined e.refined (written e.call t)) card region (subst HasSlots (sym (written_layout e.call t)) some_slot) h)
+recorded_step t e card region some_slot h = elim (settled_known e.call e.reply (refined e.refined (written e.call t)) card region (subst HasSlots (sym (written_layout e.call t)) some_slot) h) [
+  | inl r ↦ elim (recorded_cases e.refined (written e.call t) card region r) [
+    | inl old ↦ inl (written_known e.call t card region old)
+    | inr new ↦ inr (held_by e.call e.reply e.refined t card region (Holds_from_held (written e.call t) card region new))
+  ]
+  | inr b ↦ inr (inr b)
+]
 
 -- all calls
 
 abbrev pub Had : Table → List Entry → ℕ → ℕ → Type 0
 Had t calls card region = IsRecorded t card region ⊎ Holds t card region ⊎ HeldDuring t calls card region
 
-one_later : (t : Table) (e : Entry) (calls : List Entry) (card region : ℕ) → HeldDuring (table_after t e) calls card region → HeldDuring t (e ∷ calls) card region
-one_later t e calls card region h = record { moment = suc h.moment; some_call = omega arith; within = omega (arith, h.within); held = h.held }
-
 at_first : (t : Table) (e : Entry) (calls : List Entry) (card region : ℕ) → Holds (table_after t e) card region → HeldDuring t (e ∷ calls) card region
 at_first t e calls card region h = record { moment = 1; some_call = omega arith; within = omega arith; held = h }
 
 pub recorded_had : (t : Table) (calls : List Entry) (card region : ℕ) → HasSlots t.layout → IsRecorded (fold table_after t calls) card region → Had t calls card region
 recorded_had t [] card region some_slot h = inl h
-recorded_had t (e ∷ calls) card region some_slot h = pick (recorded_had (table_after t e) calls card region (subst HasSlots (sym (layout_after t e)) some_slot) h)
-  where
-    pick : Had (table_after t e) calls card region → Had t (e ∷ calls) card region
-    pick (inr (inl held)) = inr (inr (at_first t e calls card region held))
-    pick (inr (inr later)) = inr (inr (one_later t e calls card region later))
-    pick (inl was) = ⊎_elim
-        (λ (r : IsRecorded t card region). inl r)
-        (λ (x : Holds t card region ⊎ Holds (table_after t e) card region). ⊎_elim (λ (a : Holds t card region). inr (inl a)) (λ (b : Holds (table_after t e) card region). inr (inr (at_first t e calls card region b))) x)
-        (recorded_step t e card region some_slot was)
+recorded_had t (e ∷ calls) card region some_slot h = elim (recorded_had (table_after t e) calls card region (subst HasSlots (sym (layout_after t e)) some_slot) h) [
+  | inl was ↦ elim (recorded_step t e card region some_slot was) [ inl r ↦ inl r | inr (inl a) ↦ inr (inl a) | inr (inr b) ↦ inr (inr (at_first t e calls card region b)) ]
+  | inr (inl held) ↦ inr (inr (at_first t e calls card region held))
+  | inr (inr later) ↦ inr (inr (record { moment = suc later.moment; some_call = omega arith; within = omega (arith, later.within); held = later.held }))
+]
 
 held_had : (t : Table) (calls : List Entry) (card region : ℕ) → Holds (fold table_after t calls) card region → Had t calls card region
 held_had t [] card region h = inr (inl h)
