@@ -2,6 +2,14 @@
 use Rattle.std.specs.Prelude.{◌≡◌, ◌≢◌, ◌⊎◌, ◌+◌, ◌<◌}
 use Rattle.g1_race.specs.{ℕ, List, [], set, length, length-set, true, refl, sym, ap, ◌∙◌, subst, inl, inr, ⊎_elim, arith, some, cases_eq, get_elem?, at_set, set_else, set_here, never_both, Me, Seat, Shape, View, IsWord, IsBegun, IsFlagged, IsMarked, IsOfCrossing, IsPair, HasBit, flag, mark_word, slot_card, region_at, crosses, started, frozen_seat, IsPaused, TableId, same_bits, bit_as, card_below, mark_apart, same_slots_at_mark}
 
+-- one item more has its value
+pub filled_next : (count : ℕ) (place value : ℕ → ℕ) (mid new : List ℕ) (n : ℕ) → ((c : ℕ) → c < n → c < count → get_elem? mid (place c) ≡ some (value c)) → get_elem? new (place n) ≡ some (value n)
+    → ((c : ℕ) → c ≢ n → c < count → get_elem? new (place c) ≡ get_elem? mid (place c)) → (c : ℕ) → c < n + 1 → c < count → get_elem? new (place c) ≡ some (value c)
+filled_next count place value mid new n before here same c up below = elim (cases_eq c n) [
+  | inl e ↦ subst (λ (d : ℕ). get_elem? new (place d) ≡ some (value d)) (sym e) here
+  | inr ne ↦ same c ne below ∙ before c (omega (arith, up, ne)) below
+]
+
 -- a card's mark stays, is cleaned where the bits of the card's pairs are set, or is set where the card's flag is
 abbrev MarkStep : Shape → List ℕ → List ℕ → ℕ → Type 0
 MarkStep k old new c = (get_elem? new (mark_word k c) ≡ get_elem? old (mark_word k c))

@@ -1,6 +1,6 @@
 -- What a clear at a pause reads and does.
 use Rattle.std.specs.Prelude.{◌≡◌, ◌≢◌, ◌+◌, ◌-◌, ◌*◌, ◌/◌, ◌<◌, ◌≤◌}
-use Rattle.g1_race.specs.{ℕ, not, eqb, List, length, set, get_or, length-set, eq-eqb, Some, None, refl, sym, ap, ◌∙◌, subst, inl, inr, arith, some, ℕ_discrete, get_elem?, cases_eq, eqb-true, not-false, take-set-le, get_or-set_same, get_or-set_other, div-mul-add, bit_at, set_else, Enters, Table, clear_entry, Shape, IsBegun, IsWholeShape, HasBit, bit_word, bit_place, slot_card, flag, front, mark_word, word_count, region_at, started, shape_of, ended, table_of, Clear, Cleared, Pending, StillReferenced, IsStep, settled, refined_none, none_refinable, Into, IsLeastInto, IsEmptied, marked_cards, no_bit, at_take, at_untake, reads_as, crosses_reference, card_in_row, crossing_pair, in_row, flag_card, word_in_row}
+use Rattle.g1_race.specs.{ℕ, not, eqb, List, length, set, get_or, length-set, eq-eqb, Some, None, refl, sym, ap, ◌∙◌, subst, inl, inr, arith, some, get_elem?, cases_eq, eqb-true, not-false, take-set-le, get_or-set_same, get_or-set_other, div-mul-add, bit_at, set_else, Enters, Table, clear_entry, Shape, IsBegun, IsWholeShape, HasBit, bit_word, bit_place, slot_card, flag, front, mark_word, word_count, region_at, started, shape_of, ended, table_of, Clear, Cleared, Pending, StillReferenced, IsStep, settled, refined_none, none_refinable, Into, IsLeastInto, IsEmptied, marked_cards, no_bit, at_take, at_untake, reads_as, crosses_reference, card_in_row, crossing_pair, in_row, flag_card, word_in_row}
 use Rattle.std.specs.FinSet as fin
 use Rattle.g1_layout.specs.Shape as layout
 use Rattle.g1_core.specs.declared.entry.Reply.TheVariants as reply
@@ -58,20 +58,23 @@ module _ (k : Shape) (words : List ℕ) (region i : ℕ) (h : IsBegun (started k
     front = take-set-le (k.slots + k.cards) words (row_word k region i) 0 (let r : ℕ = region * k.row in let goal : k.slots + k.cards ≤ k.slots + k.cards + (r + i) = omega arith in goal) ∙ g.front;
     kept = λ x pair ne b. bit_on x (row_apart k x region i h.shaped pair ne below) (g.kept x pair ne b);
     only = λ x pair b. g.only x pair (bit_back x b);
-    clear = λ x pair e up b. pick x pair e up b (ℕ_discrete (x.0 / 64) i);
+    clear = λ x pair e up b. elim (cases_eq (x.0 / 64) i) [
+      | inl f ↦ gone x (λ j. k.slots + k.cards + (e j * k.row + f j)) b
+      | inr ne ↦ g.clear x pair e (omega (arith, up, ne)) (bit_back x b)
+    ];
   }
-    where
-      pick : (x : ℕ × ℕ) → x.0 < k.cards → x.1 ≡ region → x.0 / 64 < i + 1 → HasBit k less x → Dec (x.0 / 64 ≡ i) → ⊥
-      pick x pair e up b (yes f) = gone x (λ j. k.slots + k.cards + (e j * k.row + f j)) b
-      pick x pair e up b (no ne) = g.clear x pair e (let n : ℕ = x.0 / 64 in let a : n < i + 1 = up in let c : n ≢ i = ne in let goal : n < i = omega (arith, a, c) in goal) (bit_back x b)
 
 -- a word of the row that is 0 already
 pub emptied_past : (k : Shape) (old words : List ℕ) (region i found : ℕ) → get_elem? words (row_word k region i) ≡ some found → found ≡ 0 → IsEmptied k old words region i → IsEmptied k old words region (i + 1)
-emptied_past k old words region i found at none g = record { front = g.front; kept = g.kept; only = g.only; clear = λ x pair e up b. pick x pair e up b (ℕ_discrete (x.0 / 64) i) }
-  where
-    pick : (x : ℕ × ℕ) → x.0 < k.cards → x.1 ≡ region → x.0 / 64 < i + 1 → HasBit k words x → Dec (x.0 / 64 ≡ i) → ⊥
-    pick x pair e up b (yes f) = no_bit k words x (ap (λ (j : ℕ). get_or words j 0) (λ j. k.slots + k.cards + (e j * k.row + f j)) ∙ (reads_as words (row_word k region i) found 0 at ∙ none)) b
-    pick x pair e up b (no ne) = g.clear x pair e (let n : ℕ = x.0 / 64 in let a : n < i + 1 = up in let c : n ≢ i = ne in let goal : n < i = omega (arith, a, c) in goal) b
+emptied_past k old words region i found at none g = record {
+  front = g.front;
+  kept = g.kept;
+  only = g.only;
+  clear = λ x pair e up b. elim (cases_eq (x.0 / 64) i) [
+    | inl f ↦ no_bit k words x (ap (λ (j : ℕ). get_or words j 0) (λ j. k.slots + k.cards + (e j * k.row + f j)) ∙ (reads_as words (row_word k region i) found 0 at ∙ none)) b
+    | inr ne ↦ g.clear x pair e (omega (arith, up, ne)) b
+  ];
+}
 
 -- no slot refers into the region of the row of flags
 pub none_behind : (k : Shape) (words : List ℕ) (p : ℕ) → IsBegun (started k words) → Into k words k.regions p → ⊥

@@ -1,11 +1,13 @@
 -- Words that have all of a core's table say that table.
-use Rattle.std.specs.Prelude.{◌^◌, ◌≡◌, ◌≢◌, ◌+◌, ◌-◌, ◌<◌, ◌≤◌, ◌∷◌}
-use Rattle.g1_race.specs.{ℕ, suc, eqb, List, [], length, take, get_or, Bool, true, false, Option, None, Some, refl, sym, ap, ◌∙◌, subst, inl, inr, ⊎_elim, arith, some, some-injective, get_elem?, length-map, length-take-le, get_or_past, cases_lt, true≢false, slot_count, card_count, region_of, Table, State, IsSound, pending_of, marks_for, same_cards, same_pairs, in_pairs, to_pairs, pending_flag, Shape, In, IsWholeShape, IsPair, HasBit, mark_word, region_at, as_number, word_count, shape_of, word_of, Ended, ended, target_of_word, refs_of, marks_of, table_of, Notes, AreMarked, ArePlaced, AreCovered, zeros, zero_at, no_bit, zeros_read, within, crosses_reference, card_below, at_take, in_contains, contains_in, reads_as, listed_set, set_listed}
+use Rattle.std.specs.Prelude.{◌^◌, ◌≡◌, ◌≢◌, ◌+◌, ◌-◌, ◌<◌, ◌≤◌}
+use Rattle.g1_race.specs.{eqb-true, length-take, ℕ, List, length, take, get_or, Bool, true, false, Option, None, Some, refl, sym, ap, ◌∙◌, subst, inl, inr, ⊎_elim, arith, some, get_elem?, length-map, length-take-le, get_or_past, cases_lt, true≢false, slot_count, card_count, region_of, Table, State, IsSound, same_cards, same_pairs, in_pairs, to_pairs, pending_flag, Shape, In, IsWholeShape, IsPair, HasBit, mark_word, region_at, as_number, word_count, shape_of, word_of, Ended, ended, target_of_word, refs_of, marks_of, table_of, Notes, AreMarked, ArePlaced, AreCovered, zeros, zero_at, no_bit, zeros_read, crosses_reference, card_below, at_take, in_contains, contains_in, reads_as, listed_set, set_listed}
 use Rattle.std.specs.FinSet as set_of
 use Rattle.g1_layout.specs.Shape as layout
 use Rattle.g1_core.specs.Table as table
 use Rattle.g1_race.proofs.StoreCalls.{word_fits}
+use Rattle.std.proofs.lemmas.List.{ext_get_or}
 use Rattle.g1_race.proofs.Parts.{length_marks}
+use Rattle.g1_race.proofs.Telling.{some_below}
 use Rattle.g1_race.proofs.Ends.{refs_here, marks_here, word_target, crosses_apart, marked_pending}
 
 -- words and references
@@ -13,10 +15,6 @@ use Rattle.g1_race.proofs.Ends.{refs_here, marks_here, word_target, crosses_apar
 word_some : (o : Option ℕ) (n : ℕ) → n ≡ word_of o → n ≢ 0 → (place : ℕ) × (o ≡ Some place) × (n ≡ place + 1)
 word_some None n e ne = absurd (ne e)
 word_some (Some x) n e ne = (x, refl, e)
-
-one_back : (b : Bool) → eqb (as_number b) 1 ≡ true → b ≡ true
-one_back true e = refl
-one_back false e = absurd (true≢false (sym e))
 
 pub word_bound : (s : State) (p : ℕ) → IsSound s → p < slot_count s.table.layout → word_of (table.target_of s.table p) ≤ slot_count s.table.layout
 word_bound s p parts lt = word_fits (table.target_of s.table p) (slot_count s.table.layout) (parts.places p None (omega (arith, lt, parts.slots)))
@@ -56,12 +54,6 @@ pub record IsCopy (k : Shape) (t : Table) (words : List ℕ) : Type 0 where
   pub on : (x : ℕ × ℕ) → set_of.contains t.recorded x ≡ true → HasBit k words x
   pub back : (x : ℕ × ℕ) → IsPair k x → HasBit k words x → set_of.contains t.recorded x ≡ true
 
-same_at : {A : Type 0} (xs ys : List A) → length xs ≡ length ys → ((i : ℕ) (a : A) → get_elem? ys i ≡ some a → get_elem? xs i ≡ some a) → xs ≡ ys
-same_at [] [] e f = refl
-same_at [] (y ∷ ys) e f = absurd (omega arith)
-same_at (x ∷ xs) [] e f = absurd (omega arith)
-same_at (x ∷ xs) (y ∷ ys) e f = let a = some-injective x y (f 0 y refl) in let b = same_at xs ys (omega arith) (λ i z. f (suc i) z) in λ i. a i ∷ b i
-
 module _ (s : State) (m : ℕ) (words : List ℕ) (parts : IsSound s) (few : slot_count s.table.layout < 2 ^ 32) (h : IsCopy (shape_of s.table.layout m) s.table words) where
   abbrev t : Table
   t = s.table
@@ -79,32 +71,29 @@ module _ (s : State) (m : ℕ) (words : List ℕ) (parts : IsSound s) (few : slo
   sized = length-take-le (slot_count t.layout + card_count t.layout) words (let e = h.sized in omega arith)
 
   refs_is : refs_of first ≡ t.refs
-  refs_is = same_at (refs_of first) t.refs (length-map (take (slot_count t.layout) first.words) target_of_word ∙ (length-take-le (slot_count t.layout) first.words (let e = sized in omega arith) ∙ sym parts.slots)) there
-    where
-      there : (p : ℕ) (o : Option ℕ) → get_elem? t.refs p ≡ some o → get_elem? (refs_of first) p ≡ some o
-      there p o at =
-          let lt : p < slot_count t.layout = omega (arith, within t.refs p o at, parts.slots) in
-          refs_here first p (word_of (table.target_of t p)) lt (front_at p _ (omega (arith, lt)) (h.slots p lt)) ∙ ap (λ (x : Option ℕ). some x) (word_target (table.target_of t p) (let a = word_bound s p parts lt in omega (arith, a, few)) ∙ reads_as t.refs p o None at)
+  refs_is = ext_get_or None (refs_of first) t.refs (length-map (take (slot_count t.layout) first.words) target_of_word ∙ (length-take-le (slot_count t.layout) first.words (omega (arith, sized)) ∙ sym parts.slots)) (λ p below.
+      let lt : p < slot_count t.layout = omega (arith, below, length-map (take (slot_count t.layout) first.words) target_of_word, length-take (slot_count t.layout) first.words) in
+      reads_as (refs_of first) p (target_of_word (word_of (table.target_of t p))) None (refs_here first p (word_of (table.target_of t p)) lt (front_at p _ (omega (arith, lt)) (h.slots p lt)))
+      ∙ word_target (table.target_of t p) (omega (arith, word_bound s p parts lt, few)))
 
   mark_at : (c : ℕ) → c < card_count t.layout → (b : Bool) → set_of.contains t.pending c ≡ b → get_elem? first.words (slot_count t.layout + c) ≡ some (as_number b)
   mark_at c lt b e = front_at (slot_count t.layout + c) _ (omega (arith, lt)) (h.marks c lt) ∙ ap (λ (x : Bool). some (as_number x)) e
 
   flag_back : (c : ℕ) → get_or (marks_of first) c false ≡ true → set_of.contains t.pending c ≡ true
   flag_back c e = elim (cases_lt c (card_count t.layout)) [
-    | inl below ↦ one_back (set_of.contains t.pending c) (sym (reads_as (marks_of first) c _ false (marks_here first c _ (mark_at c below (set_of.contains t.pending c) refl))) ∙ e)
+    | inl below ↦ some_below (set_of.contains t.pending c) (omega (arith, eqb-true _ 1 (sym (reads_as (marks_of first) c _ false (marks_here first c _ (mark_at c below (set_of.contains t.pending c) refl))) ∙ e)))
     | inr past ↦ absurd (true≢false (sym e ∙ get_or_past (marks_of first) c false (omega (arith, past, length_marks first sized))))
   ]
 
-  pending_is : pending_of (marks_for (marks_of first)) ≡ t.pending
-  pending_is = same_cards _ _ (λ c e. flag_back c (pending_flag (marks_of first) c e)) (λ c e. marked_pending (marks_of first) c (marks_here first c 1 (mark_at c (parts.pending c e) true e)))
-
-  recorded_is : set_of.from_list first.pairs ≡ t.recorded
-  recorded_is = same_pairs _ _
-      (λ x e. let b = listed_set k words x (in_pairs first.pairs x e) in h.back x b.0 b.1)
-      (λ x e. let o = parts.recorded x.0 x.1 e in to_pairs first.pairs x (set_listed k words x (o.0, o.1) (h.on x e)))
-
   copy_at : table_of first ≡ t
-  copy_at = λ i. record { layout = t.layout; refs = refs_is i; pending = pending_is i; recorded = recorded_is i }
+  copy_at = λ i. record {
+    layout = t.layout;
+    refs = refs_is i;
+    pending = same_cards (table_of first).pending t.pending (λ c e. flag_back c (pending_flag (marks_of first) c e)) (λ c e. marked_pending (marks_of first) c (marks_here first c 1 (mark_at c (parts.pending c e) true e))) i;
+    recorded = same_pairs (table_of first).recorded t.recorded
+        (λ x e. let b = listed_set k words x (in_pairs first.pairs x e) in h.back x b.0 b.1)
+        (λ x e. let o = parts.recorded x.0 x.1 e in to_pairs first.pairs x (set_listed k words x (o.0, o.1) (h.on x e))) i;
+  }
 
 pub copied : (s : State) (l : layout.Shape) (k : Shape) (words : List ℕ) → l ≡ s.table.layout → k ≡ shape_of l k.members → IsSound s → IsWholeShape k → IsCopy k s.table words → table_of (ended l k words) ≡ s.table
 copied s l k words lay laid parts shaped copy =

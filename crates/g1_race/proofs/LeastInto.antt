@@ -1,6 +1,6 @@
 -- The least slot that refers into a region, slot by slot of a card.
 use Rattle.std.specs.Prelude.{◌≡◌, ◌+◌, ◌*◌, ◌%◌, ◌<◌, ◌≤◌}
-use Rattle.g1_race.specs.{ℕ, true, false, List, div-add-mod', mod-lt, Some, None, eq-eqb, sym, ap, ◌∙◌, subst, inl, inr, ⊎_elim, arith, some, some-injective, ℕ_discrete, get_elem?, cases_lt, true≢false, Shape, IsBegun, IsMarked, HasBit, slot_card, crosses, mark_word, region_at, started, IsNext, is_member, Into, IsLeastInto, IsLeastOfCard, card_below}
+use Rattle.g1_race.specs.{cases_eq, ℕ, true, false, List, div-add-mod', mod-lt, Some, None, eq-eqb, sym, ap, ◌∙◌, subst, inl, inr, ⊎_elim, arith, some, some-injective, get_elem?, cases_lt, true≢false, Shape, IsBegun, IsMarked, HasBit, slot_card, crosses, mark_word, region_at, started, IsNext, is_member, Into, IsLeastInto, IsLeastOfCard, card_below}
 
 -- a slot of a region's member
 
@@ -60,14 +60,13 @@ least_on k words card region i q none e x = elim (cases_lt (q % k.size) i) [
 ]
 
 pub none_next : (k : Shape) (words : List ℕ) (card region i r : ℕ) → get_elem? words (card * k.size + i) ≡ some r → ((crosses k (card * k.size + i) r ≡ true) × (region_at k r ≡ region) → ⊥) → ((j : ℕ) → j < i → Into k words region (card * k.size + j) → ⊥) → (j : ℕ) → j < i + 1 → Into k words region (card * k.size + j) → ⊥
-none_next k words card region i r at never none j lt x = pick (ℕ_discrete j i)
-  where
-    pick : Dec (j ≡ i) → ⊥
-    pick (yes e) =
-        let y : Into k words region (card * k.size + i) = subst (λ (m : ℕ). Into k words region (card * k.size + m)) e x in
-        let same : y.0 ≡ r = some-injective y.0 r (sym y.2 ∙ at) in
-        never (subst (λ (n : ℕ). crosses k (card * k.size + i) n ≡ true) same y.3, subst (λ (n : ℕ). region_at k n ≡ region) same y.4)
-    pick (no ne) = none j (omega (arith, lt, ne)) x
+none_next k words card region i r at never none j lt x = elim (cases_eq j i) [
+  | inl e ↦
+      let y : Into k words region (card * k.size + i) = subst (λ (m : ℕ). Into k words region (card * k.size + m)) e x in
+      let same : y.0 ≡ r = some-injective y.0 r (sym y.2 ∙ at) in
+      never (subst (λ (n : ℕ). crosses k (card * k.size + i) n ≡ true) same y.3, subst (λ (n : ℕ). region_at k n ≡ region) same y.4)
+  | inr ne ↦ none j (omega (arith, lt, ne)) x
+]
 
 pub none_on : (k : Shape) (words : List ℕ) (card region i p : ℕ) → 0 < k.size → k.size ≤ i → ((j : ℕ) → j < i → Into k words region (card * k.size + j) → ⊥) → slot_card k p ≡ card → Into k words region p → ⊥
 none_on k words card region i p pos le none e x = none (p % k.size) (let m : p % k.size < k.size = mod-lt p pos in omega (arith, m, le)) (subst (Into k words region) (sym (by_card k p card e)) x)

@@ -1,7 +1,7 @@
 -- What refinement at a pause does to the words.
 use Rattle.std.specs.Prelude.{◌≡◌, ◌≢◌, ◌⊎◌, ◌+◌, ◌*◌, ◌%◌, ◌^◌, ◌<◌, ◌≤◌, ◌∷◌, ◌++◌}
-use Rattle.g1_race.specs.{ℕ, zero, suc, cond, Bool, true, false, List, [], length, set, get_or, bit_or, length-set, div-add-mod', mod-lt, refl, sym, ap, ◌∙◌, subst, inl, inr, ⊎_elim, arith, some, ℕ_discrete, cases_eq, get_elem?, cases_lt, bit_at, div-mul-add, set_else, set_here, Shape, In, IsBegun, IsOfCrossing, HasBit, BeganInto, bit_word, bit_place, flag, mark_word, word_count, slot_card, region_at, crosses, started, pair_at, Notes, RefinesCard, AreRefined, card_pairs, in_left, in_right, in_either, read_at, true_is, reads_as, word_low, SameBits, same_bits, bit_as, with_pair, bit_here, bits_stay, bits_back, bit_below, front_stays}
-use Rattle.g1_race.proofs.AtPause.{begun_front, begun_mark}
+use Rattle.g1_race.specs.{ℕ, zero, suc, cond, Bool, true, false, List, [], length, set, get_or, bit_or, length-set, div-add-mod', mod-lt, refl, sym, ap, ◌∙◌, subst, inl, inr, ⊎_elim, arith, some, cases_eq, get_elem?, cases_lt, bit_at, div-mul-add, set_else, set_here, Shape, In, IsBegun, IsOfCrossing, HasBit, BeganInto, bit_word, bit_place, flag, mark_word, word_count, slot_card, region_at, crosses, started, pair_at, Notes, RefinesCard, AreRefined, card_pairs, in_left, in_right, in_either, read_at, true_is, reads_as, word_low, SameBits, same_bits, bit_as, with_pair, bit_here, bits_stay, bits_back, bit_below, front_stays}
+use Rattle.g1_race.proofs.AtPause.{begun_front, begun_mark, filled_next}
 use Rattle.g1_race.proofs.SweepCalls.{slot_below}
 
 -- one bit is set, of a pair or a card's flag
@@ -125,7 +125,7 @@ refined_past k old mid n m b le never h = record { slots = h.slots; clean = λ c
 pub refined_next : (k : Shape) (old mid new : List ℕ) (n : ℕ) → n < k.cards → get_elem? mid (mark_word k n) ≡ some 1 → AreRefined k old mid n → RefinesCard k mid new n → AreRefined k old new (n + 1)
 refined_next k old mid new n there dirty h g = record {
   slots = λ p lt. g.slots p lt ∙ h.slots p lt;
-  clean = λ c lt below. pick c lt below (ℕ_discrete c n);
+  clean = filled_next k.cards (mark_word k) (λ c. 0) mid new n h.clean g.clean (λ c ne below. g.marks c below ne);
   marks = λ c up below. g.marks c below (λ e. absurd (omega (arith, up, e))) ∙ h.marks c (omega (arith, up)) below;
   kept = λ x pair b. g.kept x (h.kept x pair b);
   only = λ x pair b. ⊎_elim
@@ -133,7 +133,3 @@ refined_next k old mid new n there dirty h g = record {
       (λ (i : (x.0 ≡ n) × BeganInto k mid x). inr (subst (λ (c : ℕ). get_elem? old (mark_word k c) ≡ some 1) (sym i.0) (sym (h.marks n (omega arith) there) ∙ dirty), began_back k old mid x h.slots i.1))
       (g.only x pair b);
 }
-  where
-    pick : (c : ℕ) → c < n + 1 → c < k.cards → Dec (c ≡ n) → get_elem? new (mark_word k c) ≡ some 0
-    pick c lt below (yes e) = ap (λ (d : ℕ). get_elem? new (mark_word k d)) e ∙ g.clean
-    pick c lt below (no ne) = g.marks c below ne ∙ h.clean c (omega (arith, lt, ne)) below

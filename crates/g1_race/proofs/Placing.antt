@@ -1,9 +1,10 @@
 -- A core's table is placed into the words of a heap of nulls.
-use Rattle.std.specs.Prelude.{◌≡◌, ◌≢◌, ◌⊎◌, ◌+◌, ◌-◌, ◌*◌, ◌/◌, ◌<◌, ◌≤◌, ◌∷◌}
-use Rattle.g1_race.specs.{cases_eq, ℕ, zero, suc, List, [], set, length, Bool, true, false, All, refl, sym, ap, ◌∙◌, subst, inl, inr, ⊎_elim, arith, some, get_elem?, div-mul-add, mul-add-lt, set_else, set_here, slot_count, card_count, Table, IsPairOf, Shape, In, IsWholeShape, IsMarked, IsPair, IsOfCrossing, HasBit, slot_card, crosses, flag, mark_word, region_at, as_number, shape_of, word_of, Notes, KeepsBits, AreMarked, ArePlaced, AreCovered, SameBits, same_bits, bit_as, card_below, mark_apart}
+use Rattle.std.specs.Prelude.{◌≡◌, ◌⊎◌, ◌+◌, ◌-◌, ◌*◌, ◌/◌, ◌<◌, ◌≤◌, ◌∷◌}
+use Rattle.g1_race.specs.{ℕ, zero, suc, List, [], set, length, Bool, true, false, All, refl, sym, ap, ◌∙◌, subst, inl, inr, ⊎_elim, arith, some, get_elem?, div-mul-add, mul-add-lt, set_else, set_here, slot_count, card_count, Table, IsPairOf, Shape, In, IsWholeShape, IsMarked, IsPair, IsOfCrossing, HasBit, slot_card, crosses, flag, mark_word, region_at, as_number, shape_of, word_of, Notes, KeepsBits, AreMarked, ArePlaced, AreCovered, SameBits, same_bits, bit_as, card_below, mark_apart}
 use Rattle.std.specs.FinSet as set_of
 use Rattle.g1_layout.specs.Shape as layout
 use Rattle.g1_core.specs.Table as table
+use Rattle.g1_race.proofs.AtPause.{filled_next}
 use Rattle.g1_race.proofs.FlagWords.{flag_only}
 use Rattle.g1_race.proofs.StoreCalls.{other_region}
 use Rattle.g1_race.proofs.Ends.{region_of_quotient}
@@ -13,14 +14,6 @@ keeps_same k old new same = record { on = λ x b. bit_as k old new x same b; bac
 
 keeps_then : (k : Shape) (a b c : List ℕ) → KeepsBits k a b → KeepsBits k b c → KeepsBits k a c
 keeps_then k a b c h g = record { on = λ x t. g.on x (h.on x t); back = λ x pair t. h.back x pair (g.back x pair t) }
-
--- one item more has its value
-filled_next : (count : ℕ) (place value : ℕ → ℕ) (mid new : List ℕ) (n : ℕ) → ((c : ℕ) → c < n → c < count → get_elem? mid (place c) ≡ some (value c)) → get_elem? new (place n) ≡ some (value n)
-    → ((c : ℕ) → c ≢ n → get_elem? new (place c) ≡ get_elem? mid (place c)) → (c : ℕ) → c < n + 1 → c < count → get_elem? new (place c) ≡ some (value c)
-filled_next count place value mid new n before here same c up below = elim (cases_eq c n) [
-  | inl e ↦ subst (λ (d : ℕ). get_elem? new (place d) ≡ some (value d)) (sym e) here
-  | inr ne ↦ same c ne ∙ before c (omega (arith, up, ne)) below
-]
 
 -- marks
 
@@ -43,21 +36,21 @@ marked_flag k t old mid new n c notes h = record {
 pub marked_next : (k : Shape) (t : Table) (old mid : List ℕ) (n : ℕ) → n < k.cards → k.slots + k.cards ≤ length mid → set_of.contains t.pending n ≡ true → AreMarked k t old mid n → AreMarked k t old (set mid (mark_word k n) 1) (n + 1)
 marked_next k t old mid n lt long is h = record {
   slots = λ p below. set_else mid (mark_word k n) p 1 (λ e. absurd (omega (arith, e, below))) ∙ h.slots p below;
-  marks = filled_next k.cards (mark_word k) (mark_of t) mid (set mid (mark_word k n) 1) n h.marks (set_here mid (mark_word k n) 1 (omega (arith, lt, long)) ∙ ap (λ (b : Bool). some (as_number b)) (sym is)) (λ c ne. set_else mid (mark_word k n) (mark_word k c) 1 (λ e. ne (omega (arith, e))));
+  marks = filled_next k.cards (mark_word k) (mark_of t) mid (set mid (mark_word k n) 1) n h.marks (set_here mid (mark_word k n) 1 (omega (arith, lt, long)) ∙ ap (λ (b : Bool). some (as_number b)) (sym is)) (λ c ne below. set_else mid (mark_word k n) (mark_word k c) 1 (λ e. ne (omega (arith, e))));
   later = λ c le below. set_else mid (mark_word k n) (mark_word k c) 1 (λ e. absurd (omega (arith, e, le))) ∙ h.later c (omega (arith, le)) below;
   bits = keeps_then k old mid _ h.bits (keeps_same k mid _ (same_bits k mid (mark_word k n) 1 (omega (arith, lt))));
 }
 
 -- one that is not, where it was clean
 pub marked_past : (k : Shape) (t : Table) (old mid : List ℕ) (n : ℕ) → n < k.cards → get_elem? old (mark_word k n) ≡ some 0 → set_of.contains t.pending n ≡ false → AreMarked k t old mid n → AreMarked k t old mid (n + 1)
-marked_past k t old mid n lt zero_is is h = record { slots = h.slots; marks = filled_next k.cards (mark_word k) (mark_of t) mid mid n h.marks (h.later n (omega arith) lt ∙ (zero_is ∙ ap (λ (b : Bool). some (as_number b)) (sym is))) (λ c ne. refl); later = λ c le below. h.later c (omega (arith, le)) below; bits = h.bits }
+marked_past k t old mid n lt zero_is is h = record { slots = h.slots; marks = filled_next k.cards (mark_word k) (mark_of t) mid mid n h.marks (h.later n (omega arith) lt ∙ (zero_is ∙ ap (λ (b : Bool). some (as_number b)) (sym is))) (λ c ne below. refl); later = λ c le below. h.later c (omega (arith, le)) below; bits = h.bits }
 
 -- slots
 
 -- a slot that refers
 pub placed_next : (k : Shape) (t : Table) (old mid : List ℕ) (n word : ℕ) → n < k.slots → k.slots ≤ length mid → word ≡ word_of (table.target_of t n) → ArePlaced k t old mid n → ArePlaced k t old (set mid n word) (n + 1)
 placed_next k t old mid n word lt long is h = record {
-  slots = filled_next k.slots (λ p. p) (word_at t) mid (set mid n word) n h.slots (set_here mid n word (omega (arith, lt, long)) ∙ ap (λ (i : ℕ). some i) is) (λ p ne. set_else mid n p word ne);
+  slots = filled_next k.slots (λ p. p) (word_at t) mid (set mid n word) n h.slots (set_here mid n word (omega (arith, lt, long)) ∙ ap (λ (i : ℕ). some i) is) (λ p ne below. set_else mid n p word ne);
   later = λ p le below. set_else mid n p word (λ e. absurd (omega (arith, e, le))) ∙ h.later p (omega (arith, le)) below;
   marks = λ c below. set_else mid n (mark_word k c) word (λ e. mark_apart k n c lt e) ∙ h.marks c below;
   bits = keeps_then k old mid _ h.bits (keeps_same k mid _ (same_bits k mid n word (omega (arith, lt))));
@@ -65,7 +58,7 @@ placed_next k t old mid n word lt long is h = record {
 
 -- one that is null, as it was
 pub placed_past : (k : Shape) (t : Table) (old mid : List ℕ) (n word : ℕ) → n < k.slots → get_elem? old n ≡ some 0 → word ≡ word_of (table.target_of t n) → word ≡ 0 → ArePlaced k t old mid n → ArePlaced k t old mid (n + 1)
-placed_past k t old mid n word lt zero_is is none h = record { slots = filled_next k.slots (λ p. p) (word_at t) mid mid n h.slots (h.later n (omega arith) lt ∙ (zero_is ∙ ap (λ (i : ℕ). some i) (sym none ∙ is))) (λ p ne. refl); later = λ p le below. h.later p (omega (arith, le)) below; marks = h.marks; bits = h.bits }
+placed_past k t old mid n word lt zero_is is none h = record { slots = filled_next k.slots (λ p. p) (word_at t) mid mid n h.slots (h.later n (omega arith) lt ∙ (zero_is ∙ ap (λ (i : ℕ). some i) (sym none ∙ is))) (λ p ne below. refl); later = λ p le below. h.later p (omega (arith, le)) below; marks = h.marks; bits = h.bits }
 
 -- a slot's reference is covered while others are placed
 pub covered_on : (k : Shape) (t : Table) (old mid : List ℕ) (n : ℕ) → IsWholeShape k → ArePlaced k t old mid n → AreCovered k t old → (p word : ℕ) → p < k.slots → word ≡ word_of (table.target_of t p) → crosses k p word ≡ true → HasBit k mid (slot_card k p, region_at k word) ⊎ IsMarked k mid p

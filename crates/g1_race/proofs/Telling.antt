@@ -11,6 +11,10 @@ pub one_at_most : (b : Bool) → as_number b ≤ 1
 one_at_most true = omega arith
 one_at_most false = omega arith
 
+pub some_below : (b : Bool) → 1 ≤ as_number b → b ≡ true
+some_below true le = refl
+some_below false le = absurd (omega arith)
+
 -- numbers that are all different make a set of as many
 distinct_len : (xs : List ℕ) → IsDistinct nat_eq xs → set.len (set_of xs) ≡ length xs
 distinct_len [] distinct = set.len-empty nat_cmp
