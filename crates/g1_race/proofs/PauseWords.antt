@@ -1,5 +1,5 @@
 -- What refinement at a pause does to the words.
-use Rattle.std.specs.Prelude.{◌≡◌, ◌≢◌, ◌⊎◌, ◌+◌, ◌*◌, ◌%◌, ◌^◌, ◌<◌, ◌≤◌, ◌∷◌, ◌++◌}
+use Rattle.std.specs.Prelude.{◌≡◌, ◌⊎◌, ◌+◌, ◌*◌, ◌%◌, ◌^◌, ◌<◌, ◌≤◌, ◌∷◌, ◌++◌}
 use Rattle.g1_race.specs.{ℕ, zero, suc, cond, Bool, true, false, List, [], length, set, get_or, bit_or, length-set, div-add-mod', mod-lt, refl, sym, ap, ◌∙◌, subst, inl, inr, ⊎_elim, arith, some, cases_eq, get_elem?, cases_lt, bit_at, div-mul-add, set_else, set_here, Shape, In, IsBegun, IsOfCrossing, HasBit, BeganInto, bit_word, bit_place, flag, mark_word, word_count, slot_card, region_at, crosses, started, pair_at, Notes, RefinesCard, AreRefined, card_pairs, in_left, in_right, in_either, read_at, true_is, reads_as, word_low, SameBits, same_bits, bit_as, with_pair, bit_here, bits_stay, bits_back, bit_below, front_stays}
 use Rattle.g1_race.proofs.AtPause.{begun_front, begun_mark, filled_next}
 use Rattle.g1_race.proofs.SweepCalls.{slot_below}
@@ -89,9 +89,6 @@ module _ (k : Shape) (old mid : List ℕ) (c : ℕ) (was : IsBegun (started k ol
   bits : SameBits k mid clean
   bits = same_bits k mid (mark_word k c) 0 (omega (arith, lt))
 
-  other : (d : ℕ) → d ≢ c → get_elem? clean (mark_word k d) ≡ get_elem? mid (mark_word k d)
-  other d ne = set_else mid (mark_word k c) (mark_word k d) 0 (λ e. ne (omega (arith, e)))
-
   pub begun_cleaned : IsBegun (started k clean)
   begun_cleaned = begun_mark k mid c 0 lt (λ here. inr (inl (
     here,
@@ -103,7 +100,7 @@ module _ (k : Shape) (old mid : List ℕ) (c : ℕ) (was : IsBegun (started k ol
   refined_is = record {
     slots = λ p below. set_else mid (mark_word k c) p 0 (λ e. absurd (omega (arith, e, below))) ∙ notes.front p (omega (arith, below));
     clean = set_here mid (mark_word k c) 0 (omega (arith, h.sized, lt));
-    marks = λ d below ne. other d ne ∙ notes.front (mark_word k d) (omega (arith, below));
+    marks = λ d below ne. set_else mid (mark_word k c) (mark_word k d) 0 (λ e. ne (omega (arith, e))) ∙ notes.front (mark_word k d) (omega (arith, below));
     kept = λ x b. bit_as k mid clean x bits (notes.kept x b);
     only = λ x pair b. ⊎_elim (λ (u : HasBit k old x). inl u) (λ (i : In (card_pairs k old c k.size) x). inr (found_there k old c was lt k.size (omega arith) x i)) (notes.only x pair (bit_as k clean mid x (λ y. sym (bits y)) b));
   }
