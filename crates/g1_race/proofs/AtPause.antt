@@ -1,6 +1,10 @@
 -- The seat of a pause.
 use Rattle.std.specs.Prelude.{◌≡◌, ◌≢◌, ◌⊎◌, ◌+◌, ◌<◌}
-use Rattle.g1_race.specs.{ℕ, List, [], set, length, length-set, true, refl, sym, ap, ◌∙◌, subst, inl, inr, ⊎_elim, arith, some, cases_eq, get_elem?, at_set, set_else, set_here, never_both, Me, Seat, Shape, View, IsWord, IsBegun, IsFlagged, IsMarked, IsOfCrossing, IsPair, HasBit, flag, mark_word, slot_card, region_at, crosses, started, frozen_seat, IsPaused, TableId, same_bits, bit_as, card_below, mark_apart, same_slots_at_mark}
+use Rattle.g1_race.specs.{get_or, read_at, ℕ, List, [], set, length, length-set, true, refl, sym, ap, ◌∙◌, subst, inl, inr, ⊎_elim, arith, some, cases_eq, get_elem?, at_set, set_else, set_here, never_both, Me, Seat, Shape, View, IsWord, IsBegun, IsFlagged, IsMarked, IsOfCrossing, IsPair, HasBit, flag, mark_word, slot_card, region_at, crosses, started, frozen_seat, IsPaused, TableId, same_bits, bit_as, card_below, mark_apart, same_slots_at_mark}
+
+-- a slot has a word
+pub begun_read : (k : Shape) (words : List ℕ) (p : ℕ) → IsBegun (started k words) → p < k.slots → get_elem? words p ≡ some (get_or words p 0)
+begun_read k words p h lt = read_at words p (omega (arith, h.sized, lt))
 
 -- one item more has its value
 pub filled_next : (count : ℕ) (place value : ℕ → ℕ) (mid new : List ℕ) (n : ℕ) → ((c : ℕ) → c < n → c < count → get_elem? mid (place c) ≡ some (value c)) → get_elem? new (place n) ≡ some (value n)

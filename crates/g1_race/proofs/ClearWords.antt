@@ -27,12 +27,6 @@ module _ (k : Shape) (words : List ℕ) (region i : ℕ) (h : IsBegun (started k
   abbrev less : List ℕ
   less = set words (row_word k region i) 0
 
-  short : row_word k region i < length words
-  short = subst (λ (n : ℕ). row_word k region i < n) (sym h.sized) (row_below k region i h.shaped lt below)
-
-  far : (p : ℕ) → p < k.slots + k.cards → get_elem? less p ≡ get_elem? words p
-  far p low = set_else words (row_word k region i) p 0 (λ e. let r : ℕ = region * k.row in let f : p ≡ k.slots + k.cards + (r + i) = e in absurd (omega (arith, f, low)))
-
   same_word : (x : ℕ × ℕ) → bit_word k x ≢ row_word k region i → get_or less (bit_word k x) 0 ≡ get_or words (bit_word k x) 0
   same_word x ne = get_or-set_other words (row_word k region i) (bit_word k x) 0 0 ne
 
@@ -40,7 +34,7 @@ module _ (k : Shape) (words : List ℕ) (region i : ℕ) (h : IsBegun (started k
   bit_on x ne b = ap (λ (n : ℕ). bit_at n (bit_place k x)) (same_word x ne) ∙ b
 
   gone : (x : ℕ × ℕ) → bit_word k x ≡ row_word k region i → HasBit k less x → ⊥
-  gone x e = no_bit k less x (ap (λ (j : ℕ). get_or less j 0) e ∙ get_or-set_same words (row_word k region i) 0 0 short)
+  gone x e = no_bit k less x (ap (λ (j : ℕ). get_or less j 0) e ∙ get_or-set_same words (row_word k region i) 0 0 (omega (arith, h.sized, row_below k region i h.shaped lt below)))
 
   bit_back : (x : ℕ × ℕ) → HasBit k less x → HasBit k words x
   bit_back x b = elim (cases_eq (bit_word k x) (row_word k region i)) [
@@ -49,7 +43,7 @@ module _ (k : Shape) (words : List ℕ) (region i : ℕ) (h : IsBegun (started k
   ]
 
   pub begun_emptied : ((p : ℕ) → Into k words region p → ⊥) → (region ≡ k.regions → (c : ℕ) → c < k.cards → get_elem? words (mark_word k c) ≡ some 1 → ⊥) → IsBegun (started k less)
-  begun_emptied none clean = begun_front k words less h (length-set words (row_word k region i) 0) far
+  begun_emptied none clean = begun_front k words less h (length-set words (row_word k region i) 0) (λ p low. set_else words (row_word k region i) p 0 (λ e. absurd (omega (arith, e, low))))
       (λ p n low at cr. bit_on _ (row_apart k (slot_card k p, region_at k n) region i h.shaped (crossing_pair k p n h.shaped low (h.bounded p n low at) cr).0 (λ e. none p (n, low, at, cr, e)) below))
       (λ x pair b. inl (bit_back x b)) (λ c low m. bit_on (flag k c) (row_apart k (flag k c) region i h.shaped (flag_card k c low) (λ e. clean (sym e) c low m) below))
 

@@ -1,6 +1,6 @@
 -- Words that have all of a core's table say that table.
-use Rattle.std.specs.Prelude.{◌^◌, ◌≡◌, ◌≢◌, ◌+◌, ◌-◌, ◌<◌, ◌≤◌}
-use Rattle.g1_race.specs.{eqb-true, length-take, ℕ, List, length, take, get_or, Bool, true, false, Option, None, Some, refl, sym, ap, ◌∙◌, subst, inl, inr, ⊎_elim, arith, some, get_elem?, length-map, length-take-le, get_or_past, cases_lt, true≢false, slot_count, card_count, region_of, Table, State, IsSound, same_cards, same_pairs, in_pairs, to_pairs, pending_flag, Shape, In, IsWholeShape, IsPair, HasBit, mark_word, region_at, as_number, word_count, shape_of, word_of, Ended, ended, target_of_word, refs_of, marks_of, table_of, Notes, AreMarked, ArePlaced, AreCovered, zeros, zero_at, no_bit, zeros_read, crosses_reference, card_below, at_take, in_contains, contains_in, reads_as, listed_set, set_listed}
+use Rattle.std.specs.Prelude.{◌^◌, ◌≡◌, ◌≢◌, ◌+◌, ◌-◌, ◌/◌, ◌<◌, ◌≤◌}
+use Rattle.g1_race.specs.{slot_card, eqb-true, length-take, ℕ, List, length, take, get_or, Bool, true, false, Option, None, Some, refl, sym, ap, ◌∙◌, subst, inl, inr, ⊎_elim, arith, some, get_elem?, length-map, length-take-le, get_or_past, cases_lt, true≢false, slot_count, card_count, region_of, Table, State, IsSound, same_cards, same_pairs, in_pairs, to_pairs, pending_flag, Shape, In, IsWholeShape, IsPair, HasBit, mark_word, region_at, as_number, word_count, shape_of, word_of, Ended, ended, target_of_word, refs_of, marks_of, table_of, Notes, AreMarked, ArePlaced, AreCovered, zeros, zero_at, no_bit, zeros_read, crosses_reference, card_below, at_take, in_contains, contains_in, reads_as, listed_set, set_listed}
 use Rattle.std.specs.FinSet as set_of
 use Rattle.g1_layout.specs.Shape as layout
 use Rattle.g1_core.specs.Table as table
@@ -21,30 +21,21 @@ word_bound s p parts lt = word_fits (table.target_of s.table p) (slot_count s.ta
 
 -- each reference of a core's table is covered by the marks and the bits that are placed for it
 
-covered_at : (s : State) (m : ℕ) (words : List ℕ) → IsSound s → IsWholeShape (shape_of s.table.layout m)
-    → ((c : ℕ) → c < card_count s.table.layout → get_elem? words (slot_count s.table.layout + c) ≡ some (as_number (set_of.contains s.table.pending c)))
-    → ((x : ℕ × ℕ) → set_of.contains s.table.recorded x ≡ true → HasBit (shape_of s.table.layout m) words x)
-    → AreCovered (shape_of s.table.layout m) s.table words
-covered_at s m words parts shaped marks on p lt cr =
-    let k = shape_of s.table.layout m in
-    let t = s.table in
-    let n = word_of (table.target_of t p) in
-    let some_n = word_some (table.target_of t p) n refl (crosses_reference k p n cr).0 in
-    let place = some_n.0 in
-    let is : n ≡ place + 1 = some_n.2 in
-    let back : region_of t.layout place ≡ region_at k n = ap (λ (q : ℕ). region_of t.layout q) (let f : place ≡ n - 1 = omega arith in f) in
-    elim (parts.cover p place (record { refers = some_n.1; across = λ e. crosses_apart k p n cr (e ∙ back) })) [
-      | inl pending ↦ inr (marks (layout.card_of t.layout p) (card_below k p shaped lt) ∙ ap (λ (b : Bool). some (as_number b)) pending)
-      | inr pair ↦ inl (on _ (subst (λ (r : ℕ). set_of.contains t.recorded (layout.card_of t.layout p, r) ≡ true) back pair))
-    ]
-
-pub core_covered : (s : State) (l : layout.Shape) (k : Shape) (words : List ℕ) → l ≡ s.table.layout → k ≡ shape_of l k.members → IsSound s → IsWholeShape k
+core_covered : (s : State) (l : layout.Shape) (k : Shape) (words : List ℕ) → l ≡ s.table.layout → k ≡ shape_of l k.members → IsSound s → IsWholeShape k
     → ((c : ℕ) → c < k.cards → get_elem? words (mark_word k c) ≡ some (as_number (set_of.contains s.table.pending c)))
     → ((x : ℕ × ℕ) → set_of.contains s.table.recorded x ≡ true → HasBit k words x)
     → AreCovered k s.table words
-core_covered s l k words lay laid parts shaped =
-    subst (λ (q : Shape). IsWholeShape q → ((c : ℕ) → c < q.cards → get_elem? words (mark_word q c) ≡ some (as_number (set_of.contains s.table.pending c))) → ((x : ℕ × ℕ) → set_of.contains s.table.recorded x ≡ true → HasBit q words x) → AreCovered q s.table words)
-    (sym (laid ∙ ap (λ (x : layout.Shape). shape_of x k.members) lay)) (covered_at s k.members words parts) shaped
+core_covered s l k words lay laid parts shaped marks on p lt cr =
+    let t = s.table in
+    let n = word_of (table.target_of t p) in
+    let some_n = word_some (table.target_of t p) n refl (crosses_reference k p n cr).0 in
+    let same : k ≡ shape_of t.layout k.members = laid ∙ ap (λ (x : layout.Shape). shape_of x k.members) lay in
+    let back : region_of t.layout some_n.0 ≡ region_at k n = ap (λ (x : Shape). some_n.0 / x.span) (sym same) ∙ ap (λ (q : ℕ). q / k.span) (let f : some_n.0 ≡ n - 1 = omega (arith, some_n.2) in f) in
+    let card : slot_card k p ≡ layout.card_of t.layout p = ap (λ (x : Shape). p / x.size) same in
+    elim (parts.cover p some_n.0 (record { refers = some_n.1; across = λ e. crosses_apart k p n cr (ap (λ (x : Shape). p / x.span) same ∙ (e ∙ back)) })) [
+      | inl pending ↦ inr (marks (slot_card k p) (card_below k p shaped lt) ∙ ap (λ (b : Bool). some (as_number b)) (ap (set_of.contains t.pending) card ∙ pending))
+      | inr pair ↦ inl (on _ (subst (λ (y : ℕ × ℕ). set_of.contains t.recorded y ≡ true) (λ i. (sym card i, back i)) pair))
+    ]
 
 -- words that have all of a core's table
 pub record IsCopy (k : Shape) (t : Table) (words : List ℕ) : Type 0 where

@@ -1,6 +1,6 @@
 -- Bits of pairs that are cleared, row by row.
 use Rattle.std.specs.Prelude.{◌≡◌, ◌≢◌, ◌+◌, ◌*◌, ◌/◌, ◌%◌, ◌^◌, ◌<◌, ◌≤◌}
-use Rattle.g1_race.specs.{ℕ, true, false, List, length, set, get_or, bit_and, w64, length-set, sym, ap, ◌∙◌, subst, inl, inr, arith, eq-eqb, some, get_elem?, bit_at, bit_not, cases_eq, cases_lt, true≢false, get_or-set_same, get_or-set_other, take-set-le, bit_at_clear_same, bit_at_clear_other, set_else, Shape, IsBegun, IsPair, HasBit, bit_place, bit_word, slot_card, crosses, flag, front, region_at, started, AreUnset, is_member, reads_as, bit_apart, crossing_pair, bit_below, flag_card}
+use Rattle.g1_race.specs.{ℕ, true, false, List, set, get_or, bit_and, w64, length-set, sym, ap, ◌∙◌, subst, inl, inr, arith, eq-eqb, some, get_elem?, bit_at, bit_not, cases_eq, cases_lt, true≢false, get_or-set_same, get_or-set_other, take-set-le, bit_at_clear_same, bit_at_clear_other, set_else, Shape, IsBegun, IsPair, HasBit, bit_place, bit_word, slot_card, crosses, flag, front, region_at, started, AreUnset, is_member, reads_as, bit_apart, crossing_pair, bit_below, flag_card}
 use Rattle.g1_race.proofs.AtPause.{begun_front}
 use Rattle.g1_race.proofs.FlagWords.{front_at}
 
@@ -11,18 +11,12 @@ module _ (k : Shape) (words : List ℕ) (x : ℕ × ℕ) where
   abbrev pub without : List ℕ
   without = set words (bit_word k x) without_bit
 
-  far : (i : ℕ) → i < k.slots + k.cards → get_elem? without i ≡ get_elem? words i
-  far i lt = set_else words (bit_word k x) i _ (λ e. let m : ℕ = x.1 * k.row + x.0 / 64 in let f : i ≡ k.slots + k.cards + m = e in absurd (omega arith))
-
   module _ (h : IsBegun (started k words)) (pair : IsPair k x) where
-    short : bit_word k x < length words
-    short = subst (λ (n : ℕ). bit_word k x < n) (sym h.sized) (bit_below k x h.shaped pair.0 (omega (arith, pair.1)))
-
     there : (y : ℕ × ℕ) → bit_word k y ≡ bit_word k x → get_or without (bit_word k y) 0 ≡ without_bit
-    there y e = ap (λ (i : ℕ). get_or without i 0) e ∙ get_or-set_same words (bit_word k x) without_bit 0 short
+    there y e = ap (λ (i : ℕ). get_or without i 0) e ∙ get_or-set_same words (bit_word k x) without_bit 0 (omega (arith, h.sized, bit_below k x h.shaped pair.0 (omega (arith, pair.1))))
 
     low : (y : ℕ × ℕ) → bit_place k y < 64
-    low y = let n : ℕ = y.0 in let goal : n % 64 < 64 = omega arith in goal
+    low y = omega arith
 
     other_word : (y : ℕ × ℕ) → bit_word k y ≢ bit_word k x → bit_at (get_or without (bit_word k y) 0) (bit_place k y) ≡ bit_at (get_or words (bit_word k y) 0) (bit_place k y)
     other_word y apart = ap (λ (n : ℕ). bit_at n (bit_place k y)) (get_or-set_other words (bit_word k x) (bit_word k y) without_bit 0 apart)
@@ -46,7 +40,7 @@ module _ (k : Shape) (words : List ℕ) (x : ℕ × ℕ) where
     ]
 
     pub begun_unset : ((p n : ℕ) → p < k.slots → get_elem? words p ≡ some n → crosses k p n ≡ true → x ≡ (slot_card k p, region_at k n) → ⊥) → IsBegun (started k without)
-    begun_unset closed = begun_front k words without h (length-set words (bit_word k x) without_bit) far
+    begun_unset closed = begun_front k words without h (length-set words (bit_word k x) without_bit) (λ i lt. set_else words (bit_word k x) i _ (λ e. absurd (omega (arith, e, lt))))
         (λ p n lt at cr. stays (slot_card k p, region_at k n) (crossing_pair k p n h.shaped lt (h.bounded p n lt at) cr).0 (closed p n lt at cr)) (λ y py b. inl (back y b))
         (λ c lt m. stays (flag k c) (flag_card k c lt) (λ e. absurd (let r : x.1 ≡ k.regions = ap (λ (y : ℕ × ℕ). y.1) e in let low : x.1 < k.regions = pair.1 in omega (arith, r, low))))
 

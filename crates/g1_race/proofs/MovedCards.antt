@@ -1,6 +1,7 @@
 -- How many references a redirect moves, and those that it has moved card by card.
 use Rattle.std.specs.Prelude.{◌≡◌, ◌+◌, ◌-◌, ◌*◌, ◌<◌, ◌≤◌}
-use Rattle.g1_race.specs.{ℕ, zero, suc, eqb, true, false, List, length, get_or, div-lt_iff_lt-mul, refl, sym, ap, ◌∙◌, subst, inl, inr, arith, eq-eqb, some, some-injective, get_elem?, and_from, and_parts, cases_lt, eqb-true, true≢false, false_from_ne_true, mul-le-mul_right, suc-mul, Shape, IsBegun, HasBit, slot_card, crosses, mark_word, as_number, region_at, started, word_count, Into, is_member, AreMoved, into_count, is_into, word_after, read_at, reads_as}
+use Rattle.g1_race.specs.{ℕ, zero, suc, eqb, true, false, List, get_or, div-lt_iff_lt-mul, refl, sym, ap, ◌∙◌, subst, inl, inr, arith, eq-eqb, some, some-injective, get_elem?, and_from, and_parts, cases_lt, eqb-true, true≢false, false_from_ne_true, mul-le-mul_right, suc-mul, Shape, IsBegun, HasBit, slot_card, crosses, mark_word, as_number, region_at, started, Into, is_member, AreMoved, into_count, is_into, word_after, reads_as}
+use Rattle.g1_race.proofs.AtPause.{begun_read}
 use Rattle.g1_race.proofs.LeastInto.{into_bit}
 use Rattle.g1_race.proofs.Moving.{not_into, moved_none, moved_then}
 
@@ -49,9 +50,6 @@ module _ (k : Shape) (old mid : List ℕ) (from to low high : ℕ) (begun : IsBe
       (elim (cases_lt (slot_card k p) low) [ inl under ↦ absurd (let x : p < low * k.size = (div-lt_iff_lt-mul begun.shaped.1).0 under in omega (arith, x, from_low)) | inr over ↦ over ])
       ((div-lt_iff_lt-mul begun.shaped.1).1 below)))
 
-  here : (p : ℕ) → p < k.slots → get_elem? old p ≡ some (get_or old p 0)
-  here p lt = read_at old p (let s : length old ≡ word_count k = begun.sized in omega (arith, s, lt))
-
   pub passed : AreMoved k old mid from to 0 (high * k.size)
   passed = subst (λ (n : ℕ). AreMoved k old mid from to 0 n) (let e : low * k.size + (high * k.size - low * k.size) ≡ high * k.size = omega (arith, in_order) in e)
       (moved_then k old mid mid from to 0 (low * k.size) (high * k.size - low * k.size) apart begun h
@@ -61,7 +59,7 @@ module _ (k : Shape) (old mid : List ℕ) (from to low high : ℕ) (begun : IsBe
   pub passed_count : into_count k old from 0 (high * k.size) ≡ into_count k old from 0 (low * k.size)
   passed_count =
       let none_more = count_none k old from (0 + low * k.size) (high * k.size - low * k.size) (λ p from_low below.
-      let lt : p < high * k.size = omega (arith, below, in_order) in none_old p (get_or old p 0) (omega (arith, from_low)) lt (omega (arith, all_slots, lt)) (here p (omega (arith, all_slots, lt)))) in
+      let lt : p < high * k.size = omega (arith, below, in_order) in none_old p (get_or old p 0) (omega (arith, from_low)) lt (omega (arith, all_slots, lt)) (begun_read k old p begun (omega (arith, all_slots, lt)))) in
       ap (into_count k old from 0) (let e : high * k.size ≡ low * k.size + (high * k.size - low * k.size) = omega (arith, in_order) in e)
       ∙ (count_more k old from 0 (low * k.size) (high * k.size - low * k.size) ∙ omega (arith, none_more))
 
@@ -70,7 +68,7 @@ module _ (k : Shape) (old mid : List ℕ) (from to low high : ℕ) (begun : IsBe
       let fits : high * k.size + k.size ≤ k.slots = omega (arith, mul-le-mul_right k.size lt, suc-mul high k.size, begun.shaped.0) in
       ap (into_count k old from 0) (let e : (high + 1) * k.size ≡ high * k.size + k.size = omega arith in e)
       ∙ (count_more k old from 0 (high * k.size) k.size ∙ (λ i. passed_count i + (ap (λ (n : ℕ). into_count k old from n k.size) (let e : 0 + high * k.size ≡ high * k.size = omega arith in e)
-      ∙ count_same k old mid from (high * k.size) k.size fits (λ p from_low below. let in_heap : p < k.slots = omega (arith, below, fits) in sym (reads_as mid p (get_or old p 0) 0 (passed.outside p in_heap (inr (omega (arith, from_low))) ∙ here p in_heap)))) i))
+      ∙ count_same k old mid from (high * k.size) k.size fits (λ p from_low below. let in_heap : p < k.slots = omega (arith, below, fits) in sym (reads_as mid p (get_or old p 0) 0 (passed.outside p in_heap (inr (omega (arith, from_low))) ∙ begun_read k old p begun in_heap)))) i))
 
   -- and then the slots of the card, among words that a call read
   pub on_card : (read new : List ℕ) (count more : ℕ) → read ≡ mid → high < k.cards → count ≡ into_count k old from 0 (low * k.size) → count ≤ low * k.size → AreMoved k read new from to (high * k.size) k.size → more ≡ into_count k read from (high * k.size) k.size → more ≤ k.size
@@ -88,6 +86,5 @@ module _ (k : Shape) (old mid : List ℕ) (from to low high : ℕ) (begun : IsBe
 pub none_into : (k : Shape) (old mid : List ℕ) (from to p : ℕ) → IsBegun (started k old) → (from ≡ to → ⊥) → AreMoved k old mid from to 0 k.slots → Into k mid from p → ⊥
 none_into k old mid from to p begun apart h x =
     let lt : p < k.slots = x.1 in
-    let was : get_elem? old p ≡ some (get_or old p 0) = read_at old p (let s : length old ≡ word_count k = begun.sized in omega (arith, s, lt)) in
-    let now : x.0 ≡ word_after k from to p (get_or old p 0) = some-injective x.0 (word_after k from to p (get_or old p 0)) (sym x.2 ∙ h.moved p (get_or old p 0) (omega arith) (omega (arith, lt)) lt was) in
+    let now : x.0 ≡ word_after k from to p (get_or old p 0) = some-injective x.0 (word_after k from to p (get_or old p 0)) (sym x.2 ∙ h.moved p (get_or old p 0) (omega arith) (omega (arith, lt)) lt (begun_read k old p begun lt)) in
     not_into k from to p (get_or old p 0) begun.shaped.2 apart (subst (λ (m : ℕ). is_into k from p m ≡ true) now (is_into_of k from p x.0 x.3 x.4))

@@ -1,11 +1,13 @@
 -- A redirect at a pause as a step of the plain table.
 use Rattle.std.specs.Prelude.{◌≡◌, ◌≢◌, ◌+◌, ◌/◌, ◌<◌, ◌≤◌, ◌&&◌, ◌||◌}
-use Rattle.g1_race.specs.{true_is, length-take-le, ℕ, zero, suc, cond, eqb, map, take, Bool, true, false, List, length, get_or, Option, Some, None, refl, sym, ap, ◌∙◌, subst, inl, inr, ⊎_elim, arith, ne_eqb, not, count_by, some, get_elem?, enumerate_from, filter_map, and_from, and_parts, cases_Bool, eqb-false, not-true, or_cases, or_left, or_right, get_or_default, get_or-map, length-map, length-take, count_by_more_no, count_by_more_yes, slot_count, region_of, pair_cmp, Table, enters, moved_target, moved_pair, moved, moved_count, pair_total, pair_exact, listed, unlisted, Kept, from_kept, to_kept, slot_of, Shape, IsBegun, IsPair, HasBit, slot_card, front, mark_word, as_number, started, word_count, shape_of, ended, refs_of, table_of, target_of_word, AreMovedAway, Acquires, into_count, is_into, word_after, card_below, in_row, at_take, reads_as, take_all, read_at}
+use Rattle.g1_race.specs.{true_is, length-take-le, ℕ, zero, suc, cond, eqb, map, take, Bool, true, false, List, length, get_or, Option, Some, None, refl, sym, ap, ◌∙◌, subst, inl, inr, ⊎_elim, arith, ne_eqb, not, count_by, some, get_elem?, enumerate_from, filter_map, and_from, and_parts, cases_Bool, eqb-false, not-true, or_cases, or_left, or_right, get_or_default, get_or-map, length-map, length-take, count_by_more_no, count_by_more_yes, slot_count, region_of, pair_cmp, Table, enters, moved_target, moved_pair, moved, moved_count, pair_total, pair_exact, listed, unlisted, Kept, from_kept, to_kept, slot_of, Shape, IsBegun, IsPair, HasBit, slot_card, front, mark_word, as_number, started, shape_of, ended, refs_of, table_of, target_of_word, AreMovedAway, Acquires, into_count, is_into, word_after, card_below, in_row, take_all}
 use Rattle.std.specs.FinSet as set
 use Rattle.std.proofs.lemmas.List.FromFn.{get_or-enumerate_from, length-enumerate_from}
 use Rattle.g1_layout.specs.Shape as layout
-use Rattle.g1_race.proofs.Ends.{recorded_set, refs_here, set_recorded}
+use Rattle.g1_race.proofs.Ends.{recorded_set, set_recorded}
 use Rattle.g1_race.proofs.PauseTable.{pending_word, slots_are, table_is, word_pending}
+use Rattle.g1_race.proofs.AtPause.{begun_read}
+use Rattle.g1_race.proofs.PauseStores.{slot_gives}
 use Rattle.g1_race.proofs.Moving.{moved_low}
 use Rattle.g1_race.proofs.MovedTargets.{enters_is, after_target, span_is}
 use Rattle.g1_race.proofs.FlagWords.{front_at}
@@ -18,12 +20,6 @@ count_next p xs i d lt = elim (cases_Bool (p (get_or xs i d))) [
 ]
 
 module _ (k : Shape) (l : layout.Shape) (laid : k ≡ shape_of l k.members) where
-  here : (words : List ℕ) (p : ℕ) → IsBegun (started k words) → p < k.slots → get_elem? words p ≡ some (get_or words p 0)
-  here words p h lt = read_at words p (let s : length words ≡ word_count k = h.sized in omega (arith, s, lt))
-
-  ref_is : (words : List ℕ) (p n : ℕ) → p < k.slots → get_elem? words p ≡ some n → get_or (refs_of (ended l k words)) p None ≡ target_of_word n
-  ref_is words p n lt at = reads_as (refs_of (ended l k words)) p (target_of_word n) None (refs_here (ended l k words) p n (omega (arith, lt, slots_are k l laid)) (at_take words (k.slots + k.cards) p n (omega (arith, lt)) at))
-
   refs_len : (words : List ℕ) → IsBegun (started k words) → length (refs_of (ended l k words)) ≡ slot_count l
   refs_len words h = length-map (take (slot_count l) (front k words)) target_of_word ∙ length-take-le (slot_count l) (front k words) (omega (arith, h.sized, slots_are k l laid, length-take (k.slots + k.cards) words))
 
@@ -38,10 +34,10 @@ module _ (k : Shape) (l : layout.Shape) (laid : k ≡ shape_of l k.members) wher
     refs = refs_of (ended l k old)
 
     word_now : (p : ℕ) → p < k.slots → get_elem? new p ≡ some (word_after k from to p (get_or old p 0))
-    word_now p lt = front_at k mid new p away.emptied.front (omega (arith, lt)) ∙ away.moved.moved p (get_or old p 0) (omega arith) (omega (arith, lt)) lt (here old p b lt)
+    word_now p lt = front_at k mid new p away.emptied.front (omega (arith, lt)) ∙ away.moved.moved p (get_or old p 0) (omega arith) (omega (arith, lt)) lt (begun_read k old p b lt)
 
     ref_old : (p : ℕ) → p < k.slots → get_or refs p None ≡ target_of_word (get_or old p 0)
-    ref_old p lt = ref_is old p (get_or old p 0) lt (here old p b lt)
+    ref_old p lt = slot_gives k l old p (get_or old p 0) laid lt (begun_read k old p b lt)
 
     listed_len : length (enumerate_from 0 refs) ≡ slot_count l
     listed_len = length-enumerate_from 0 refs ∙ refs_len old b
@@ -53,7 +49,7 @@ module _ (k : Shape) (l : layout.Shape) (laid : k ≡ shape_of l k.members) wher
     refs_moved = ext_get_or None _ _ (refs_len new h ∙ sym (length-map (enumerate_from 0 refs) (moved_target l from to) ∙ listed_len)) (λ p below.
         let lt : p < slot_count l = omega (arith, below, refs_len new h) in
         let low : p < k.slots = omega (arith, lt, slots_are k l laid) in
-        ref_is new p (word_after k from to p (get_or old p 0)) low (word_now p low) ∙ (after_target k l laid from to p (get_or old p 0) (moved_low k to (get_or old p 0) b.shaped within)
+        slot_gives k l new p (word_after k from to p (get_or old p 0)) laid low (word_now p low) ∙ (after_target k l laid from to p (get_or old p 0) (moved_low k to (get_or old p 0) b.shaped within)
         ∙ (ap (moved_target l from to) (ap (λ (o : Option ℕ). (p, o)) (sym (ref_old p low)) ∙ sym (listed_at p lt)) ∙ sym (get_or-map (moved_target l from to) (enumerate_from 0 refs) p (0, None) None (omega (arith, lt, listed_len))))))
 
     mark_same : (c : ℕ) → c < k.cards → get_elem? new (mark_word k c) ≡ get_elem? old (mark_word k c)
@@ -70,7 +66,7 @@ module _ (k : Shape) (l : layout.Shape) (laid : k ≡ shape_of l k.members) wher
     gained : (x : ℕ × ℕ) → Acquires k old from to x → set.contains (set.from_list {R = pair_cmp} (filter_map (moved_pair l from to) (enumerate_from 0 refs))) x ≡ true
     gained x (p, n, lt, at, is, ne, e) =
         let low : p < slot_count l = omega (arith, lt, slots_are k l laid) in
-        let enter : enters l from (p, get_or refs p None) ≡ true = ap (λ (o : Option ℕ). enters l from (p, o)) (ref_is old p n lt at) ∙ (sym (enters_is k l laid from p n) ∙ is) in
+        let enter : enters l from (p, get_or refs p None) ≡ true = ap (λ (o : Option ℕ). enters l from (p, o)) (slot_gives k l old p n laid lt at) ∙ (sym (enters_is k l laid from p n) ∙ is) in
         let outside : eqb (region_of l p) to ≡ false = ne_eqb (region_of l p) to (λ f. ne (ap (λ (s : ℕ). p / s) (span_is k l laid) ∙ f)) in
         let makes : moved_pair l from to (p, get_or refs p None) ≡ Some (layout.card_of l p, to) = true_is (enters l from (p, get_or refs p None) && not (eqb (region_of l p) to)) (Some (layout.card_of l p, to)) None (and_from _ _ enter (ap not outside)) in
         subst (λ (y : ℕ × ℕ). set.contains (set.from_list {R = pair_cmp} (filter_map (moved_pair l from to) (enumerate_from 0 refs))) y ≡ true) (ap (λ (c : ℕ). (c, to)) (sym (card_is p)) ∙ e)
@@ -88,7 +84,7 @@ module _ (k : Shape) (l : layout.Shape) (laid : k ≡ shape_of l k.members) wher
         let c = and_parts (enters l from (p, get_or refs p None)) (not (eqb (region_of l p) to)) q.0 in
         let into : is_into k from p (get_or old p 0) ≡ true = enters_is k l laid from p (get_or old p 0) ∙ (ap (λ (o : Option ℕ). enters l from (p, o)) (sym (ref_old p lt)) ∙ c.0) in
         let ne : p / k.span ≢ to = λ e. eqb-false (region_of l p) to (not-true (eqb (region_of l p) to) c.1) (ap (λ (s : ℕ). p / s) (sym (span_is k l laid)) ∙ e) in
-        subst (λ (y : ℕ × ℕ). HasBit k mid y × IsPair k y) (ap (λ (d : ℕ). (d, to)) (card_is p) ∙ q.1) (away.moved.has p (get_or old p 0) (omega arith) (omega (arith, lt)) lt (here old p b lt) into ne, (card_below k p b.shaped lt, within))
+        subst (λ (y : ℕ × ℕ). HasBit k mid y × IsPair k y) (ap (λ (d : ℕ). (d, to)) (card_is p) ∙ q.1) (away.moved.has p (get_or old p 0) (omega arith) (omega (arith, lt)) lt (begun_read k old p b lt) into ne, (card_below k p b.shaped lt, within))
 
     pub moved_is : table_of (ended l k new) ≡ moved from to (table_of (ended l k old))
     moved_is = table_is k l laid new (moved from to t) h refl refs_moved

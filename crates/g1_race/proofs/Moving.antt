@@ -1,7 +1,7 @@
 -- References that are moved from one region to another at a pause, slot by slot.
 use Rattle.std.specs.Prelude.{◌^◌, ◌≡◌, ◌≢◌, ◌⊎◌, ◌+◌, ◌-◌, ◌*◌, ◌/◌, ◌%◌, ◌<◌, ◌≤◌}
-use Rattle.g1_race.specs.{ℕ, true, false, List, length, set, get_or, mod-lt, refl, sym, ap, ◌∙◌, subst, inl, inr, ⊎_elim, arith, some, some-injective, get_elem?, and_parts, cases_Bool, cases_lt, eqb-true, true≢false, div-mul-add, set_else, set_here, Shape, In, IsBegun, IsWholeShape, HasBit, slot_card, crosses, mark_word, region_at, started, word_count, Notes, AreMoved, Acquires, is_into, moved_word, word_after, mark_apart, bit_as, same_bits, false_is, read_at, true_is}
-use Rattle.g1_race.proofs.AtPause.{begun_placed}
+use Rattle.g1_race.specs.{ℕ, true, false, List, length, set, get_or, mod-lt, refl, sym, ap, ◌∙◌, subst, inl, inr, ⊎_elim, arith, some, some-injective, get_elem?, and_parts, cases_Bool, cases_lt, eqb-true, true≢false, div-mul-add, set_else, set_here, Shape, In, IsBegun, IsWholeShape, HasBit, slot_card, crosses, mark_word, region_at, started, word_count, Notes, AreMoved, Acquires, is_into, moved_word, word_after, mark_apart, bit_as, same_bits, false_is, true_is}
+use Rattle.g1_race.proofs.AtPause.{begun_placed, begun_read}
 use Rattle.g1_race.proofs.Ends.{crosses_apart}
 use Rattle.g1_race.proofs.PauseStores.{slot_in}
 use Rattle.g1_race.proofs.StoreCalls.{other_region}
@@ -90,9 +90,6 @@ moved_then k old mid new from to first a b apart begun h g = record {
   ];
 }
   where
-    here : (p : ℕ) → p < k.slots → get_elem? old p ≡ some (get_or old p 0)
-    here p inside = read_at old p (let s : length old ≡ word_count k = begun.sized in omega (arith, s, inside))
-
     gains_back : {x : ℕ × ℕ} → Acquires k mid from to x → Acquires k old from to x
     gains_back {x} u = (u.0, u.1, u.2, was u.0 u.1 u.2 u.3 u.4, u.4, u.5, u.6)
       where
@@ -100,7 +97,7 @@ moved_then k old mid new from to first a b apart begun h g = record {
         was p n inside at is = elim (cases_lt p first) [
           | inl low ↦ sym (h.outside p inside (inl low)) ∙ at
           | inr le ↦ elim (cases_lt p (first + a)) [
-            | inl low ↦ absurd (not_into k from to p (get_or old p 0) begun.shaped.2 apart (subst (λ (m : ℕ). is_into k from p m ≡ true) (some-injective n (word_after k from to p (get_or old p 0)) (sym at ∙ h.moved p (get_or old p 0) le low inside (here p inside))) is))
+            | inl low ↦ absurd (not_into k from to p (get_or old p 0) begun.shaped.2 apart (subst (λ (m : ℕ). is_into k from p m ≡ true) (some-injective n (word_after k from to p (get_or old p 0)) (sym at ∙ h.moved p (get_or old p 0) le low inside (begun_read k old p begun inside))) is))
             | inr high ↦ sym (h.outside p inside (inr high)) ∙ at
           ]
         ]

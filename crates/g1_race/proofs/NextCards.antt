@@ -51,11 +51,8 @@ module _ (k : Shape) {words read : List ℕ} (same : read ≡ words) (from card 
     abbrev tz : ℕ
     tz = trailing_zeros w64 rest
 
-    small : rest < 2 ^ 64
-    small = omega (arith, div-le_self found (2 ^ place))
-
     zeros : (tz < 64) × (bit_at rest tz ≡ 1) × ((i : ℕ) → i < tz → bit_at rest i ≡ 0)
-    zeros = bit_at-trailing_zeros w64 rest (let r : ℕ = rest in let ne : r ≢ 0 = some_left in let goal : 0 < r = omega arith in goal) small
+    zeros = bit_at-trailing_zeros w64 rest (let r : ℕ = rest in let ne : r ≢ 0 = some_left in let goal : 0 < r = omega arith in goal) (omega (arith, div-le_self found (2 ^ place)))
 
     inside : place + tz < 64
     inside = elim (cases_lt (place + tz) 64) [

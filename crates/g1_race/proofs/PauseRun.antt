@@ -59,7 +59,7 @@ held_had t (e ∷ calls) card region h = inr (inr (record { moment = length (e �
 pub drain_at_pause : DrainAtPause
 drain_at_pause e begun racers sweepers calls caller region cards done after shaped laid over same step card c = pick (
     elim (recorded_cases done now card region (step.allowed.answers.1.recorded card c)) [
-      | inl old ↦ recorded_had t calls card region slots (subst (λ (u : Table). IsRecorded u card region) whole old)
+      | inl old ↦ recorded_had t calls card region (subst (λ (n : ℕ). 0 < n) (ap (λ (s : Shape). s.span) laid) shaped.2) (subst (λ (u : Table). IsRecorded u card region) whole old)
       | inr new ↦ held_had t calls card region (subst (λ (u : Table). Holds u card region) whole (Holds_from_held now card region new))
     ])
   where
@@ -71,9 +71,6 @@ drain_at_pause e begun racers sweepers calls caller region cards done after shap
 
     whole : table_at_moment (table_of e) calls (length calls) ≡ fold table_after (table_of e) calls
     whole = ap (fold table_after (table_of e)) (take_all (length calls) calls (omega arith))
-
-    slots : HasSlots e.layout
-    slots = subst (λ (n : ℕ). 0 < n) (ap (λ (s : Shape). s.span) laid) shaped.2
 
     pick : Had (table_of e) calls card region → HadInto e.layout begun racers card region ⊎ HeldDuring (table_of e) calls card region
     pick (inl r) = inl (recorded_first e begun racers sweepers shaped laid over same card region r)

@@ -27,9 +27,6 @@ pending_stays Null pending card quiet = refl
 pending_stays AlreadyDirty pending card quiet = refl
 
 module _ (k : Shape) (l : layout.Shape) (laid : k ≡ shape_of l k.members) (p : ℕ) (lt : p < k.slots) (target : Option ℕ) (n : ℕ) (back : target_of_word n ≡ target) where
-  span_is : k.span ≡ l.cards * l.slots
-  span_is = ap (λ (s : Shape). s.span) laid
-
   -- the kind of the store
 
   pub kind_null : (t : Table) → n ≡ 0 → kind_of t p target ≡ Null
@@ -43,7 +40,7 @@ module _ (k : Shape) (l : layout.Shape) (laid : k ≡ shape_of l k.members) (p :
 
   pub kind_across : (words : List ℕ) → crosses k p n ≡ true → kind_of (table_of (ended l k words)) p target ≡ cond (fin.contains (table_of (ended l k words)).pending (layout.card_of l p)) AlreadyDirty Logged
   kind_across words cr = ap (kind_of (table_of (ended l k words)) p) (sym back ∙ target_some n (crosses_reference k p n cr))
-      ∙ ap (kind_at words) (ne_eqb (region_of l p) (region_of l (n - 1)) (λ e. crosses_apart k p n cr (ap (λ (s : ℕ). p / s) span_is ∙ (e ∙ ap (λ (s : ℕ). (n - 1) / s) (sym span_is)))))
+      ∙ ap (kind_at words) (ne_eqb (region_of l p) (region_of l (n - 1)) (crosses_apart (shape_of l k.members) p n (subst (λ (s : Shape). crosses s p n ≡ true) laid cr)))
 
   -- the slot is written
 

@@ -1,7 +1,7 @@
 -- What refinement at a pause does to the words.
 use Rattle.std.specs.Prelude.{◌≡◌, ◌⊎◌, ◌+◌, ◌*◌, ◌%◌, ◌^◌, ◌<◌, ◌≤◌, ◌∷◌, ◌++◌}
-use Rattle.g1_race.specs.{ℕ, zero, suc, cond, Bool, true, false, List, [], length, set, get_or, bit_or, length-set, div-add-mod', mod-lt, refl, sym, ap, ◌∙◌, subst, inl, inr, ⊎_elim, arith, some, cases_eq, get_elem?, cases_lt, bit_at, div-mul-add, set_else, set_here, Shape, In, IsBegun, IsOfCrossing, HasBit, BeganInto, bit_word, bit_place, flag, mark_word, word_count, slot_card, region_at, crosses, started, pair_at, Notes, RefinesCard, AreRefined, card_pairs, in_left, in_right, in_either, read_at, true_is, reads_as, word_low, SameBits, same_bits, bit_as, with_pair, bit_here, bits_stay, bits_back, bit_below, front_stays}
-use Rattle.g1_race.proofs.AtPause.{begun_front, begun_mark, filled_next}
+use Rattle.g1_race.specs.{ℕ, zero, suc, cond, Bool, true, false, List, [], length, set, get_or, bit_or, length-set, div-add-mod', mod-lt, refl, sym, ap, ◌∙◌, subst, inl, inr, ⊎_elim, arith, some, cases_eq, get_elem?, cases_lt, bit_at, div-mul-add, set_else, set_here, Shape, In, IsBegun, IsOfCrossing, HasBit, BeganInto, bit_word, bit_place, flag, mark_word, slot_card, region_at, crosses, started, pair_at, Notes, RefinesCard, AreRefined, card_pairs, in_left, in_right, in_either, true_is, reads_as, word_low, SameBits, same_bits, bit_as, with_pair, bit_here, bits_stay, bits_back, bit_below, front_stays}
+use Rattle.g1_race.proofs.AtPause.{begun_front, begun_mark, begun_read, filled_next}
 use Rattle.g1_race.proofs.SweepCalls.{slot_below}
 
 -- one bit is set, of a pair or a card's flag
@@ -74,7 +74,7 @@ found_there k words c h lt (suc i) le x there = ⊎_elim
     let p : ℕ = c * k.size + i in
     let n = get_or words p 0 in
     let below : p < k.slots = slot_below k c i h.shaped lt (omega (arith, le)) in
-    let at : get_elem? words p ≡ some n = read_at words p (let e : length words ≡ word_count k = h.sized in omega (arith, e, below)) in
+    let at : get_elem? words p ≡ some n = begun_read k words p h below in
     let is = one_pair (crosses k p n) (slot_card k p, region_at k n) x b in
     let on : slot_card k p ≡ c = div-mul-add c k.size i (omega (arith, le)) in
     (sym (ap (λ (y : ℕ × ℕ). y.0) is.1) ∙ on, (p, n, at, (below, word_low k p n (h.bounded p n below at) is.0, is.0), is.1)))
@@ -107,9 +107,6 @@ module _ (k : Shape) (old mid : List ℕ) (c : ℕ) (was : IsBegun (started k ol
 
 -- one card after another
 
-began_back : (k : Shape) (old mid : List ℕ) (x : ℕ × ℕ) → ((p : ℕ) → p < k.slots → get_elem? mid p ≡ get_elem? old p) → BeganInto k mid x → BeganInto k old x
-began_back k old mid x same b = (b.0, b.1, sym (same b.0 b.3.0) ∙ b.2, b.3, b.4)
-
 -- the cards from one on to the next dirty one are clean
 pub refined_past : (k : Shape) (old mid : List ℕ) (n m : ℕ) → IsBegun (started k mid) → n ≤ m → ((c : ℕ) → n ≤ c → c < m → c < k.cards → get_elem? mid (mark_word k c) ≡ some 1 → ⊥) → AreRefined k old mid n → AreRefined k old mid m
 refined_past k old mid n m b le never h = record { slots = h.slots; clean = λ c up below. pick c up below (cases_lt c n); marks = λ c up below. h.marks c (omega (arith, up, le)) below; kept = h.kept; only = h.only }
@@ -127,6 +124,6 @@ refined_next k old mid new n there dirty h g = record {
   kept = λ x pair b. g.kept x (h.kept x pair b);
   only = λ x pair b. ⊎_elim
       (λ (u : HasBit k mid x). h.only x pair u)
-      (λ (i : (x.0 ≡ n) × BeganInto k mid x). inr (subst (λ (c : ℕ). get_elem? old (mark_word k c) ≡ some 1) (sym i.0) (sym (h.marks n (omega arith) there) ∙ dirty), began_back k old mid x h.slots i.1))
+      (λ (i : (x.0 ≡ n) × BeganInto k mid x). inr (subst (λ (c : ℕ). get_elem? old (mark_word k c) ≡ some 1) (sym i.0) (sym (h.marks n (omega arith) there) ∙ dirty), (let b = i.1 in (b.0, b.1, sym (h.slots b.0 b.3.0) ∙ b.2, b.3, b.4))))
       (g.only x pair b);
 }
