@@ -1,6 +1,6 @@
 -- What is recorded at a pause after some of its calls.
 use Rattle.std.specs.Prelude.{◌≡◌, ◌⊎◌, ◌<◌, ◌∷◌}
-use Rattle.g1_race.specs.{inl, inr, ℕ, suc, List, [], length, sym, ap, ◌∙◌, subst, arith, fold, and_parts, Table, Holds, IsRecorded, refined, Entry, Store, Clear, Redirect, written, settled, table_after, recorded_cases, Holds_from_held, Shape, table_of, DrainAtPause, HadInto, HeldDuring, table_at_moment}
+use Rattle.g1_race.specs.{inl, inr, ℕ, suc, List, [], length, sym, ap, ◌∙◌, subst, arith, fold, and_parts, Table, Holds, IsRecorded, refined, Entry, Store, Clear, Redirect, written, settled, table_after, recorded_cases, Holds_from_held, Shape, table_of, DrainAtPause, HeldDuring, table_at_moment}
 use Rattle.std.proofs.lemmas.List.{take_all}
 use Rattle.g1_core.specs.declared.entry.Call.{Call}
 use Rattle.g1_core.specs.declared.entry.Reply.{Reply}
@@ -57,22 +57,20 @@ held_had t (e ∷ calls) card region h = inr (inr (record { moment = length (e �
 -- since the race last resumed
 
 pub drain_at_pause : DrainAtPause
-drain_at_pause e begun racers sweepers calls caller region cards done after shaped laid over same step card c = pick (
-    elim (recorded_cases done now card region (step.allowed.answers.1.recorded card c)) [
-      | inl old ↦ recorded_had t calls card region (subst (λ (n : ℕ). 0 < n) (ap (λ (s : Shape). s.span) laid) shaped.2) (subst (λ (u : Table). IsRecorded u card region) whole old)
-      | inr new ↦ held_had t calls card region (subst (λ (u : Table). Holds u card region) whole (Holds_from_held now card region new))
-    ])
+drain_at_pause e begun racers sweepers calls caller region cards done after shaped laid over same step card c = elim had [
+  | inl r ↦ inl (recorded_first e begun racers sweepers shaped laid over same card region r)
+  | inr (inl h) ↦ inl (held_first e begun racers sweepers shaped laid over same card region h)
+  | inr (inr d) ↦ inr d
+]
   where
-    t : Table
-    t = table_of e
-
     now : Table
     now = table_at_moment (table_of e) calls (length calls)
 
     whole : table_at_moment (table_of e) calls (length calls) ≡ fold table_after (table_of e) calls
     whole = ap (fold table_after (table_of e)) (take_all (length calls) calls (omega arith))
 
-    pick : Had (table_of e) calls card region → HadInto e.layout begun racers card region ⊎ HeldDuring (table_of e) calls card region
-    pick (inl r) = inl (recorded_first e begun racers sweepers shaped laid over same card region r)
-    pick (inr (inl h)) = inl (held_first e begun racers sweepers shaped laid over same card region h)
-    pick (inr (inr d)) = inr d
+    had : Had (table_of e) calls card region
+    had = elim (recorded_cases done now card region (step.allowed.answers.1.recorded card c)) [
+      | inl old ↦ recorded_had (table_of e) calls card region (subst (λ (n : ℕ). 0 < n) (ap (λ (s : Shape). s.span) laid) shaped.2) (subst (λ (u : Table). IsRecorded u card region) whole old)
+      | inr new ↦ held_had (table_of e) calls card region (subst (λ (u : Table). Holds u card region) whole (Holds_from_held now card region new))
+    ]
