@@ -2,10 +2,10 @@
 use Rattle.std.specs.Prelude.{◌^◌, ◌≡◌, ◌≢◌, ◌+◌, ◌-◌, ◌/◌, ◌<◌, ◌≤◌}
 use Rattle.g1_race.specs.{slot_card, eqb-true, length-take, ℕ, List, length, take, get_or, Bool, true, false, Option, None, Some, refl, sym, ap, ◌∙◌, subst, inl, inr, ⊎_elim, arith, some, get_elem?, length-map, length-take-le, get_or_past, cases_lt, true≢false, slot_count, card_count, region_of, Table, State, IsSound, same_cards, same_pairs, in_pairs, to_pairs, pending_flag, Shape, In, IsWholeShape, IsPair, HasBit, mark_word, region_at, as_number, word_count, shape_of, word_of, Ended, ended, target_of_word, refs_of, marks_of, table_of, Notes, AreMarked, ArePlaced, AreCovered, zeros, zero_at, no_bit, zeros_read, crosses_reference, card_below, at_take, in_contains, contains_in, reads_as, listed_set, set_listed}
 use Rattle.std.specs.FinSet as set_of
+use Rattle.std.proofs.lemmas.List.{ext_get_or}
 use Rattle.g1_layout.specs.Shape as layout
 use Rattle.g1_core.specs.Table as table
 use Rattle.g1_race.proofs.StoreCalls.{word_fits}
-use Rattle.std.proofs.lemmas.List.{ext_get_or}
 use Rattle.g1_race.proofs.Parts.{length_marks}
 use Rattle.g1_race.proofs.Telling.{some_below}
 use Rattle.g1_race.proofs.Ends.{refs_here, marks_here, word_target, crosses_apart, marked_pending}

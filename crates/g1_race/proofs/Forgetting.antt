@@ -1,5 +1,5 @@
 -- Bits of pairs that are cleared, row by row.
-use Rattle.std.specs.Prelude.{◌≡◌, ◌≢◌, ◌+◌, ◌*◌, ◌/◌, ◌%◌, ◌^◌, ◌<◌, ◌≤◌}
+use Rattle.std.specs.Prelude.{◌≡◌, ◌⊎◌, ◌+◌, ◌*◌, ◌/◌, ◌%◌, ◌^◌, ◌<◌, ◌≤◌}
 use Rattle.g1_race.specs.{ℕ, true, false, List, set, get_or, bit_and, w64, length-set, sym, ap, ◌∙◌, subst, inl, inr, arith, eq-eqb, some, get_elem?, bit_at, bit_not, cases_eq, cases_lt, true≢false, get_or-set_same, get_or-set_other, take-set-le, bit_at_clear_same, bit_at_clear_other, set_else, Shape, IsBegun, IsPair, HasBit, bit_place, bit_word, slot_card, crosses, flag, front, region_at, started, AreUnset, is_member, reads_as, bit_apart, crossing_pair, bit_below, flag_card}
 use Rattle.g1_race.proofs.AtPause.{begun_front}
 use Rattle.g1_race.proofs.FlagWords.{front_at}
@@ -18,26 +18,24 @@ module _ (k : Shape) (words : List ℕ) (x : ℕ × ℕ) where
     low : (y : ℕ × ℕ) → bit_place k y < 64
     low y = omega arith
 
-    other_word : (y : ℕ × ℕ) → bit_word k y ≢ bit_word k x → bit_at (get_or without (bit_word k y) 0) (bit_place k y) ≡ bit_at (get_or words (bit_word k y) 0) (bit_place k y)
-    other_word y apart = ap (λ (n : ℕ). bit_at n (bit_place k y)) (get_or-set_other words (bit_word k x) (bit_word k y) without_bit 0 apart)
-
-    other_place : (y : ℕ × ℕ) → bit_word k y ≡ bit_word k x → bit_place k y ≢ bit_place k x → bit_at (get_or without (bit_word k y) 0) (bit_place k y) ≡ bit_at (get_or words (bit_word k y) 0) (bit_place k y)
-    other_place y e apart = ap (λ (n : ℕ). bit_at n (bit_place k y)) (there y e) ∙ (bit_at_clear_other w64 (get_or words (bit_word k x) 0) (bit_place k x) (low x) (bit_place k y) (low y) apart ∙ ap (λ (i : ℕ). bit_at (get_or words i 0) (bit_place k y)) (sym e))
-
     same_place : (y : ℕ × ℕ) → bit_word k y ≡ bit_word k x → bit_place k y ≡ bit_place k x → HasBit k without y → ⊥
     same_place y e f b = absurd (let z : bit_at (get_or without (bit_word k y) 0) (bit_place k y) ≡ 0 = ap (λ (n : ℕ). bit_at n (bit_place k y)) (there y e) ∙ (ap (bit_at without_bit) f ∙ bit_at_clear_same w64 (get_or words (bit_word k x) 0) (bit_place k x) (low x)) in let o : bit_at (get_or without (bit_word k y) 0) (bit_place k y) ≡ 1 = b in omega (arith, z, o))
 
-    stays : (y : ℕ × ℕ) → y.0 < k.cards → (x ≡ y → ⊥) → HasBit k words y → HasBit k without y
-    stays y py ne b = elim (cases_eq (bit_word k y) (bit_word k x)) [
-      | inl e ↦ elim (cases_eq (bit_place k y) (bit_place k x)) [ inl f ↦ absurd (ne (bit_apart k x y h.shaped pair.0 py (sym e) (sym f))) | inr apart ↦ other_place y e apart ∙ b ]
-      | inr apart ↦ other_word y apart ∙ b
+    -- another pair's bit is as it was
+    bit_cases : (y : ℕ × ℕ) → ((bit_word k y ≡ bit_word k x) × (bit_place k y ≡ bit_place k x)) ⊎ (bit_at (get_or without (bit_word k y) 0) (bit_place k y) ≡ bit_at (get_or words (bit_word k y) 0) (bit_place k y))
+    bit_cases y = elim (cases_eq (bit_word k y) (bit_word k x)) [
+      | inl e ↦ elim (cases_eq (bit_place k y) (bit_place k x)) [
+        | inl f ↦ inl (e, f)
+        | inr apart ↦ inr (ap (λ (n : ℕ). bit_at n (bit_place k y)) (there y e) ∙ (bit_at_clear_other w64 (get_or words (bit_word k x) 0) (bit_place k x) (low x) (bit_place k y) (low y) apart ∙ ap (λ (i : ℕ). bit_at (get_or words i 0) (bit_place k y)) (sym e)))
+      ]
+      | inr apart ↦ inr (ap (λ (n : ℕ). bit_at n (bit_place k y)) (get_or-set_other words (bit_word k x) (bit_word k y) without_bit 0 apart))
     ]
 
+    stays : (y : ℕ × ℕ) → y.0 < k.cards → (x ≡ y → ⊥) → HasBit k words y → HasBit k without y
+    stays y py ne b = elim (bit_cases y) [ inl s ↦ absurd (ne (bit_apart k x y h.shaped pair.0 py (sym s.0) (sym s.1))) | inr e ↦ e ∙ b ]
+
     back : (y : ℕ × ℕ) → HasBit k without y → HasBit k words y
-    back y b = elim (cases_eq (bit_word k y) (bit_word k x)) [
-      | inl e ↦ elim (cases_eq (bit_place k y) (bit_place k x)) [ inl f ↦ absurd (same_place y e f b) | inr apart ↦ sym (other_place y e apart) ∙ b ]
-      | inr apart ↦ sym (other_word y apart) ∙ b
-    ]
+    back y b = elim (bit_cases y) [ inl s ↦ absurd (same_place y s.0 s.1 b) | inr e ↦ sym e ∙ b ]
 
     pub begun_unset : ((p n : ℕ) → p < k.slots → get_elem? words p ≡ some n → crosses k p n ≡ true → x ≡ (slot_card k p, region_at k n) → ⊥) → IsBegun (started k without)
     begun_unset closed = begun_front k words without h (length-set words (bit_word k x) without_bit) (λ i lt. set_else words (bit_word k x) i _ (λ e. absurd (omega (arith, e, lt))))

@@ -2,6 +2,7 @@
 use Rattle.std.specs.Prelude.{◌≡◌, ◌≢◌, ◌+◌, ◌/◌, ◌<◌, ◌≤◌, ◌&&◌, ◌||◌}
 use Rattle.g1_race.specs.{true_is, length-take-le, ℕ, zero, suc, cond, eqb, map, take, Bool, true, false, List, length, get_or, Option, Some, None, refl, sym, ap, ◌∙◌, subst, inl, inr, ⊎_elim, arith, ne_eqb, not, count_by, some, get_elem?, enumerate_from, filter_map, and_from, and_parts, cases_Bool, eqb-false, not-true, or_cases, or_left, or_right, get_or_default, get_or-map, length-map, length-take, count_by_more_no, count_by_more_yes, slot_count, region_of, pair_cmp, Table, enters, moved_target, moved_pair, moved, moved_count, pair_total, pair_exact, listed, unlisted, Kept, from_kept, to_kept, slot_of, Shape, IsBegun, IsPair, HasBit, slot_card, front, mark_word, as_number, started, shape_of, ended, refs_of, table_of, target_of_word, AreMovedAway, Acquires, into_count, is_into, word_after, card_below, in_row, take_all}
 use Rattle.std.specs.FinSet as set
+use Rattle.std.proofs.lemmas.List.{ext_get_or}
 use Rattle.std.proofs.lemmas.List.FromFn.{get_or-enumerate_from, length-enumerate_from}
 use Rattle.g1_layout.specs.Shape as layout
 use Rattle.g1_race.proofs.Ends.{recorded_set, set_recorded}
@@ -11,7 +12,6 @@ use Rattle.g1_race.proofs.PauseStores.{slot_gives}
 use Rattle.g1_race.proofs.Moving.{moved_low}
 use Rattle.g1_race.proofs.MovedTargets.{enters_is, after_target, span_is}
 use Rattle.g1_race.proofs.FlagWords.{front_at}
-use Rattle.std.proofs.lemmas.List.{ext_get_or}
 
 count_next : {X : Type 0} (p : X → Bool) (xs : List X) (i : ℕ) (d : X) → i < length xs → count_by p (take (i + 1) xs) ≡ count_by p (take i xs) + as_number (p (get_or xs i d))
 count_next p xs i d lt = elim (cases_Bool (p (get_or xs i d))) [

@@ -30,8 +30,7 @@ module _ (k : Shape) (l : layout.Shape) (laid : k ≡ shape_of l k.members) wher
       let e = ended l k words in
       let read = at_unmap (λ n. eqb n 1) (drop (slot_count l) (front k words)) c true (flag_at (marks_of e) c (pending_flag (marks_of e) c p)) in
       let there = at_untake words (k.slots + k.cards) (slot_count l + c) read.0 (undrop (front k words) (slot_count l) c (slot_count l + c) read.0 refl read.1) in
-      let lt : slot_count l + c < k.slots + k.cards = there.0 in
-      (omega (arith, lt, slots_are), ap (λ (n : ℕ). get_elem? words (n + c)) slots_are ∙ (there.1 ∙ ap (λ (n : ℕ). some n) (eqb-true read.0 1 read.2)))
+      (omega (arith, there.0, slots_are), ap (λ (n : ℕ). get_elem? words (n + c)) slots_are ∙ (there.1 ∙ ap (λ (n : ℕ). some n) (eqb-true read.0 1 read.2)))
 
   pub word_pending : (words : List ℕ) (c : ℕ) → c < k.cards → get_elem? words (mark_word k c) ≡ some 1 → IsPending (table_of (ended l k words)) c
   word_pending words c lt at = marked_pending (marks_of (ended l k words)) c (marks_here (ended l k words) c 1 (at_take words (k.slots + k.cards) (slot_count l + c) 1 (omega (arith, lt, slots_are)) (ap (λ (n : ℕ). get_elem? words (n + c)) (sym slots_are) ∙ at)))
