@@ -1,4 +1,4 @@
--- The seat of a pause.
+-- What a race can begin with after a step at a pause, and the seat of a pause.
 use Rattle.std.specs.Prelude.{◌≡◌, ◌≢◌, ◌⊎◌, ◌+◌, ◌<◌}
 use Rattle.g1_race.specs.{get_or, read_at, ℕ, List, [], set, length, length-set, true, refl, sym, ap, ◌∙◌, subst, inl, inr, ⊎_elim, arith, some, cases_eq, get_elem?, at_set, set_else, set_here, never_both, Me, Seat, Shape, View, IsWord, IsBegun, IsFlagged, IsMarked, IsOfCrossing, IsPair, HasBit, flag, mark_word, slot_card, region_at, crosses, started, frozen_seat, IsPaused, TableId, same_bits, bit_as, card_below, mark_apart, same_slots_at_mark}
 
@@ -66,7 +66,7 @@ begun_set k words i v lt h slots marks =
     begun_step k words (set words i v) h (length-set words i v) slots marks (λ p n low at cr. bit_as k words (set words i v) _ bits)
     (λ x pair b. inl (bit_as k (set words i v) words x (λ y. sym (bits y)) b)) (λ c low m. bit_as k words (set words i v) (flag k c) bits)
 
--- a card's mark is
+-- a card's mark is written
 pub begun_mark : (k : Shape) (words : List ℕ) (c v : ℕ) → c < k.cards → (get_elem? (set words (mark_word k c) v) (mark_word k c) ≡ some v → MarkStep k words (set words (mark_word k c) v) c) → IsBegun (started k words) → IsBegun (started k (set words (mark_word k c) v))
 begun_mark k words c v lt step h = begun_set k words (mark_word k c) v (omega (arith, lt)) h (λ p n low at. inl (same_slots_at_mark k words c v p n low at)) (λ d below. elim (cases_eq d c) [
   | inl e ↦ subst (MarkStep k words (set words (mark_word k c) v)) (sym e) (step (set_here words (mark_word k c) v (omega (arith, h.sized, lt))))
@@ -76,7 +76,7 @@ begun_mark k words c v lt step h = begun_set k words (mark_word k c) v (omega (a
 pub begun_marked : (k : Shape) (words : List ℕ) (c : ℕ) → c < k.cards → IsFlagged k words c → IsBegun (started k words) → IsBegun (started k (set words (mark_word k c) 1))
 begun_marked k words c lt flagged = begun_mark k words c 1 lt (λ here. inr (inr (here, bit_as k words (set words (mark_word k c) 1) (flag k c) (same_bits k words (mark_word k c) 1 (omega (arith, lt))) flagged)))
 
--- a slot's word is, whose card is dirty if it must be
+-- a slot's word is written, whose card is dirty if it must be
 pub begun_placed : (k : Shape) (words : List ℕ) (p n : ℕ) → p < k.slots → IsWord k n → (crosses k p n ≡ true → HasBit k words (slot_card k p, region_at k n) ⊎ IsMarked k words p) → IsBegun (started k words) → IsBegun (started k (set words p n))
 begun_placed k words p n lt fits marked h = begun_set k words p n (omega (arith, lt)) h (λ q m low at. ⊎_elim
     (λ (t : (q ≡ p) × (n ≡ m)). inr (subst (λ (x : ℕ × ℕ). IsWord k x.1 × (crosses k x.0 x.1 ≡ true → HasBit k (set words p n) (slot_card k x.0, region_at k x.1) ⊎ IsMarked k (set words p n) x.0)) (λ i. (sym t.0 i, t.1 i)) (

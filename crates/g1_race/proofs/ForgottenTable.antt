@@ -32,7 +32,7 @@ retained_is k l laid old new keep b h g = λ i. record {
 card_in : (n region c : ℕ) → 0 < n → c / n ≡ region → (region * n ≤ c) × (c < region * n + n)
 card_in n region c some_card e = let is : region * n + c % n ≡ c = ap (λ (m : ℕ). m * n + c % n) (sym e) ∙ div-add-mod' c n in (omega arith, omega (arith, mod-lt c some_card))
 
-pub in_card : (n region c : ℕ) → region * n ≤ c → c < region * n + n → c / n ≡ region
+in_card : (n region c : ℕ) → region * n ≤ c → c < region * n + n → c / n ≡ region
 in_card n region c le lt = grind (arith, div-mul-add)
 
 module _ (k : Shape) (l : layout.Shape) (laid : k ≡ shape_of l k.members) (shaped : IsWholeShape k) where

@@ -1,9 +1,9 @@
 -- How many references a redirect moves, and those that it has moved card by card.
 use Rattle.std.specs.Prelude.{◌≡◌, ◌+◌, ◌-◌, ◌*◌, ◌<◌, ◌≤◌}
-use Rattle.g1_race.specs.{ℕ, zero, suc, eqb, true, false, List, get_or, div-lt_iff_lt-mul, refl, sym, ap, ◌∙◌, subst, inl, inr, arith, eq-eqb, some, some-injective, get_elem?, and_from, and_parts, cases_lt, eqb-true, true≢false, false_from_ne_true, mul-le-mul_right, suc-mul, Shape, IsBegun, HasBit, slot_card, crosses, mark_word, as_number, region_at, started, Into, is_member, AreMoved, into_count, is_into, word_after, reads_as}
+use Rattle.g1_race.specs.{ℕ, zero, suc, eqb, true, false, List, get_or, div-lt_iff_lt-mul, refl, sym, ap, ◌∙◌, subst, inl, inr, arith, eq-eqb, some, get_elem?, and_from, and_parts, cases_lt, eqb-true, true≢false, false_from_ne_true, mul-le-mul_right, suc-mul, Shape, IsBegun, HasBit, slot_card, crosses, mark_word, as_number, region_at, started, Into, is_member, AreMoved, into_count, is_into, reads_as}
 use Rattle.g1_race.proofs.AtPause.{begun_read}
 use Rattle.g1_race.proofs.LeastInto.{into_bit}
-use Rattle.g1_race.proofs.Moving.{not_into, moved_none, moved_then}
+use Rattle.g1_race.proofs.Moving.{moved_away, moved_none, moved_then}
 
 -- how many there are
 
@@ -84,7 +84,4 @@ module _ (k : Shape) (old mid : List ℕ) (from to low high : ℕ) (begun : IsBe
 -- after all of them none is left
 
 pub none_into : (k : Shape) (old mid : List ℕ) (from to p : ℕ) → IsBegun (started k old) → (from ≡ to → ⊥) → AreMoved k old mid from to 0 k.slots → Into k mid from p → ⊥
-none_into k old mid from to p begun apart h x =
-    let lt : p < k.slots = x.1 in
-    let now : x.0 ≡ word_after k from to p (get_or old p 0) = some-injective x.0 (word_after k from to p (get_or old p 0)) (sym x.2 ∙ h.moved p (get_or old p 0) (omega arith) (omega (arith, lt)) lt (begun_read k old p begun lt)) in
-    not_into k from to p (get_or old p 0) begun.shaped.2 apart (subst (λ (m : ℕ). is_into k from p m ≡ true) now (is_into_of k from p x.0 x.3 x.4))
+none_into k old mid from to p begun apart h x = moved_away k old mid from to 0 k.slots p x.0 apart begun h (omega arith) (omega (arith, x.1)) x.1 x.2 (is_into_of k from p x.0 x.3 x.4)

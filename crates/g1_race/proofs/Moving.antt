@@ -21,7 +21,7 @@ pub moved_crosses : (k : Shape) (to p n : ℕ) → IsWholeShape k → to < k.reg
 moved_crosses k to p n shaped lt ne = let pos = shaped.2 in other_region k p (to * k.span + (n - 1) % k.span) (moved_word k to n) refl (moved_low k to n shaped lt) (λ e. ne (e ∙ div-mul-add to k.span ((n - 1) % k.span) (mod-lt (n - 1) pos)))
 
 -- no moved reference refers into the region that it left
-pub not_into : (k : Shape) (from to p n : ℕ) → 0 < k.span → (from ≡ to → ⊥) → is_into k from p (word_after k from to p n) ≡ true → ⊥
+not_into : (k : Shape) (from to p n : ℕ) → 0 < k.span → (from ≡ to → ⊥) → is_into k from p (word_after k from to p n) ≡ true → ⊥
 not_into k from to p n pos apart h = elim (cases_Bool (is_into k from p n)) [
   | inl yes_it ↦ apart (sym (eqb-true (region_at k (moved_word k to n)) from (and_parts _ _ (subst (λ (m : ℕ). is_into k from p m ≡ true) (true_is (is_into k from p n) (moved_word k to n) n yes_it) h)).1) ∙ moved_region k to n pos)
   | inr no_it ↦ true≢false (sym (subst (λ (m : ℕ). is_into k from p m ≡ true) (false_is (is_into k from p n) (moved_word k to n) n no_it) h) ∙ no_it)
@@ -74,6 +74,11 @@ moved_none k words from to first count none = record {
   has = λ p n le lt inside at is ne. absurd (true≢false (sym is ∙ none p n le lt inside at));
 }
 
+-- no moved slot still refers into the region
+pub moved_away : (k : Shape) (old mid : List ℕ) (from to first a p n : ℕ) → (from ≡ to → ⊥) → IsBegun (started k old) → AreMoved k old mid from to first a → first ≤ p → p < first + a → p < k.slots → get_elem? mid p ≡ some n → is_into k from p n ≡ true → ⊥
+moved_away k old mid from to first a p n apart begun h le low inside at is = not_into k from to p (get_or old p 0) begun.shaped.2 apart
+    (subst (λ (m : ℕ). is_into k from p m ≡ true) (some-injective n (word_after k from to p (get_or old p 0)) (sym at ∙ h.moved p (get_or old p 0) le low inside (begun_read k old p begun inside))) is)
+
 pub moved_then : (k : Shape) (old mid new : List ℕ) (from to first a b : ℕ) → (from ≡ to → ⊥) → IsBegun (started k old) → AreMoved k old mid from to first a → AreMoved k mid new from to (first + a) b → AreMoved k old new from to first (a + b)
 moved_then k old mid new from to first a b apart begun h g = record {
   moved = λ p n le lt inside at. elim (cases_lt p (first + a)) [
@@ -97,7 +102,7 @@ moved_then k old mid new from to first a b apart begun h g = record {
         was p n inside at is = elim (cases_lt p first) [
           | inl low ↦ sym (h.outside p inside (inl low)) ∙ at
           | inr le ↦ elim (cases_lt p (first + a)) [
-            | inl low ↦ absurd (not_into k from to p (get_or old p 0) begun.shaped.2 apart (subst (λ (m : ℕ). is_into k from p m ≡ true) (some-injective n (word_after k from to p (get_or old p 0)) (sym at ∙ h.moved p (get_or old p 0) le low inside (begun_read k old p begun inside))) is))
+            | inl low ↦ absurd (moved_away k old mid from to first a p n apart begun h le low inside at is)
             | inr high ↦ sym (h.outside p inside (inr high)) ∙ at
           ]
         ]
