@@ -22,27 +22,24 @@ abbrev NoneDirty : Shape → List ℕ → ℕ → ℕ → Type 0
 NoneDirty k words from end = (c : ℕ) → from ≤ c → c < end → c < k.cards → is_marked k words c ≡ false
 
 module _ (k : Shape) {words read : List ℕ} (from next : ℕ) (same : read ≡ words) (none : NoneDirty k words from next) where
-  module _ (card n : ℕ) (skips : SkipsNone (is_marked k read) k.cards next (Some card)) (at : get_elem? read (mark_word k card) ≡ some n) where
-    before : (c : ℕ) → from ≤ c → c < card → is_marked k words c ≡ false
-    before c le lt = elim (cases_lt c next) [
-      | inl low ↦ none c le low (omega (arith, lt, skips.1))
-      | inr high ↦ ap (λ (l : List ℕ). is_marked k l c) (sym same) ∙ skips.2 c high lt
-    ]
+  none_until : (end : ℕ) → ((c : ℕ) → next ≤ c → c < end → is_marked k read c ≡ false) → NoneDirty k words from end
+  none_until end skips c le lt below = elim (cases_lt c next) [
+    | inl low ↦ none c le low below
+    | inr high ↦ ap (λ (l : List ℕ). is_marked k l c) (sym same) ∙ skips c high lt
+  ]
 
+  module _ (card n : ℕ) (skips : SkipsNone (is_marked k read) k.cards next (Some card)) (at : get_elem? read (mark_word k card) ≡ some n) where
     pub marked_next : from ≤ next → n ≡ 1 → IsNext (is_marked k words) k.cards from (Some card)
-    marked_next past one = (omega (arith, past, skips.0), skips.1, ap (λ (l : List ℕ). is_marked k l card) (sym same) ∙ mark_is k read card n at one, before)
+    marked_next past one = (omega (arith, past, skips.0), skips.1, ap (λ (l : List ℕ). is_marked k l card) (sym same) ∙ mark_is k read card n at one, λ c le lt. none_until card skips.2 c le lt (omega (arith, lt, skips.1)))
 
     pub clean_past : n ≢ 1 → NoneDirty k words from (card + 1)
     clean_past ne c le lt below = elim (cases_lt c card) [
-      | inl low ↦ before c le low
+      | inl low ↦ none_until card skips.2 c le low below
       | inr high ↦ subst (λ (x : ℕ). is_marked k words x ≡ false) (let e : card ≡ c = omega (arith, high, lt) in e) (ap (λ (l : List ℕ). is_marked k l card) (sym same) ∙ mark_is_not k read card n at ne)
     ]
 
   pub clean_after : SkipsNone (is_marked k read) k.cards next None → IsNext (is_marked k words) k.cards from None
-  clean_after skips c le lt = elim (cases_lt c next) [
-    | inl low ↦ none c le low lt
-    | inr high ↦ ap (λ (l : List ℕ). is_marked k l c) (sym same) ∙ skips c high lt
-  ]
+  clean_after skips c le lt = none_until k.cards skips c le lt lt
 
 -- a flag is no pair's bit
 pub flag_only : (k : Shape) (old new : List ℕ) (c : ℕ) → Notes k old new (flag k c ∷ []) → (x : ℕ × ℕ) → IsPair k x → HasBit k new x → HasBit k old x
