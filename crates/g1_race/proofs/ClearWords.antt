@@ -23,6 +23,19 @@ row_apart k x region i shaped card ne lt e = ne (
 pub row_below : (k : Shape) (region i : ℕ) → IsWholeShape k → region ≤ k.regions → i < k.row → row_word k region i < word_count k
 row_below k region i shaped le below = word_in_row k region i shaped le below
 
+-- a word more of the row is 0
+emptied_on : (k : Shape) (old words new : List ℕ) (region i : ℕ) → IsEmptied k old words region i → front k new ≡ front k words → ((x : ℕ × ℕ) → x.0 < k.cards → x.1 ≢ region → HasBit k words x → HasBit k new x) → ((x : ℕ × ℕ) → HasBit k new x → HasBit k words x)
+    → ((x : ℕ × ℕ) → bit_word k x ≡ row_word k region i → HasBit k new x → ⊥) → IsEmptied k old new region (i + 1)
+emptied_on k old words new region i g same kept back gone = record {
+  front = same ∙ g.front;
+  kept = λ x pair ne b. kept x pair ne (g.kept x pair ne b);
+  only = λ x pair b. g.only x pair (back x b);
+  clear = λ x pair e up b. elim (cases_eq (x.0 / 64) i) [
+    | inl f ↦ gone x (λ j. k.slots + k.cards + (e j * k.row + f j)) b
+    | inr ne ↦ g.clear x pair e (omega (arith, up, ne)) (back x b)
+  ];
+}
+
 module _ (k : Shape) (words : List ℕ) (region i : ℕ) (h : IsBegun (started k words)) (lt : region ≤ k.regions) (below : i < k.row) where
   abbrev less : List ℕ
   less = set words (row_word k region i) 0
@@ -48,27 +61,12 @@ module _ (k : Shape) (words : List ℕ) (region i : ℕ) (h : IsBegun (started k
       (λ x pair b. inl (bit_back x b)) (λ c low m. bit_on (flag k c) (row_apart k (flag k c) region i h.shaped (flag_card k c low) (λ e. clean (sym e) c low m) below))
 
   pub emptied_next : (old : List ℕ) → IsEmptied k old words region i → IsEmptied k old less region (i + 1)
-  emptied_next old g = record {
-    front = take-set-le (k.slots + k.cards) words (row_word k region i) 0 (let r : ℕ = region * k.row in let goal : k.slots + k.cards ≤ k.slots + k.cards + (r + i) = omega arith in goal) ∙ g.front;
-    kept = λ x pair ne b. bit_on x (row_apart k x region i h.shaped pair ne below) (g.kept x pair ne b);
-    only = λ x pair b. g.only x pair (bit_back x b);
-    clear = λ x pair e up b. elim (cases_eq (x.0 / 64) i) [
-      | inl f ↦ gone x (λ j. k.slots + k.cards + (e j * k.row + f j)) b
-      | inr ne ↦ g.clear x pair e (omega (arith, up, ne)) (bit_back x b)
-    ];
-  }
+  emptied_next old g = emptied_on k old words less region i g (take-set-le (k.slots + k.cards) words (row_word k region i) 0 (omega arith)) (λ x pair ne. bit_on x (row_apart k x region i h.shaped pair ne below)) bit_back gone
 
 -- a word of the row that is 0 already
 pub emptied_past : (k : Shape) (old words : List ℕ) (region i found : ℕ) → get_elem? words (row_word k region i) ≡ some found → found ≡ 0 → IsEmptied k old words region i → IsEmptied k old words region (i + 1)
-emptied_past k old words region i found at none g = record {
-  front = g.front;
-  kept = g.kept;
-  only = g.only;
-  clear = λ x pair e up b. elim (cases_eq (x.0 / 64) i) [
-    | inl f ↦ no_bit k words x (ap (λ (j : ℕ). get_or words j 0) (λ j. k.slots + k.cards + (e j * k.row + f j)) ∙ (reads_as words (row_word k region i) found 0 at ∙ none)) b
-    | inr ne ↦ g.clear x pair e (omega (arith, up, ne)) b
-  ];
-}
+emptied_past k old words region i found at none g = emptied_on k old words words region i g refl (λ x pair ne b. b) (λ x b. b)
+    (λ x e b. no_bit k words x (ap (λ (j : ℕ). get_or words j 0) e ∙ (reads_as words (row_word k region i) found 0 at ∙ none)) b)
 
 -- no slot refers into the region of the row of flags
 pub none_behind : (k : Shape) (words : List ℕ) (p : ℕ) → IsBegun (started k words) → Into k words k.regions p → ⊥

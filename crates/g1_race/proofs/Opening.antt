@@ -1,20 +1,15 @@
 -- A race over nulls begins with the opening table.
 use Rattle.std.specs.Prelude.{◌≡◌, ◌+◌, ◌-◌, ◌∷◌, ◌++◌}
-use Rattle.g1_race.specs.{ℕ, zero, suc, arith, eqb, List, [], map, Option, None, refl, ap, ◌∙◌, replicate, slot_count, card_count, opening, pending_of, marks_for, target_of_word, ended, table_of, Shape, beginning, bit_word, front, null_of, pairs_of_card, pairs_up_to, word_count, shape_of, null_begun, pair_clear, zeros, no_bit, zeros_read}
+use Rattle.g1_race.specs.{false, ℕ, zero, suc, arith, eqb, List, [], map, refl, ap, ◌∙◌, replicate, slot_count, card_count, opening, pending_of, marks_for, target_of_word, ended, table_of, Shape, beginning, bit_word, front, null_of, pairs_of_card, pairs_up_to, word_count, shape_of, null_begun, pair_clear, zeros, no_bit, zeros_read}
 use Rattle.std.proofs.lemmas.List.{drop-replicate, take-replicate}
 use Rattle.std.specs.FinSet as set
-use Rattle.g1_heap.specs.declared.mark.Mark.{Mark}
-use Rattle.g1_heap.specs.declared.mark.Mark.TheVariants.{Clean}
 use Rattle.g1_layout.specs.Shape as layout
 use Rattle.g1_core.proofs.OpeningLemmas.{none_pending}
+use Rattle.g1_core.specs.Adoption.{mark_for}
 
-null_refs : (n : ℕ) → map target_of_word (zeros n) ≡ replicate {A = Option ℕ} n None
-null_refs zero = refl
-null_refs (suc n) = ap (λ (l : List (Option ℕ)). None ∷ l) (null_refs n)
-
-all_clean : (m : ℕ) → marks_for (map (λ x. eqb x 1) (zeros m)) ≡ replicate {A = Mark} m Clean
-all_clean zero = refl
-all_clean (suc m) = ap (λ (l : List Mark). Clean ∷ l) (all_clean m)
+map_replicate : {A B : Type 0} (f : A → B) (n : ℕ) (a : A) → map f (replicate n a) ≡ replicate n (f a)
+map_replicate f zero a = refl
+map_replicate f (suc n) a = ap (λ l. f a ∷ l) (map_replicate f n a)
 
 no_pairs_of : (k : Shape) (n c r : ℕ) → pairs_of_card k (zeros n) c r ≡ []
 no_pairs_of k n c zero = refl
@@ -28,8 +23,8 @@ table_of_zeros : (l : layout.Shape) → table_of (record { layout = l; words = z
 table_of_zeros l =
     let slots = slot_count l in
     let cards = card_count l in
-    let refs = ap (map target_of_word) (take-replicate slots (slots + cards) 0 (omega arith)) ∙ null_refs slots in
-    let marks = ap (λ (ws : List ℕ). marks_for (map (λ x. eqb x 1) ws)) (drop-replicate slots (slots + cards) 0 ∙ ap zeros (let e : slots + cards - slots ≡ cards = omega arith in e)) ∙ all_clean cards in
+    let refs = ap (map target_of_word) (take-replicate slots (slots + cards) 0 (omega arith)) ∙ map_replicate target_of_word slots 0 in
+    let marks = ap (λ (ws : List ℕ). marks_for (map (λ x. eqb x 1) ws)) (drop-replicate slots (slots + cards) 0 ∙ ap zeros (let e : slots + cards - slots ≡ cards = omega arith in e)) ∙ (ap marks_for (map_replicate (λ x. eqb x 1) cards 0) ∙ map_replicate mark_for cards false) in
     λ i. record { layout = l; refs = refs i; pending = (ap pending_of marks ∙ none_pending cards) i; recorded = set.empty }
 
 pub opening_table : (l : layout.Shape) (k : Shape) (m : ℕ) → k ≡ shape_of l m → table_of (ended l k (zeros (word_count k))) ≡ opening l
