@@ -1,11 +1,12 @@
 -- What a clear at a pause reads and does.
 use Rattle.std.specs.Prelude.{◌≡◌, ◌≢◌, ◌+◌, ◌-◌, ◌*◌, ◌/◌, ◌<◌, ◌≤◌}
-use Rattle.g1_race.specs.{ℕ, not, eqb, List, length, set, get_or, length-set, eq-eqb, Some, None, refl, sym, ap, ◌∙◌, subst, inl, inr, ⊎_elim, arith, some, ℕ_discrete, get_elem?, cases_eq, eqb-true, not-false, take-set-le, get_or-set_same, get_or-set_other, div-mul-add, bit_at, set_else, slot_count, Enters, Table, clear_entry, Shape, IsBegun, IsMarked, IsWholeShape, HasBit, bit_word, bit_place, slot_card, flag, front, mark_word, word_count, region_at, started, shape_of, ended, table_of, Clear, Cleared, Pending, StillReferenced, IsStep, settled, refined_none, none_refinable, Into, IsLeastInto, IsEmptied, marked_cards, no_bit, at_take, at_untake, reads_as, crosses_reference, card_below, card_in_row, crossing_pair, in_row, flag_card, word_in_row}
+use Rattle.g1_race.specs.{ℕ, not, eqb, List, length, set, get_or, length-set, eq-eqb, Some, None, refl, sym, ap, ◌∙◌, subst, inl, inr, arith, some, get_elem?, cases_eq, eqb-true, not-false, take-set-le, get_or-set_same, get_or-set_other, div-mul-add, bit_at, set_else, Enters, Table, clear_entry, Shape, IsBegun, IsWholeShape, HasBit, bit_word, bit_place, slot_card, flag, front, mark_word, word_count, region_at, started, shape_of, ended, table_of, Clear, Cleared, Pending, StillReferenced, IsStep, settled, refined_none, none_refinable, Into, IsLeastInto, IsEmptied, marked_cards, no_bit, at_take, at_untake, reads_as, crosses_reference, card_in_row, crossing_pair, in_row, flag_card, word_in_row}
 use Rattle.std.specs.FinSet as fin
 use Rattle.g1_layout.specs.Shape as layout
 use Rattle.g1_core.specs.declared.entry.Reply.TheVariants as reply
-use Rattle.g1_race.proofs.StoreCalls.{other_region}
-use Rattle.g1_race.proofs.Ends.{crosses_apart, word_back, word_refers}
+use Rattle.g1_race.proofs.AtPause.{begun_front}
+use Rattle.g1_race.proofs.Ends.{crosses_apart, crossing_back, word_refers}
+use Rattle.g1_race.proofs.Forgetting.{slot_back}
 use Rattle.g1_race.proofs.ForgottenTable.{retained_is}
 use Rattle.g1_race.proofs.PauseTable.{none_pending, pending_len}
 
@@ -22,15 +23,22 @@ row_apart k x region i shaped card ne lt e = ne (
 pub row_below : (k : Shape) (region i : ℕ) → IsWholeShape k → region ≤ k.regions → i < k.row → row_word k region i < word_count k
 row_below k region i shaped le below = word_in_row k region i shaped le below
 
+-- a word more of the row is 0
+emptied_on : (k : Shape) (old words new : List ℕ) (region i : ℕ) → IsEmptied k old words region i → front k new ≡ front k words → ((x : ℕ × ℕ) → x.0 < k.cards → x.1 ≢ region → HasBit k words x → HasBit k new x) → ((x : ℕ × ℕ) → HasBit k new x → HasBit k words x)
+    → ((x : ℕ × ℕ) → bit_word k x ≡ row_word k region i → HasBit k new x → ⊥) → IsEmptied k old new region (i + 1)
+emptied_on k old words new region i g same kept back gone = record {
+  front = same ∙ g.front;
+  kept = λ x pair ne b. kept x pair ne (g.kept x pair ne b);
+  only = λ x pair b. g.only x pair (back x b);
+  clear = λ x pair e up b. elim (cases_eq (x.0 / 64) i) [
+    | inl f ↦ gone x (λ j. k.slots + k.cards + (e j * k.row + f j)) b
+    | inr ne ↦ g.clear x pair e (omega (arith, up, ne)) (back x b)
+  ];
+}
+
 module _ (k : Shape) (words : List ℕ) (region i : ℕ) (h : IsBegun (started k words)) (lt : region ≤ k.regions) (below : i < k.row) where
   abbrev less : List ℕ
   less = set words (row_word k region i) 0
-
-  short : row_word k region i < length words
-  short = subst (λ (n : ℕ). row_word k region i < n) (sym h.sized) (row_below k region i h.shaped lt below)
-
-  far : (p : ℕ) → p < k.slots + k.cards → get_elem? less p ≡ get_elem? words p
-  far p low = set_else words (row_word k region i) p 0 (λ e. let r : ℕ = region * k.row in let f : p ≡ k.slots + k.cards + (r + i) = e in absurd (omega (arith, f, low)))
 
   same_word : (x : ℕ × ℕ) → bit_word k x ≢ row_word k region i → get_or less (bit_word k x) 0 ≡ get_or words (bit_word k x) 0
   same_word x ne = get_or-set_other words (row_word k region i) (bit_word k x) 0 0 ne
@@ -39,7 +47,7 @@ module _ (k : Shape) (words : List ℕ) (region i : ℕ) (h : IsBegun (started k
   bit_on x ne b = ap (λ (n : ℕ). bit_at n (bit_place k x)) (same_word x ne) ∙ b
 
   gone : (x : ℕ × ℕ) → bit_word k x ≡ row_word k region i → HasBit k less x → ⊥
-  gone x e = no_bit k less x (ap (λ (j : ℕ). get_or less j 0) e ∙ get_or-set_same words (row_word k region i) 0 0 short)
+  gone x e = no_bit k less x (ap (λ (j : ℕ). get_or less j 0) e ∙ get_or-set_same words (row_word k region i) 0 0 (omega (arith, h.sized, row_below k region i h.shaped lt below)))
 
   bit_back : (x : ℕ × ℕ) → HasBit k less x → HasBit k words x
   bit_back x b = elim (cases_eq (bit_word k x) (row_word k region i)) [
@@ -48,77 +56,40 @@ module _ (k : Shape) (words : List ℕ) (region i : ℕ) (h : IsBegun (started k
   ]
 
   pub begun_emptied : ((p : ℕ) → Into k words region p → ⊥) → (region ≡ k.regions → (c : ℕ) → c < k.cards → get_elem? words (mark_word k c) ≡ some 1 → ⊥) → IsBegun (started k less)
-  begun_emptied none clean = record {
-    shaped = h.shaped;
-    sized = length-set words (row_word k region i) 0 ∙ h.sized;
-    bounded = λ p n low at. h.bounded p n low (sym (far p (omega (arith, low))) ∙ at);
-    marks = λ c low. ⊎_elim (λ (m : get_elem? words (mark_word k c) ≡ some 1). inl (far (mark_word k c) (omega (arith, low)) ∙ m)) (λ (z : get_elem? words (mark_word k c) ≡ some 0). inr (far (mark_word k c) (omega (arith, low)) ∙ z)) (h.marks c low);
-    covered = λ p n low at cr. let there = sym (far p (omega (arith, low))) ∙ at in ⊎_elim
-        (λ (b : HasBit k words (slot_card k p, region_at k n)). inl (bit_on _ (row_apart k (slot_card k p, region_at k n) region i h.shaped (crossing_pair k p n h.shaped low (h.bounded p n low there) cr).0 (λ e. none p (n, low, there, cr, e)) below) b))
-        (λ (m : IsMarked k words p). inr (far (mark_word k (slot_card k p)) (let c = card_below k p h.shaped low in omega (arith, c)) ∙ m))
-        (h.covered p n low there cr);
-    proper = λ x pair b. h.proper x pair (bit_back x b);
-    flagged = λ c low m. let was = sym (far (mark_word k c) (omega (arith, low))) ∙ m in
-        bit_on (flag k c) (row_apart k (flag k c) region i h.shaped (flag_card k c low) (λ e. clean (sym e) c low was) below) (h.flagged c low was);
-  }
+  begun_emptied none clean = begun_front k words less h (length-set words (row_word k region i) 0) (λ p low. set_else words (row_word k region i) p 0 (λ e. absurd (omega (arith, e, low))))
+      (λ p n low at cr. bit_on _ (row_apart k (slot_card k p, region_at k n) region i h.shaped (crossing_pair k p n h.shaped low (h.bounded p n low at) cr).0 (λ e. none p (n, low, at, cr, e)) below))
+      (λ x pair b. inl (bit_back x b)) (λ c low m. bit_on (flag k c) (row_apart k (flag k c) region i h.shaped (flag_card k c low) (λ e. clean (sym e) c low m) below))
 
   pub emptied_next : (old : List ℕ) → IsEmptied k old words region i → IsEmptied k old less region (i + 1)
-  emptied_next old g = record {
-    front = take-set-le (k.slots + k.cards) words (row_word k region i) 0 (let r : ℕ = region * k.row in let goal : k.slots + k.cards ≤ k.slots + k.cards + (r + i) = omega arith in goal) ∙ g.front;
-    kept = λ x pair ne b. bit_on x (row_apart k x region i h.shaped pair ne below) (g.kept x pair ne b);
-    only = λ x pair b. g.only x pair (bit_back x b);
-    clear = λ x pair e up b. pick x pair e up b (ℕ_discrete (x.0 / 64) i);
-  }
-    where
-      pick : (x : ℕ × ℕ) → x.0 < k.cards → x.1 ≡ region → x.0 / 64 < i + 1 → HasBit k less x → Dec (x.0 / 64 ≡ i) → ⊥
-      pick x pair e up b (yes f) = gone x (λ j. k.slots + k.cards + (e j * k.row + f j)) b
-      pick x pair e up b (no ne) = g.clear x pair e (let n : ℕ = x.0 / 64 in let a : n < i + 1 = up in let c : n ≢ i = ne in let goal : n < i = omega (arith, a, c) in goal) (bit_back x b)
+  emptied_next old g = emptied_on k old words less region i g (take-set-le (k.slots + k.cards) words (row_word k region i) 0 (omega arith)) (λ x pair ne. bit_on x (row_apart k x region i h.shaped pair ne below)) bit_back gone
 
 -- a word of the row that is 0 already
 pub emptied_past : (k : Shape) (old words : List ℕ) (region i found : ℕ) → get_elem? words (row_word k region i) ≡ some found → found ≡ 0 → IsEmptied k old words region i → IsEmptied k old words region (i + 1)
-emptied_past k old words region i found at none g = record { front = g.front; kept = g.kept; only = g.only; clear = λ x pair e up b. pick x pair e up b (ℕ_discrete (x.0 / 64) i) }
-  where
-    pick : (x : ℕ × ℕ) → x.0 < k.cards → x.1 ≡ region → x.0 / 64 < i + 1 → HasBit k words x → Dec (x.0 / 64 ≡ i) → ⊥
-    pick x pair e up b (yes f) = no_bit k words x (ap (λ (j : ℕ). get_or words j 0) (λ j. k.slots + k.cards + (e j * k.row + f j)) ∙ (reads_as words (row_word k region i) found 0 at ∙ none)) b
-    pick x pair e up b (no ne) = g.clear x pair e (let n : ℕ = x.0 / 64 in let a : n < i + 1 = up in let c : n ≢ i = ne in let goal : n < i = omega (arith, a, c) in goal) b
+emptied_past k old words region i found at none g = emptied_on k old words words region i g refl (λ x pair ne b. b) (λ x b. b)
+    (λ x e b. no_bit k words x (ap (λ (j : ℕ). get_or words j 0) e ∙ (reads_as words (row_word k region i) found 0 at ∙ none)) b)
 
 -- no slot refers into the region of the row of flags
 pub none_behind : (k : Shape) (words : List ℕ) (p : ℕ) → IsBegun (started k words) → Into k words k.regions p → ⊥
 none_behind k words p h i = absurd (let pair = crossing_pair k p i.0 h.shaped i.1 (h.bounded p i.0 i.1 i.2) i.3 in omega (arith, pair.1, i.4))
 
 pub into_back : (k : Shape) (old new : List ℕ) (region p : ℕ) → front k new ≡ front k old → Into k new region p → Into k old region p
-into_back k old new region p same i = (i.0, i.1, (at_untake old (k.slots + k.cards) p i.0 (subst (λ (l : List ℕ). get_elem? l p ≡ some i.0) same (at_take new (k.slots + k.cards) p i.0 (let lt : p < k.slots = i.1 in omega (arith, lt)) i.2))).1, i.3, i.4)
+into_back k old new region p same i = (i.0, i.1, slot_back k old new p i.0 same i.1 i.2, i.3, i.4)
 
 -- as a table
 
 module _ (k : Shape) (l : layout.Shape) (laid : k ≡ shape_of l k.members) where
   enters_word : (words : List ℕ) (slot region : ℕ) → Enters (table_of (ended l k words)) slot region → Into k words region slot
   enters_word words slot region h =
-      let e = ended l k words in
-      let word = word_back e slot h.place h.refers in
-      let n = word.0 in
-      let is : n ≡ h.place + 1 = word.3 in
-      let span : k.span ≡ l.cards * l.slots = ap (λ (s : Shape). s.span) laid in
-      let slots : k.slots ≡ slot_count l = ap (λ (s : Shape). s.slots) laid in
-      let lt : slot < slot_count l = word.1 in
-      let into : h.place / k.span ≡ region = ap (λ (s : ℕ). h.place / s) span ∙ h.into in (
-        n,
-        omega (arith, lt, slots),
-        (at_untake words (k.slots + k.cards) slot n word.2).1,
-        other_region k slot h.place n is word.4 (λ q. h.outside (ap (λ (s : ℕ). slot / s) (sym span) ∙ (q ∙ into))),
-        ap (λ (m : ℕ). m / k.span) (let f : n - 1 ≡ h.place = omega (arith, is) in f) ∙ into,
-      )
+      let w = crossing_back (ended l k words) k.members slot h.place h.refers (λ q. h.outside (q ∙ h.into)) in
+      subst (λ (s : Shape). Into s words region slot) (sym laid) (w.0, w.1, (at_untake words (k.slots + k.cards) slot w.0 w.2).1, w.3, w.4 ∙ h.into)
 
   word_enters : (words : List ℕ) (slot region : ℕ) → Into k words region slot → Enters (table_of (ended l k words)) slot region
-  word_enters words slot region i =
-      let span : k.span ≡ l.cards * l.slots = ap (λ (s : Shape). s.span) laid in
-      let slots : k.slots ≡ slot_count l = ap (λ (s : Shape). s.slots) laid in
-      let lt : slot < k.slots = i.1 in record {
-        place = i.0 - 1;
-        refers = word_refers (ended l k words) slot i.0 (omega (arith, lt, slots)) (at_take words (k.slots + k.cards) slot i.0 (omega (arith, lt)) i.2) (crosses_reference k slot i.0 i.3);
-        into = ap (λ (s : ℕ). (i.0 - 1) / s) (sym span) ∙ i.4;
-        outside = λ q. crosses_apart k slot i.0 i.3 (ap (λ (s : ℕ). slot / s) span ∙ (q ∙ sym i.4));
-      }
+  word_enters words slot region i = let x = subst (λ (s : Shape). Into s words region slot) laid i in record {
+    place = x.0 - 1;
+    refers = word_refers (ended l k words) slot x.0 x.1 (at_take words (k.slots + k.cards) slot x.0 (omega (arith, i.1)) x.2) (crosses_reference (shape_of l k.members) slot x.0 x.3);
+    into = x.4;
+    outside = λ q. crosses_apart (shape_of l k.members) slot x.0 x.3 (q ∙ sym x.4);
+  }
 
   -- what a clear answers
   module _ (old read : List ℕ) (begun : IsBegun (started k old)) (same : read ≡ old) (caller region : ℕ) (lt : region < l.regions) (count : ℕ) (counted : count ≡ length (marked_cards k old)) where

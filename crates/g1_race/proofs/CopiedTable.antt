@@ -1,11 +1,13 @@
 -- Words that have all of a core's table say that table.
-use Rattle.std.specs.Prelude.{◌^◌, ◌≡◌, ◌≢◌, ◌+◌, ◌-◌, ◌<◌, ◌≤◌, ◌∷◌}
-use Rattle.g1_race.specs.{ℕ, suc, eqb, List, [], length, take, get_or, Bool, true, false, Option, None, Some, refl, sym, ap, ◌∙◌, subst, inl, inr, ⊎_elim, arith, some, some-injective, get_elem?, length-map, length-take-le, get_or_past, cases_lt, true≢false, slot_count, card_count, region_of, Table, State, IsSound, pending_of, marks_for, same_cards, same_pairs, in_pairs, to_pairs, pending_flag, Shape, In, IsWholeShape, IsPair, HasBit, mark_word, region_at, as_number, word_count, shape_of, word_of, Ended, ended, target_of_word, refs_of, marks_of, table_of, Notes, AreMarked, ArePlaced, AreCovered, zeros, zero_at, no_bit, zeros_read, within, crosses_reference, card_below, at_take, in_contains, contains_in, reads_as, listed_set, set_listed}
+use Rattle.std.specs.Prelude.{◌^◌, ◌≡◌, ◌≢◌, ◌+◌, ◌-◌, ◌/◌, ◌<◌, ◌≤◌}
+use Rattle.g1_race.specs.{slot_card, eqb-true, length-take, ℕ, List, length, take, get_or, Bool, true, false, Option, None, Some, refl, sym, ap, ◌∙◌, subst, inl, inr, ⊎_elim, arith, some, get_elem?, length-map, length-take-le, get_or_past, cases_lt, true≢false, slot_count, card_count, region_of, Table, State, IsSound, same_cards, same_pairs, in_pairs, to_pairs, pending_flag, Shape, In, IsWholeShape, IsPair, HasBit, mark_word, region_at, as_number, word_count, shape_of, word_of, Ended, ended, target_of_word, refs_of, marks_of, table_of, Notes, AreMarked, ArePlaced, AreCovered, zeros, zero_at, no_bit, zeros_read, crosses_reference, card_below, at_take, in_contains, contains_in, reads_as, listed_set, set_listed}
 use Rattle.std.specs.FinSet as set_of
+use Rattle.std.proofs.lemmas.List.{ext_get_or}
 use Rattle.g1_layout.specs.Shape as layout
 use Rattle.g1_core.specs.Table as table
 use Rattle.g1_race.proofs.StoreCalls.{word_fits}
 use Rattle.g1_race.proofs.Parts.{length_marks}
+use Rattle.g1_race.proofs.Telling.{some_below}
 use Rattle.g1_race.proofs.Ends.{refs_here, marks_here, word_target, crosses_apart, marked_pending}
 
 -- words and references
@@ -14,39 +16,26 @@ word_some : (o : Option ℕ) (n : ℕ) → n ≡ word_of o → n ≢ 0 → (plac
 word_some None n e ne = absurd (ne e)
 word_some (Some x) n e ne = (x, refl, e)
 
-one_back : (b : Bool) → eqb (as_number b) 1 ≡ true → b ≡ true
-one_back true e = refl
-one_back false e = absurd (true≢false (sym e))
-
 pub word_bound : (s : State) (p : ℕ) → IsSound s → p < slot_count s.table.layout → word_of (table.target_of s.table p) ≤ slot_count s.table.layout
 word_bound s p parts lt = word_fits (table.target_of s.table p) (slot_count s.table.layout) (parts.places p None (omega (arith, lt, parts.slots)))
 
 -- each reference of a core's table is covered by the marks and the bits that are placed for it
 
-covered_at : (s : State) (m : ℕ) (words : List ℕ) → IsSound s → IsWholeShape (shape_of s.table.layout m)
-    → ((c : ℕ) → c < card_count s.table.layout → get_elem? words (slot_count s.table.layout + c) ≡ some (as_number (set_of.contains s.table.pending c)))
-    → ((x : ℕ × ℕ) → set_of.contains s.table.recorded x ≡ true → HasBit (shape_of s.table.layout m) words x)
-    → AreCovered (shape_of s.table.layout m) s.table words
-covered_at s m words parts shaped marks on p lt cr =
-    let k = shape_of s.table.layout m in
-    let t = s.table in
-    let n = word_of (table.target_of t p) in
-    let some_n = word_some (table.target_of t p) n refl (crosses_reference k p n cr).0 in
-    let place = some_n.0 in
-    let is : n ≡ place + 1 = some_n.2 in
-    let back : region_of t.layout place ≡ region_at k n = ap (λ (q : ℕ). region_of t.layout q) (let f : place ≡ n - 1 = omega arith in f) in
-    elim (parts.cover p place (record { refers = some_n.1; across = λ e. crosses_apart k p n cr (e ∙ back) })) [
-      | inl pending ↦ inr (marks (layout.card_of t.layout p) (card_below k p shaped lt) ∙ ap (λ (b : Bool). some (as_number b)) pending)
-      | inr pair ↦ inl (on _ (subst (λ (r : ℕ). set_of.contains t.recorded (layout.card_of t.layout p, r) ≡ true) back pair))
-    ]
-
-pub core_covered : (s : State) (l : layout.Shape) (k : Shape) (words : List ℕ) → l ≡ s.table.layout → k ≡ shape_of l k.members → IsSound s → IsWholeShape k
+core_covered : (s : State) (l : layout.Shape) (k : Shape) (words : List ℕ) → l ≡ s.table.layout → k ≡ shape_of l k.members → IsSound s → IsWholeShape k
     → ((c : ℕ) → c < k.cards → get_elem? words (mark_word k c) ≡ some (as_number (set_of.contains s.table.pending c)))
     → ((x : ℕ × ℕ) → set_of.contains s.table.recorded x ≡ true → HasBit k words x)
     → AreCovered k s.table words
-core_covered s l k words lay laid parts shaped =
-    subst (λ (q : Shape). IsWholeShape q → ((c : ℕ) → c < q.cards → get_elem? words (mark_word q c) ≡ some (as_number (set_of.contains s.table.pending c))) → ((x : ℕ × ℕ) → set_of.contains s.table.recorded x ≡ true → HasBit q words x) → AreCovered q s.table words)
-    (sym (laid ∙ ap (λ (x : layout.Shape). shape_of x k.members) lay)) (covered_at s k.members words parts) shaped
+core_covered s l k words lay laid parts shaped marks on p lt cr =
+    let t = s.table in
+    let n = word_of (table.target_of t p) in
+    let some_n = word_some (table.target_of t p) n refl (crosses_reference k p n cr).0 in
+    let same : k ≡ shape_of t.layout k.members = laid ∙ ap (λ (x : layout.Shape). shape_of x k.members) lay in
+    let back : region_of t.layout some_n.0 ≡ region_at k n = ap (λ (x : Shape). some_n.0 / x.span) (sym same) ∙ ap (λ (q : ℕ). q / k.span) (let f : some_n.0 ≡ n - 1 = omega (arith, some_n.2) in f) in
+    let card : slot_card k p ≡ layout.card_of t.layout p = ap (λ (x : Shape). p / x.size) same in
+    elim (parts.cover p some_n.0 (record { refers = some_n.1; across = λ e. crosses_apart k p n cr (ap (λ (x : Shape). p / x.span) same ∙ (e ∙ back)) })) [
+      | inl pending ↦ inr (marks (slot_card k p) (card_below k p shaped lt) ∙ ap (λ (b : Bool). some (as_number b)) (ap (set_of.contains t.pending) card ∙ pending))
+      | inr pair ↦ inl (on _ (subst (λ (y : ℕ × ℕ). set_of.contains t.recorded y ≡ true) (λ i. (sym card i, back i)) pair))
+    ]
 
 -- words that have all of a core's table
 pub record IsCopy (k : Shape) (t : Table) (words : List ℕ) : Type 0 where
@@ -55,12 +44,6 @@ pub record IsCopy (k : Shape) (t : Table) (words : List ℕ) : Type 0 where
   pub marks : (c : ℕ) → c < k.cards → get_elem? words (mark_word k c) ≡ some (as_number (set_of.contains t.pending c))
   pub on : (x : ℕ × ℕ) → set_of.contains t.recorded x ≡ true → HasBit k words x
   pub back : (x : ℕ × ℕ) → IsPair k x → HasBit k words x → set_of.contains t.recorded x ≡ true
-
-same_at : {A : Type 0} (xs ys : List A) → length xs ≡ length ys → ((i : ℕ) (a : A) → get_elem? ys i ≡ some a → get_elem? xs i ≡ some a) → xs ≡ ys
-same_at [] [] e f = refl
-same_at [] (y ∷ ys) e f = absurd (omega arith)
-same_at (x ∷ xs) [] e f = absurd (omega arith)
-same_at (x ∷ xs) (y ∷ ys) e f = let a = some-injective x y (f 0 y refl) in let b = same_at xs ys (omega arith) (λ i z. f (suc i) z) in λ i. a i ∷ b i
 
 module _ (s : State) (m : ℕ) (words : List ℕ) (parts : IsSound s) (few : slot_count s.table.layout < 2 ^ 32) (h : IsCopy (shape_of s.table.layout m) s.table words) where
   abbrev t : Table
@@ -79,32 +62,29 @@ module _ (s : State) (m : ℕ) (words : List ℕ) (parts : IsSound s) (few : slo
   sized = length-take-le (slot_count t.layout + card_count t.layout) words (let e = h.sized in omega arith)
 
   refs_is : refs_of first ≡ t.refs
-  refs_is = same_at (refs_of first) t.refs (length-map (take (slot_count t.layout) first.words) target_of_word ∙ (length-take-le (slot_count t.layout) first.words (let e = sized in omega arith) ∙ sym parts.slots)) there
-    where
-      there : (p : ℕ) (o : Option ℕ) → get_elem? t.refs p ≡ some o → get_elem? (refs_of first) p ≡ some o
-      there p o at =
-          let lt : p < slot_count t.layout = omega (arith, within t.refs p o at, parts.slots) in
-          refs_here first p (word_of (table.target_of t p)) lt (front_at p _ (omega (arith, lt)) (h.slots p lt)) ∙ ap (λ (x : Option ℕ). some x) (word_target (table.target_of t p) (let a = word_bound s p parts lt in omega (arith, a, few)) ∙ reads_as t.refs p o None at)
+  refs_is = ext_get_or None (refs_of first) t.refs (length-map (take (slot_count t.layout) first.words) target_of_word ∙ (length-take-le (slot_count t.layout) first.words (omega (arith, sized)) ∙ sym parts.slots)) (λ p below.
+      let lt : p < slot_count t.layout = omega (arith, below, length-map (take (slot_count t.layout) first.words) target_of_word, length-take (slot_count t.layout) first.words) in
+      reads_as (refs_of first) p (target_of_word (word_of (table.target_of t p))) None (refs_here first p (word_of (table.target_of t p)) lt (front_at p _ (omega (arith, lt)) (h.slots p lt)))
+      ∙ word_target (table.target_of t p) (omega (arith, word_bound s p parts lt, few)))
 
   mark_at : (c : ℕ) → c < card_count t.layout → (b : Bool) → set_of.contains t.pending c ≡ b → get_elem? first.words (slot_count t.layout + c) ≡ some (as_number b)
   mark_at c lt b e = front_at (slot_count t.layout + c) _ (omega (arith, lt)) (h.marks c lt) ∙ ap (λ (x : Bool). some (as_number x)) e
 
   flag_back : (c : ℕ) → get_or (marks_of first) c false ≡ true → set_of.contains t.pending c ≡ true
   flag_back c e = elim (cases_lt c (card_count t.layout)) [
-    | inl below ↦ one_back (set_of.contains t.pending c) (sym (reads_as (marks_of first) c _ false (marks_here first c _ (mark_at c below (set_of.contains t.pending c) refl))) ∙ e)
+    | inl below ↦ some_below (set_of.contains t.pending c) (omega (arith, eqb-true _ 1 (sym (reads_as (marks_of first) c _ false (marks_here first c _ (mark_at c below (set_of.contains t.pending c) refl))) ∙ e)))
     | inr past ↦ absurd (true≢false (sym e ∙ get_or_past (marks_of first) c false (omega (arith, past, length_marks first sized))))
   ]
 
-  pending_is : pending_of (marks_for (marks_of first)) ≡ t.pending
-  pending_is = same_cards _ _ (λ c e. flag_back c (pending_flag (marks_of first) c e)) (λ c e. marked_pending (marks_of first) c (marks_here first c 1 (mark_at c (parts.pending c e) true e)))
-
-  recorded_is : set_of.from_list first.pairs ≡ t.recorded
-  recorded_is = same_pairs _ _
-      (λ x e. let b = listed_set k words x (in_pairs first.pairs x e) in h.back x b.0 b.1)
-      (λ x e. let o = parts.recorded x.0 x.1 e in to_pairs first.pairs x (set_listed k words x (o.0, o.1) (h.on x e)))
-
   copy_at : table_of first ≡ t
-  copy_at = λ i. record { layout = t.layout; refs = refs_is i; pending = pending_is i; recorded = recorded_is i }
+  copy_at = λ i. record {
+    layout = t.layout;
+    refs = refs_is i;
+    pending = same_cards (table_of first).pending t.pending (λ c e. flag_back c (pending_flag (marks_of first) c e)) (λ c e. marked_pending (marks_of first) c (marks_here first c 1 (mark_at c (parts.pending c e) true e))) i;
+    recorded = same_pairs (table_of first).recorded t.recorded
+        (λ x e. let b = listed_set k words x (in_pairs first.pairs x e) in h.back x b.0 b.1)
+        (λ x e. let o = parts.recorded x.0 x.1 e in to_pairs first.pairs x (set_listed k words x (o.0, o.1) (h.on x e))) i;
+  }
 
 pub copied : (s : State) (l : layout.Shape) (k : Shape) (words : List ℕ) → l ≡ s.table.layout → k ≡ shape_of l k.members → IsSound s → IsWholeShape k → IsCopy k s.table words → table_of (ended l k words) ≡ s.table
 copied s l k words lay laid parts shaped copy =

@@ -1,22 +1,7 @@
 -- A range of slots that is copied, slot by slot.
-use Rattle.std.specs.Prelude.{◌≡◌, ◌≢◌, ◌⊎◌, ◌+◌, ◌-◌, ◌<◌, ◌≤◌, ◌&&◌}
-use Rattle.g1_race.specs.{ℕ, suc, ltb, leb, eqb, get_or, length, List, sym, ap, ◌∙◌, subst, inl, inr, arith, eq-eqb, ne_eqb, some, and_from, and_left, and_right, cases_eq, cases_lt, le-leb, le-ltb, lt-leb, lt-ltb, target_of, stored, copied, table_up, table_down, false_is, read_at, read_is, true_is, Shape, Pause, table_at, IsSameRace, SlotsBecome, copied_word, one_word}
-
--- the words
-
-copied_in : (ws : List ℕ) (from to count p n : ℕ) → to ≤ p → p < to + count → copied_word ws from to count p n ≡ get_or ws (from + (p - to)) 0
-copied_in ws from to count p n low high = true_is (leb to p && ltb p (to + count)) _ n (and_from _ _ (le-leb to p low) (lt-ltb p (to + count) high))
-
-copied_out : (ws : List ℕ) (from to count p n : ℕ) → (p < to) ⊎ (to + count ≤ p) → copied_word ws from to count p n ≡ n
-copied_out ws from to count p n (inl low) = false_is (leb to p && ltb p (to + count)) _ n (and_left _ _ (lt-leb to p low))
-copied_out ws from to count p n (inr high) = false_is (leb to p && ltb p (to + count)) _ n (and_right _ _ (le-ltb p (to + count) high))
-
--- a slot of the range, or outside
-in_or_out : (to count p : ℕ) → ((to ≤ p) × (p < to + count)) ⊎ ((p < to) ⊎ (to + count ≤ p))
-in_or_out to count p = elim (cases_lt p to) [
-  | inl low ↦ inr (inl low)
-  | inr from ↦ elim (cases_lt p (to + count)) [ inl below ↦ inl (from, below) | inr past ↦ inr (inr past) ]
-]
+use Rattle.std.specs.Prelude.{◌≡◌, ◌≢◌, ◌⊎◌, ◌+◌, ◌<◌, ◌≤◌}
+use Rattle.g1_race.specs.{ℕ, suc, eqb, get_or, length, sym, ap, ◌∙◌, subst, inl, inr, arith, eq-eqb, ne_eqb, some, cases_eq, target_of, stored, copied, table_up, table_down, false_is, read_at, read_is, true_is, Shape, Pause, table_at, IsSameRace, SlotsBecome, copied_word, one_word}
+use Rattle.std.proofs.lemmas.Bool.Decides.{nat_tests}
 
 -- as many slots are copied so far
 pub record Copied (old new : Pause) (from to count : ℕ) : Type 0 where
@@ -48,7 +33,7 @@ module _ (old mid new : Pause) (full : old.shape.slots ≤ length old.words) whe
   read_before : (from to count p : ℕ) → Copied old mid from to count → p < old.shape.slots → (p < to) ⊎ (to + count ≤ p) → get_or mid.words p 0 ≡ get_or old.words p 0
   read_before from to count p so lt out =
       let n : ℕ = get_or old.words p 0 in
-      read_is mid.words p n (so.words p n lt (read_at old.words p (omega (arith, lt, full))) ∙ ap (λ (m : ℕ). some m) (copied_out old.words from to count p n out))
+      read_is mid.words p n (so.words p n lt (read_at old.words p (omega (arith, lt, full))) ∙ ap (λ (m : ℕ). some m) (let e : copied_word old.words from to count p n ≡ n = grind (arith, nat_tests) in e))
 
   word_by_word : (change last : ℕ → ℕ → ℕ) (slot word : ℕ) → mid.shape ≡ old.shape → SlotsBecome change old mid → SlotsBecome (one_word slot word) mid new
       → ((n : ℕ) → word ≡ last slot n) → ((p n : ℕ) → p ≢ slot → change p n ≡ last p n) → SlotsBecome last old new
@@ -60,31 +45,20 @@ module _ (old mid new : Pause) (full : old.shape.slots ≤ length old.words) whe
 
   -- the next slot behind those that are copied
   pub copied_up : (from to count : ℕ) → to ≤ from → from + count < old.shape.slots → Copied old mid from to count → CopiesOne mid new (from + count) (to + count) → Copied old new from to (suc count)
-  copied_up from to count le lt so one =
-      let out : (from + count < to) ⊎ (to + count ≤ from + count) = inr (omega (arith, le)) in
-      record {
-        race = race_then old mid new so.race one.race;
-        words = word_by_word (copied_word old.words from to count) (copied_word old.words from to (suc count)) (to + count) (get_or mid.words (from + count) 0) so.race.kept.shape so.words one.words
-            (λ n. read_before from to count (from + count) so lt out ∙ (ap (λ (i : ℕ). get_or old.words (from + i) 0) (let e : count ≡ to + count - to = omega arith in e) ∙ sym (copied_in old.words from to (suc count) (to + count) n (omega arith) (omega arith))))
-            (λ p n ne. elim (in_or_out to count p) [
-              | inl i ↦ copied_in old.words from to count p n i.0 i.1 ∙ sym (copied_in old.words from to (suc count) p n i.0 (omega (arith, i.1)))
-              | inr o ↦ copied_out old.words from to count p n o ∙ sym (copied_out old.words from to (suc count) p n (elim o [ inl low ↦ inl low | inr high ↦ inr (omega (arith, high, ne)) ]))
-            ]);
-        table = table_up (table_at old) (table_at mid) (table_at new) from to count le so.table one.table;
-      }
+  copied_up from to count le lt so one = record {
+    race = race_then old mid new so.race one.race;
+    words = word_by_word (copied_word old.words from to count) (copied_word old.words from to (suc count)) (to + count) (get_or mid.words (from + count) 0) so.race.kept.shape so.words one.words
+        (λ n. read_before from to count (from + count) so lt (inr (omega (arith, le))) ∙ (let e : get_or old.words (from + count) 0 ≡ copied_word old.words from to (suc count) (to + count) n = grind (arith, nat_tests) in e))
+        (λ p n ne. grind (arith, nat_tests));
+    table = table_up (table_at old) (table_at mid) (table_at new) from to count le so.table one.table;
+  }
 
   -- the slot before those that are copied
   pub copied_down : (from to count : ℕ) → from < to → from < old.shape.slots → Copied old mid (suc from) (suc to) count → CopiesOne mid new from to → Copied old new from to (suc count)
-  copied_down from to count less lt so one =
-      let out : (from < suc to) ⊎ (suc to + count ≤ from) = inl (omega (arith, less)) in
-      record {
-        race = race_then old mid new so.race one.race;
-        words = word_by_word (copied_word old.words (suc from) (suc to) count) (copied_word old.words from to (suc count)) to (get_or mid.words from 0) so.race.kept.shape so.words one.words
-            (λ n. read_before (suc from) (suc to) count from so lt out ∙ (ap (λ (i : ℕ). get_or old.words i 0) (let e : from ≡ from + (to - to) = omega arith in e) ∙ sym (copied_in old.words from to (suc count) to n (omega arith) (omega arith))))
-            (λ p n ne. elim (in_or_out (suc to) count p) [
-              | inl i ↦ copied_in old.words (suc from) (suc to) count p n i.0 i.1
-                  ∙ (ap (λ (q : ℕ). get_or old.words q 0) (let low : suc to ≤ p = i.0 in let e : suc from + (p - suc to) ≡ from + (p - to) = omega (arith, low) in e) ∙ sym (copied_in old.words from to (suc count) p n (omega (arith, i.0)) (omega (arith, i.1))))
-              | inr o ↦ copied_out old.words (suc from) (suc to) count p n o ∙ sym (copied_out old.words from to (suc count) p n (elim o [ inl low ↦ inl (omega (arith, low, ne)) | inr high ↦ inr (omega (arith, high)) ]))
-            ]);
-        table = table_down (table_at old) (table_at mid) (table_at new) from to count less so.table one.table;
-      }
+  copied_down from to count less lt so one = record {
+    race = race_then old mid new so.race one.race;
+    words = word_by_word (copied_word old.words (suc from) (suc to) count) (copied_word old.words from to (suc count)) to (get_or mid.words from 0) so.race.kept.shape so.words one.words
+        (λ n. read_before (suc from) (suc to) count from so lt (inl (omega (arith, less))) ∙ (let e : get_or old.words from 0 ≡ copied_word old.words from to (suc count) to n = grind (arith, nat_tests) in e))
+        (λ p n ne. grind (arith, nat_tests));
+    table = table_down (table_at old) (table_at mid) (table_at new) from to count less so.table one.table;
+  }

@@ -1,6 +1,6 @@
 -- How many pairs are recorded at a pause.
 use Rattle.std.specs.Prelude.{◌≡◌, ◌+◌, ◌*◌, ◌<◌, ◌≤◌, ◌^◌, ◌∷◌, ◌++◌}
-use Rattle.g1_race.specs.{ℕ, zero, suc, List, [], length, Contains, refl, sym, ap, ◌∙◌, subst, inl, inr, arith, eq-eqb, nat_eq, sum_by, IsDistinct, mul-le-mul, mul-le-mul_left, cases_lt, get_or_append_left, get_or_past, get_or_push, length_push, sum_by_push, card_count, All_by_member, same_pairs, in_pairs, Shape, IsBegun, IsWholeShape, pairs_up_to, started, shape_of, ended, table_of, is_member, member_cards, pair_count}
+use Rattle.g1_race.specs.{suc-mul, ℕ, zero, suc, List, [], length, Contains, refl, sym, ap, ◌∙◌, subst, inl, inr, arith, eq-eqb, nat_eq, sum_by, IsDistinct, mul-le-mul, mul-le-mul_left, cases_lt, get_or_append_left, get_or_past, get_or_push, length_push, sum_by_push, card_count, All_by_member, same_pairs, in_pairs, Shape, IsBegun, IsWholeShape, pairs_up_to, started, shape_of, ended, table_of, is_member, member_cards, pair_count}
 use Rattle.std.proofs.Common.{eqb-true}
 use Rattle.std.specs.FinSet as set
 use Rattle.g1_layout.specs.Shape as layout
@@ -41,30 +41,18 @@ module _ (k : Shape) (words : List ℕ) where
 
   at_most : (n : ℕ) → pair_count k words n ≤ n * k.cards
   at_most zero = omega arith
-  at_most (suc n) = let a = few (is_member k words n) k.cards in let x : ℕ = n * k.cards in let b : pair_count k words n ≤ x = at_most n in let e : suc n * k.cards ≡ x + k.cards = omega arith in omega (arith, a, b, e)
+  at_most (suc n) = omega (arith, few (is_member k words n) k.cards, at_most n, suc-mul n k.cards)
 
   -- their number fits a word
   pub fits : (n : ℕ) → IsWholeShape k → n ≤ k.regions → pair_count k words n < 2 ^ 64
   fits n shaped le =
-      let x : ℕ = k.regions * k.span in
-      let s : k.slots ≡ x = shaped.6 in
-      let some_slot : 1 ≤ k.span = omega (arith, shaped.2) in
-      let one : k.regions * 1 ≤ x = mul-le-mul_left k.regions some_slot in
-      let m : ℕ = n * k.cards in
-      let few_regions : n ≤ 4294967295 = omega (arith, le, one, s, shaped.3) in
-      let few_cards : k.cards ≤ 4294967295 = omega (arith, cards_fit k shaped) in
-      let most : m ≤ 4294967295 * 4294967295 = mul-le-mul few_regions few_cards in
+      let one : k.regions * 1 ≤ k.regions * k.span = mul-le-mul_left k.regions (let some_slot : 1 ≤ k.span = omega (arith, shaped.2) in some_slot) in
+      let most : n * k.cards ≤ 4294967295 * 4294967295 = mul-le-mul (let few_regions : n ≤ 4294967295 = omega (arith, le, one, shaped.6, shaped.3) in few_regions) (let few_cards : k.cards ≤ 4294967295 = omega (arith, cards_fit k shaped) in few_cards) in
       omega (arith, at_most n, most)
 
 module _ (k : Shape) (l : layout.Shape) (laid : k ≡ shape_of l k.members) (words : List ℕ) (h : IsBegun (started k words)) where
   abbrev all : List (List ℕ)
   all = lists k words k.regions
-
-  regions_are : k.regions ≡ l.regions
-  regions_are = ap (λ (s : Shape). s.regions) laid
-
-  cards_are : k.cards ≡ card_count l
-  cards_are = ap (λ (s : Shape). s.cards) laid
 
   -- the lists are those of the heap, and have its pairs
 
@@ -78,14 +66,14 @@ module _ (k : Shape) (l : layout.Shape) (laid : k ≡ shape_of l k.members) (wor
   in_list : (r c : ℕ) → Contains (list_at all r) c → (r < k.regions) × Contains (member_cards k words r) c
   in_list r c i = elim (cases_lt r k.regions) [
     | inl low ↦ (low, subst (λ (cs : List ℕ). Contains cs c) (list_here k words k.regions r low) i)
-    | inr high ↦ absurd (let e = subst (λ (cs : List ℕ). Contains cs c) (list_past k words k.regions r high) i in let lt : e.0 < 0 = e.1 in omega (arith, lt))
+    | inr high ↦ absurd (let e = subst (λ (cs : List ℕ). Contains cs c) (list_past k words k.regions r high) i in omega (arith, e.1))
   ]
 
   are : AreLists l all
   are = record {
-    count = lists_len k words k.regions ∙ regions_are;
+    count = lists_len k words k.regions ∙ ap (λ (s : Shape). s.regions) laid;
     distinct = distinct;
-    below = λ r. All_by_member (λ c. c < card_count l) (list_at all r) (λ c i. subst (λ (n : ℕ). c < n) cards_are (listed_below (is_member k words r) k.cards c (in_list r c i).1));
+    below = λ r. All_by_member (λ c. c < card_count l) (list_at all r) (λ c i. subst (λ (n : ℕ). c < n) (ap (λ (s : Shape). s.cards) laid) (listed_below (is_member k words r) k.cards c (in_list r c i).1));
   }
 
   pairs_are : pairs_of all ≡ (table_of (ended l k words)).recorded

@@ -1,6 +1,6 @@
 -- The cards' flags at a pause.
 use Rattle.std.specs.Prelude.{◌≡◌, ◌≢◌, ◌+◌, ◌*◌, ◌/◌, ◌%◌, ◌<◌, ◌≤◌, ◌++◌, ◌∷◌}
-use Rattle.g1_race.specs.{ℕ, zero, suc, List, [], Option, false, Some, None, refl, sym, ap, ◌∙◌, subst, inl, inr, ⊎_elim, arith, eq-eqb, ℕ_discrete, some, get_elem?, bit_at, slice_index, cases_Bool, cases_lt, true≢false, Shape, HasBit, In, IsBegun, IsPair, IsWholeShape, bit_place, bit_word, flag, front, mark_word, pairs_of_card, pairs_up_to, started, ended, IsEmptied, AreRefined, AreUnflagged, Notes, Acquires, AreMovedAway, IsNext, SkipsNone, is_marked, is_member, flag_card, card_in_row, one_pair, pair_clear, pair_set, take_at, take_same}
+use Rattle.g1_race.specs.{cases_eq, ℕ, zero, suc, List, [], Option, false, Some, None, refl, sym, ap, ◌∙◌, subst, inl, inr, ⊎_elim, arith, eq-eqb, some, get_elem?, bit_at, slice_index, cases_Bool, cases_lt, true≢false, Shape, HasBit, In, IsBegun, IsPair, IsWholeShape, bit_place, bit_word, flag, front, mark_word, pairs_of_card, pairs_up_to, started, ended, IsEmptied, AreRefined, AreUnflagged, Notes, Acquires, AreMovedAway, IsNext, SkipsNone, is_marked, is_member, flag_card, card_in_row, one_pair, pair_clear, pair_set, take_at, take_same}
 use Rattle.g1_layout.specs.Shape as layout
 use Rattle.g1_race.proofs.NextCards.{mark_is, mark_is_not, marked_word}
 
@@ -22,27 +22,24 @@ abbrev NoneDirty : Shape → List ℕ → ℕ → ℕ → Type 0
 NoneDirty k words from end = (c : ℕ) → from ≤ c → c < end → c < k.cards → is_marked k words c ≡ false
 
 module _ (k : Shape) {words read : List ℕ} (from next : ℕ) (same : read ≡ words) (none : NoneDirty k words from next) where
-  module _ (card n : ℕ) (skips : SkipsNone (is_marked k read) k.cards next (Some card)) (at : get_elem? read (mark_word k card) ≡ some n) where
-    before : (c : ℕ) → from ≤ c → c < card → is_marked k words c ≡ false
-    before c le lt = elim (cases_lt c next) [
-      | inl low ↦ none c le low (omega (arith, lt, skips.1))
-      | inr high ↦ ap (λ (l : List ℕ). is_marked k l c) (sym same) ∙ skips.2 c high lt
-    ]
+  none_until : (end : ℕ) → ((c : ℕ) → next ≤ c → c < end → is_marked k read c ≡ false) → NoneDirty k words from end
+  none_until end skips c le lt below = elim (cases_lt c next) [
+    | inl low ↦ none c le low below
+    | inr high ↦ ap (λ (l : List ℕ). is_marked k l c) (sym same) ∙ skips c high lt
+  ]
 
+  module _ (card n : ℕ) (skips : SkipsNone (is_marked k read) k.cards next (Some card)) (at : get_elem? read (mark_word k card) ≡ some n) where
     pub marked_next : from ≤ next → n ≡ 1 → IsNext (is_marked k words) k.cards from (Some card)
-    marked_next past one = (omega (arith, past, skips.0), skips.1, ap (λ (l : List ℕ). is_marked k l card) (sym same) ∙ mark_is k read card n at one, before)
+    marked_next past one = (omega (arith, past, skips.0), skips.1, ap (λ (l : List ℕ). is_marked k l card) (sym same) ∙ mark_is k read card n at one, λ c le lt. none_until card skips.2 c le lt (omega (arith, lt, skips.1)))
 
     pub clean_past : n ≢ 1 → NoneDirty k words from (card + 1)
     clean_past ne c le lt below = elim (cases_lt c card) [
-      | inl low ↦ before c le low
+      | inl low ↦ none_until card skips.2 c le low below
       | inr high ↦ subst (λ (x : ℕ). is_marked k words x ≡ false) (let e : card ≡ c = omega (arith, high, lt) in e) (ap (λ (l : List ℕ). is_marked k l card) (sym same) ∙ mark_is_not k read card n at ne)
     ]
 
   pub clean_after : SkipsNone (is_marked k read) k.cards next None → IsNext (is_marked k words) k.cards from None
-  clean_after skips c le lt = elim (cases_lt c next) [
-    | inl low ↦ none c le low lt
-    | inr high ↦ ap (λ (l : List ℕ). is_marked k l c) (sym same) ∙ skips c high lt
-  ]
+  clean_after skips c le lt = none_until k.cards skips c le lt lt
 
 -- a flag is no pair's bit
 pub flag_only : (k : Shape) (old new : List ℕ) (c : ℕ) → Notes k old new (flag k c ∷ []) → (x : ℕ × ℕ) → IsPair k x → HasBit k new x → HasBit k old x
@@ -55,11 +52,10 @@ flag_only k old new c notes x pair b = ⊎_elim (λ (o : HasBit k old x). o) (λ
 -- words with the same bits of pairs have the same pairs
 module _ (k : Shape) (old new : List ℕ) (on : (x : ℕ × ℕ) → IsPair k x → HasBit k old x → HasBit k new x) (back : (x : ℕ × ℕ) → IsPair k x → HasBit k new x → HasBit k old x) where
   one_same : (x : ℕ × ℕ) → IsPair k x → one_pair k new x ≡ one_pair k old x
-  one_same x pair = pick (ℕ_discrete (bit_at (slice_index old (bit_word k x)) (bit_place k x)) 1)
-    where
-      pick : Dec (HasBit k old x) → one_pair k new x ≡ one_pair k old x
-      pick (yes b) = pair_set k new x (on x pair b) ∙ sym (pair_set k old x b)
-      pick (no ne) = pair_clear k new x (λ b. ne (back x pair b)) ∙ sym (pair_clear k old x ne)
+  one_same x pair = elim (cases_eq (bit_at (slice_index old (bit_word k x)) (bit_place k x)) 1) [
+    | inl b ↦ pair_set k new x (on x pair b) ∙ sym (pair_set k old x b)
+    | inr ne ↦ pair_clear k new x (λ b. ne (back x pair b)) ∙ sym (pair_clear k old x ne)
+  ]
 
   card_same : (c r : ℕ) → c < k.cards → r ≤ k.regions → pairs_of_card k new c r ≡ pairs_of_card k old c r
   card_same c zero lt le = λ i. []

@@ -1,6 +1,8 @@
 -- Bits of pairs that are cleared, row by row.
-use Rattle.std.specs.Prelude.{◌≡◌, ◌≢◌, ◌+◌, ◌*◌, ◌/◌, ◌%◌, ◌^◌, ◌<◌, ◌≤◌}
-use Rattle.g1_race.specs.{ℕ, true, false, List, length, set, get_or, bit_and, w64, length-set, sym, ap, ◌∙◌, subst, inl, inr, ⊎_elim, arith, eq-eqb, some, get_elem?, bit_at, bit_not, cases_eq, cases_lt, true≢false, get_or-set_same, get_or-set_other, take-set-le, bit_at_clear_same, bit_at_clear_other, set_else, Shape, IsBegun, IsMarked, IsPair, HasBit, bit_place, bit_word, slot_card, crosses, flag, front, mark_word, region_at, started, AreUnset, is_member, at_take, at_untake, reads_as, bit_apart, card_below, crossing_pair, bit_below, flag_card}
+use Rattle.std.specs.Prelude.{◌≡◌, ◌⊎◌, ◌+◌, ◌*◌, ◌/◌, ◌%◌, ◌^◌, ◌<◌, ◌≤◌}
+use Rattle.g1_race.specs.{ℕ, true, false, List, set, get_or, bit_and, w64, length-set, sym, ap, ◌∙◌, subst, inl, inr, arith, eq-eqb, some, get_elem?, bit_at, bit_not, cases_eq, cases_lt, true≢false, get_or-set_same, get_or-set_other, take-set-le, bit_at_clear_same, bit_at_clear_other, set_else, Shape, IsBegun, IsPair, HasBit, bit_place, bit_word, slot_card, crosses, flag, front, region_at, started, AreUnset, is_member, reads_as, bit_apart, crossing_pair, bit_below, flag_card}
+use Rattle.g1_race.proofs.AtPause.{begun_front}
+use Rattle.g1_race.proofs.FlagWords.{front_at}
 
 module _ (k : Shape) (words : List ℕ) (x : ℕ × ℕ) where
   abbrev pub without_bit : ℕ
@@ -9,53 +11,36 @@ module _ (k : Shape) (words : List ℕ) (x : ℕ × ℕ) where
   abbrev pub without : List ℕ
   without = set words (bit_word k x) without_bit
 
-  far : (i : ℕ) → i < k.slots + k.cards → get_elem? without i ≡ get_elem? words i
-  far i lt = set_else words (bit_word k x) i _ (λ e. let m : ℕ = x.1 * k.row + x.0 / 64 in let f : i ≡ k.slots + k.cards + m = e in absurd (omega arith))
-
   module _ (h : IsBegun (started k words)) (pair : IsPair k x) where
-    short : bit_word k x < length words
-    short = subst (λ (n : ℕ). bit_word k x < n) (sym h.sized) (bit_below k x h.shaped pair.0 (omega (arith, pair.1)))
-
     there : (y : ℕ × ℕ) → bit_word k y ≡ bit_word k x → get_or without (bit_word k y) 0 ≡ without_bit
-    there y e = ap (λ (i : ℕ). get_or without i 0) e ∙ get_or-set_same words (bit_word k x) without_bit 0 short
+    there y e = ap (λ (i : ℕ). get_or without i 0) e ∙ get_or-set_same words (bit_word k x) without_bit 0 (omega (arith, h.sized, bit_below k x h.shaped pair.0 (omega (arith, pair.1))))
 
     low : (y : ℕ × ℕ) → bit_place k y < 64
-    low y = let n : ℕ = y.0 in let goal : n % 64 < 64 = omega arith in goal
-
-    other_word : (y : ℕ × ℕ) → bit_word k y ≢ bit_word k x → bit_at (get_or without (bit_word k y) 0) (bit_place k y) ≡ bit_at (get_or words (bit_word k y) 0) (bit_place k y)
-    other_word y apart = ap (λ (n : ℕ). bit_at n (bit_place k y)) (get_or-set_other words (bit_word k x) (bit_word k y) without_bit 0 apart)
-
-    other_place : (y : ℕ × ℕ) → bit_word k y ≡ bit_word k x → bit_place k y ≢ bit_place k x → bit_at (get_or without (bit_word k y) 0) (bit_place k y) ≡ bit_at (get_or words (bit_word k y) 0) (bit_place k y)
-    other_place y e apart = ap (λ (n : ℕ). bit_at n (bit_place k y)) (there y e) ∙ (bit_at_clear_other w64 (get_or words (bit_word k x) 0) (bit_place k x) (low x) (bit_place k y) (low y) apart ∙ ap (λ (i : ℕ). bit_at (get_or words i 0) (bit_place k y)) (sym e))
+    low y = omega arith
 
     same_place : (y : ℕ × ℕ) → bit_word k y ≡ bit_word k x → bit_place k y ≡ bit_place k x → HasBit k without y → ⊥
     same_place y e f b = absurd (let z : bit_at (get_or without (bit_word k y) 0) (bit_place k y) ≡ 0 = ap (λ (n : ℕ). bit_at n (bit_place k y)) (there y e) ∙ (ap (bit_at without_bit) f ∙ bit_at_clear_same w64 (get_or words (bit_word k x) 0) (bit_place k x) (low x)) in let o : bit_at (get_or without (bit_word k y) 0) (bit_place k y) ≡ 1 = b in omega (arith, z, o))
 
-    stays : (y : ℕ × ℕ) → y.0 < k.cards → (x ≡ y → ⊥) → HasBit k words y → HasBit k without y
-    stays y py ne b = elim (cases_eq (bit_word k y) (bit_word k x)) [
-      | inl e ↦ elim (cases_eq (bit_place k y) (bit_place k x)) [ inl f ↦ absurd (ne (bit_apart k x y h.shaped pair.0 py (sym e) (sym f))) | inr apart ↦ other_place y e apart ∙ b ]
-      | inr apart ↦ other_word y apart ∙ b
+    -- another pair's bit is as it was
+    bit_cases : (y : ℕ × ℕ) → ((bit_word k y ≡ bit_word k x) × (bit_place k y ≡ bit_place k x)) ⊎ (bit_at (get_or without (bit_word k y) 0) (bit_place k y) ≡ bit_at (get_or words (bit_word k y) 0) (bit_place k y))
+    bit_cases y = elim (cases_eq (bit_word k y) (bit_word k x)) [
+      | inl e ↦ elim (cases_eq (bit_place k y) (bit_place k x)) [
+        | inl f ↦ inl (e, f)
+        | inr apart ↦ inr (ap (λ (n : ℕ). bit_at n (bit_place k y)) (there y e) ∙ (bit_at_clear_other w64 (get_or words (bit_word k x) 0) (bit_place k x) (low x) (bit_place k y) (low y) apart ∙ ap (λ (i : ℕ). bit_at (get_or words i 0) (bit_place k y)) (sym e)))
+      ]
+      | inr apart ↦ inr (ap (λ (n : ℕ). bit_at n (bit_place k y)) (get_or-set_other words (bit_word k x) (bit_word k y) without_bit 0 apart))
     ]
+
+    stays : (y : ℕ × ℕ) → y.0 < k.cards → (x ≡ y → ⊥) → HasBit k words y → HasBit k without y
+    stays y py ne b = elim (bit_cases y) [ inl s ↦ absurd (ne (bit_apart k x y h.shaped pair.0 py (sym s.0) (sym s.1))) | inr e ↦ e ∙ b ]
 
     back : (y : ℕ × ℕ) → HasBit k without y → HasBit k words y
-    back y b = elim (cases_eq (bit_word k y) (bit_word k x)) [
-      | inl e ↦ elim (cases_eq (bit_place k y) (bit_place k x)) [ inl f ↦ absurd (same_place y e f b) | inr apart ↦ sym (other_place y e apart) ∙ b ]
-      | inr apart ↦ sym (other_word y apart) ∙ b
-    ]
+    back y b = elim (bit_cases y) [ inl s ↦ absurd (same_place y s.0 s.1 b) | inr e ↦ sym e ∙ b ]
 
     pub begun_unset : ((p n : ℕ) → p < k.slots → get_elem? words p ≡ some n → crosses k p n ≡ true → x ≡ (slot_card k p, region_at k n) → ⊥) → IsBegun (started k without)
-    begun_unset closed = record {
-      shaped = h.shaped;
-      sized = length-set words (bit_word k x) without_bit ∙ h.sized;
-      bounded = λ p n lt at. h.bounded p n lt (sym (far p (omega (arith, lt))) ∙ at);
-      marks = λ c lt. ⊎_elim (λ (m : get_elem? words (mark_word k c) ≡ some 1). inl (far (mark_word k c) (omega (arith, lt)) ∙ m)) (λ (z : get_elem? words (mark_word k c) ≡ some 0). inr (far (mark_word k c) (omega (arith, lt)) ∙ z)) (h.marks c lt);
-      covered = λ p n lt at cr. let was = sym (far p (omega (arith, lt))) ∙ at in ⊎_elim
-          (λ (b : HasBit k words (slot_card k p, region_at k n)). inl (stays (slot_card k p, region_at k n) (crossing_pair k p n h.shaped lt (h.bounded p n lt was) cr).0 (closed p n lt was cr) b))
-          (λ (m : IsMarked k words p). inr (far (mark_word k (slot_card k p)) (let c = card_below k p h.shaped lt in omega (arith, c)) ∙ m))
-          (h.covered p n lt was cr);
-      proper = λ y py b. h.proper y py (back y b);
-      flagged = λ c lt m. stays (flag k c) (flag_card k c lt) (λ e. absurd (let r : x.1 ≡ k.regions = ap (λ (y : ℕ × ℕ). y.1) e in let low : x.1 < k.regions = pair.1 in omega (arith, r, low))) (h.flagged c lt (sym (far (mark_word k c) (omega (arith, lt))) ∙ m));
-    }
+    begun_unset closed = begun_front k words without h (length-set words (bit_word k x) without_bit) (λ i lt. set_else words (bit_word k x) i _ (λ e. absurd (omega (arith, e, lt))))
+        (λ p n lt at cr. stays (slot_card k p, region_at k n) (crossing_pair k p n h.shaped lt (h.bounded p n lt at) cr).0 (closed p n lt at cr)) (λ y py b. inl (back y b))
+        (λ c lt m. stays (flag k c) (flag_card k c lt) (λ e. absurd (let r : x.1 ≡ k.regions = ap (λ (y : ℕ × ℕ). y.1) e in let low : x.1 < k.regions = pair.1 in omega (arith, r, low))))
 
     pub unset_is : AreUnset k words without (λ y. y ≡ x)
     unset_is = record {
@@ -71,7 +56,7 @@ without_found k words seen x at place found same e f here = λ i. set (same i) (
 
 -- a slot's word among words with the same front
 pub slot_back : (k : Shape) (old new : List ℕ) (p n : ℕ) → front k new ≡ front k old → p < k.slots → get_elem? new p ≡ some n → get_elem? old p ≡ some n
-slot_back k old new p n same lt at = (at_untake old (k.slots + k.cards) p n (subst (λ (l : List ℕ). get_elem? l p ≡ some n) same (at_take new (k.slots + k.cards) p n (omega (arith, lt)) at))).1
+slot_back k old new p n same lt at = sym (front_at k old new p same (omega (arith, lt))) ∙ at
 
 -- one after another in a row
 

@@ -1,6 +1,6 @@
 -- Tables some of whose pairs are gone, and that of a region that is forgotten.
 use Rattle.std.specs.Prelude.{◌≡◌, ◌≢◌, ◌+◌, ◌-◌, ◌*◌, ◌/◌, ◌%◌, ◌<◌, ◌≤◌, ◌&&◌}
-use Rattle.g1_race.specs.{ℕ, div-add-mod', mod-lt, not, eqb, Bool, true, false, List, sym, ap, ◌∙◌, subst, inl, inr, arith, eq-eqb, some, get_elem?, mul-div_cancel_left, and_from, and_parts, cases_Bool, cases_lt, eqb-true, not-false, true≢false, div-mul-add, mul-add-lt, slot_count, region_of, Crosses, pair_exact, same_pairs, Shape, IsBegun, IsWholeShape, slot_card, crosses, pairs_up_to, started, shape_of, ended, refs_of, table_of, AreUnset, forgotten, at_take, crosses_reference}
+use Rattle.g1_race.specs.{ℕ, div-add-mod', mod-lt, not, eqb, Bool, true, false, List, sym, ap, ◌∙◌, subst, inl, inr, arith, eq-eqb, some, get_elem?, mul-div_cancel_left, mul-le-mul_right, suc-mul, and_from, and_parts, cases_Bool, eqb-true, not-false, true≢false, div-mul-add, region_of, Crosses, pair_exact, same_pairs, Shape, IsBegun, IsWholeShape, slot_card, crosses, pairs_up_to, started, shape_of, ended, refs_of, table_of, AreUnset, forgotten, at_take, crosses_reference}
 use Rattle.std.specs.FinSet as fin
 use Rattle.g1_layout.specs.Shape as layout
 use Rattle.g1_race.proofs.Ends.{crosses_apart, recorded_set, region_of_quotient, set_recorded, word_refers}
@@ -30,32 +30,10 @@ retained_is k l laid old new keep b h g = λ i. record {
 
 -- the cards of a region
 card_in : (n region c : ℕ) → 0 < n → c / n ≡ region → (region * n ≤ c) × (c < region * n + n)
-card_in n region c some_card e =
-    let q : ℕ = c / n in
-    let is : q * n + c % n ≡ c = div-add-mod' c n in
-    let r : ℕ = c % n in
-    let low : r < n = mod-lt c some_card in
-    let y : ℕ = region * n in
-    let same : q * n ≡ y = ap (λ (m : ℕ). m * n) e in
-    let z : ℕ = q * n in
-    let is' : z + r ≡ c = is in let same' : z ≡ y = same in
-    ((let goal : y ≤ c = omega arith in goal), (let goal : c < y + n = omega arith in goal))
+card_in n region c some_card e = let is : region * n + c % n ≡ c = ap (λ (m : ℕ). m * n + c % n) (sym e) ∙ div-add-mod' c n in (omega arith, omega (arith, mod-lt c some_card))
 
 in_card : (n region c : ℕ) → region * n ≤ c → c < region * n + n → c / n ≡ region
-in_card n region c le lt =
-    let y : ℕ = region * n in
-    let i : ℕ = c - y in
-    let is : y + i ≡ c = (let a : y ≤ c = le in omega arith) in
-    let low : i < n = (let a : y ≤ c = le in let b : c < y + n = lt in omega arith) in
-    ap (λ (m : ℕ). m / n) (sym is) ∙ div-mul-add region n i low
-
--- the cards of a region in whole numbers
-
-cards_in : (n region regions : ℕ) → 0 < n → region < regions → region * n + n ≤ regions * n
-cards_in n region regions some_card lt =
-    let y : ℕ = region * n in let all : ℕ = n * regions in let same : ℕ = regions * n in
-    let a : y + (n - 1) < all = mul-add-lt region n (n - 1) regions lt (omega arith) in let e : all ≡ same = omega arith in
-    let goal : y + n ≤ same = omega arith in goal
+in_card n region c le lt = grind (arith, div-mul-add)
 
 module _ (k : Shape) (l : layout.Shape) (laid : k ≡ shape_of l k.members) (shaped : IsWholeShape k) where
   cards_is : k.cards ≡ l.regions * l.cards
@@ -65,33 +43,23 @@ module _ (k : Shape) (l : layout.Shape) (laid : k ≡ shape_of l k.members) (sha
   regions_is = ap (λ (s : Shape). s.regions) laid
 
   some_cards : 0 < l.cards
-  some_cards = elim (cases_lt 0 l.cards) [
-    | inl lt ↦ lt
-    | inr le ↦ absurd (
-        let z : l.cards ≡ 0 = omega arith in
-        let none : l.regions * l.cards ≡ l.regions * 0 = ap (λ (m : ℕ). l.regions * m) z in
-        let n : ℕ = l.regions * l.cards in let none' : n ≡ l.regions * 0 = none in let e : k.cards ≡ n = cards_is in let pos : 0 < k.cards = shaped.5 in omega arith)
-  ]
+  some_cards = grind (arith, cards_is, shaped.5)
 
   module _ (region : ℕ) (lt : region < k.regions) where
     each : k.cards / k.regions ≡ l.cards
-    each = (λ i. cards_is i / regions_is i) ∙ mul-div_cancel_left l.cards (let e = regions_is in omega (arith, e, lt))
+    each = (λ i. cards_is i / regions_is i) ∙ mul-div_cancel_left l.cards (omega (arith, regions_is, lt))
 
     pub cards_within : region * (k.cards / k.regions) + k.cards / k.regions ≤ k.cards
-    cards_within = subst (λ (n : ℕ). region * n + n ≤ k.cards) (sym each) (let e = regions_is in let a = cards_in l.cards region l.regions some_cards (omega (arith, e, lt)) in
-        let y : ℕ = region * l.cards in let all : ℕ = l.regions * l.cards in let a' : y + l.cards ≤ all = a in let f : k.cards ≡ all = cards_is in let goal : y + l.cards ≤ k.cards = omega arith in goal)
+    cards_within = subst (λ (n : ℕ). region * n + n ≤ k.cards) (sym each) (omega (arith, mul-le-mul_right l.cards lt, suc-mul region l.cards, ap (λ (r : ℕ). r * l.cards) regions_is, cards_is))
 
     -- no slot of the region refers out of it
     pub closed_words : (words : List ℕ) → ((slot place : ℕ) → Crosses (table_of (ended l k words)) slot place → region_of l slot ≢ region)
         → (p n : ℕ) → p < k.slots → get_elem? words p ≡ some n → crosses k p n ≡ true → region * (k.cards / k.regions) ≤ slot_card k p → slot_card k p < region * (k.cards / k.regions) + k.cards / k.regions → ⊥
     closed_words words closed p n lt at cr le below =
-        let slots : k.slots ≡ slot_count l = ap (λ (s : Shape). s.slots) laid in
-        let span : k.span ≡ l.cards * l.slots = ap (λ (s : Shape). s.span) laid in
-        let card : slot_card k p ≡ layout.card_of l p = ap (λ (s : Shape). p / s.size) laid in
         closed p (n - 1) (record {
-          refers = word_refers (ended l k words) p n (omega (arith, lt, slots)) (at_take words (k.slots + k.cards) p n (omega (arith, lt)) at) (crosses_reference k p n cr);
-          across = λ e. crosses_apart k p n cr (ap (λ (s : ℕ). p / s) span ∙ (e ∙ ap (λ (s : ℕ). (n - 1) / s) (sym span)));
-        }) (sym (region_of_quotient l p) ∙ (ap (λ (c : ℕ). c / l.cards) (sym card)
+          refers = word_refers (ended l k words) p n (omega (arith, lt, ap (λ (s : Shape). s.slots) laid)) (at_take words (k.slots + k.cards) p n (omega (arith, lt)) at) (crosses_reference k p n cr);
+          across = crosses_apart (shape_of l k.members) p n (subst (λ (s : Shape). crosses s p n ≡ true) laid cr);
+        }) (sym (region_of_quotient l p) ∙ (ap (λ (s : Shape). p / s.size / l.cards) (sym laid)
         ∙ in_card l.cards region (slot_card k p) (subst (λ (m : ℕ). region * m ≤ slot_card k p) each le) (subst (λ (m : ℕ). slot_card k p < region * m + m) each below)))
 
     pub forgotten_is : (old new : List ℕ) → IsBegun (started k old) → IsBegun (started k new) → AreUnset k old new (λ x. (region * (k.cards / k.regions) ≤ x.0) × (x.0 < region * (k.cards / k.regions) + k.cards / k.regions))

@@ -1,6 +1,6 @@
 -- The least slot that refers into a region, slot by slot of a card.
 use Rattle.std.specs.Prelude.{◌≡◌, ◌+◌, ◌*◌, ◌%◌, ◌<◌, ◌≤◌}
-use Rattle.g1_race.specs.{ℕ, true, false, List, div-add-mod', mod-lt, div-lt_iff_lt-mul, Some, None, eq-eqb, sym, ap, ◌∙◌, subst, inl, inr, ⊎_elim, arith, some, some-injective, ℕ_discrete, get_elem?, cases_lt, true≢false, Shape, IsBegun, IsMarked, HasBit, slot_card, crosses, mark_word, region_at, started, IsNext, is_member, Into, IsLeastInto, IsLeastOfCard, card_below}
+use Rattle.g1_race.specs.{cases_eq, ℕ, true, false, List, div-add-mod', mod-lt, Some, None, eq-eqb, sym, ap, ◌∙◌, subst, inl, inr, ⊎_elim, arith, some, some-injective, get_elem?, cases_lt, true≢false, Shape, IsBegun, IsMarked, HasBit, slot_card, crosses, mark_word, region_at, started, IsNext, is_member, Into, IsLeastInto, IsLeastOfCard, card_below}
 
 -- a slot of a region's member
 
@@ -11,10 +11,7 @@ into_bit k words region p h clean i = ⊎_elim
     (h.covered p i.0 i.1 i.2 i.3)
 
 later : (k : Shape) (p q : ℕ) → 0 < k.size → slot_card k p < slot_card k q → p < q
-later k p q pos lt =
-    let a : p < slot_card k q * k.size = (div-lt_iff_lt-mul pos).0 lt in
-    let b : slot_card k q * k.size + q % k.size ≡ q = div-add-mod' q k.size in
-    let x : ℕ = slot_card k q * k.size in let r : ℕ = q % k.size in let a' : p < x = a in let b' : x + r ≡ q = b in let goal : p < q = omega arith in goal
+later k p q pos lt = grind arith
 
 -- where no card is dirty, each slot that refers into the region is on one of its members
 module _ (k : Shape) {words read : List ℕ} (same : read ≡ words) (region from : ℕ) (h : IsBegun (started k words)) (clean : (c : ℕ) → c < k.cards → get_elem? words (mark_word k c) ≡ some 1 → ⊥)
@@ -59,18 +56,17 @@ by_card k q card e = ap (λ (c : ℕ). c * k.size + q % k.size) (sym e) ∙ div-
 pub least_on : (k : Shape) (words : List ℕ) (card region i q : ℕ) → ((j : ℕ) → j < i → Into k words region (card * k.size + j) → ⊥) → slot_card k q ≡ card → Into k words region q → card * k.size + i ≤ q
 least_on k words card region i q none e x = elim (cases_lt (q % k.size) i) [
   | inl lt ↦ absurd (none (q % k.size) lt (subst (Into k words region) (sym (by_card k q card e)) x))
-  | inr le ↦ let b : card * k.size + q % k.size ≡ q = by_card k q card e in let y : ℕ = card * k.size in let r : ℕ = q % k.size in let b' : y + r ≡ q = b in let le' : i ≤ r = le in let goal : y + i ≤ q = omega arith in goal
+  | inr le ↦ omega (arith, by_card k q card e, le)
 ]
 
 pub none_next : (k : Shape) (words : List ℕ) (card region i r : ℕ) → get_elem? words (card * k.size + i) ≡ some r → ((crosses k (card * k.size + i) r ≡ true) × (region_at k r ≡ region) → ⊥) → ((j : ℕ) → j < i → Into k words region (card * k.size + j) → ⊥) → (j : ℕ) → j < i + 1 → Into k words region (card * k.size + j) → ⊥
-none_next k words card region i r at never none j lt x = pick (ℕ_discrete j i)
-  where
-    pick : Dec (j ≡ i) → ⊥
-    pick (yes e) =
-        let y : Into k words region (card * k.size + i) = subst (λ (m : ℕ). Into k words region (card * k.size + m)) e x in
-        let same : y.0 ≡ r = some-injective y.0 r (sym y.2 ∙ at) in
-        never (subst (λ (n : ℕ). crosses k (card * k.size + i) n ≡ true) same y.3, subst (λ (n : ℕ). region_at k n ≡ region) same y.4)
-    pick (no ne) = none j (omega (arith, lt, ne)) x
+none_next k words card region i r at never none j lt x = elim (cases_eq j i) [
+  | inl e ↦
+      let y : Into k words region (card * k.size + i) = subst (λ (m : ℕ). Into k words region (card * k.size + m)) e x in
+      let same : y.0 ≡ r = some-injective y.0 r (sym y.2 ∙ at) in
+      never (subst (λ (n : ℕ). crosses k (card * k.size + i) n ≡ true) same y.3, subst (λ (n : ℕ). region_at k n ≡ region) same y.4)
+  | inr ne ↦ none j (omega (arith, lt, ne)) x
+]
 
 pub none_on : (k : Shape) (words : List ℕ) (card region i p : ℕ) → 0 < k.size → k.size ≤ i → ((j : ℕ) → j < i → Into k words region (card * k.size + j) → ⊥) → slot_card k p ≡ card → Into k words region p → ⊥
 none_on k words card region i p pos le none e x = none (p % k.size) (let m : p % k.size < k.size = mod-lt p pos in omega (arith, m, le)) (subst (Into k words region) (sym (by_card k p card e)) x)

@@ -21,7 +21,6 @@ pub mod Numbers
 pub mod Words
 pub mod Draining
 pub mod PauseTable
-pub mod Fronts
 pub mod PauseStores
 pub mod FlagStores
 pub mod ClearWords

@@ -1,8 +1,9 @@
 -- How many references a redirect moves, and those that it has moved card by card.
 use Rattle.std.specs.Prelude.{◌≡◌, ◌+◌, ◌-◌, ◌*◌, ◌<◌, ◌≤◌}
-use Rattle.g1_race.specs.{ℕ, zero, suc, eqb, true, false, List, length, get_or, div-lt_iff_lt-mul, refl, sym, ap, ◌∙◌, subst, inl, inr, arith, eq-eqb, some, some-injective, get_elem?, and_from, and_parts, cases_lt, eqb-true, true≢false, false_from_ne_true, mul-le-mul_left, Shape, IsBegun, HasBit, slot_card, crosses, mark_word, as_number, region_at, started, word_count, Into, is_member, AreMoved, into_count, is_into, word_after, read_at, reads_as}
+use Rattle.g1_race.specs.{ℕ, zero, suc, eqb, true, false, List, get_or, div-lt_iff_lt-mul, refl, sym, ap, ◌∙◌, subst, inl, inr, arith, eq-eqb, some, get_elem?, and_from, and_parts, cases_lt, eqb-true, true≢false, false_from_ne_true, mul-le-mul_right, suc-mul, Shape, IsBegun, HasBit, slot_card, crosses, mark_word, as_number, region_at, started, Into, is_member, AreMoved, into_count, is_into, reads_as}
+use Rattle.g1_race.proofs.AtPause.{begun_read}
 use Rattle.g1_race.proofs.LeastInto.{into_bit}
-use Rattle.g1_race.proofs.Moving.{not_into, moved_none, moved_then}
+use Rattle.g1_race.proofs.Moving.{moved_away, moved_none, moved_then}
 
 -- how many there are
 
@@ -11,13 +12,11 @@ count_same k a b region first zero le h = refl
 count_same k a b region first (suc n) le h = λ i. count_same k a b region first n (omega arith) (λ p x y. h p x (omega (arith, y))) i + as_number (is_into k region (first + n) (h (first + n) (omega arith) (omega arith) i))
 
 pub count_more : (k : Shape) (words : List ℕ) (region first a b : ℕ) → into_count k words region first (a + b) ≡ into_count k words region first a + into_count k words region (first + a) b
-count_more k words region first a zero = ap (into_count k words region first) (let e : a + 0 ≡ a = omega arith in e) ∙ (let e : into_count k words region first a ≡ into_count k words region first a + 0 = omega arith in e)
+count_more k words region first a zero = omega (arith, ap (into_count k words region first) (let e : a + 0 ≡ a = omega arith in e))
 count_more k words region first a (suc b) =
     let e : a + suc b ≡ suc (a + b) = omega arith in
     let f : first + (a + b) ≡ first + a + b = omega arith in
-    let rest = count_more k words region first a b in
-    ap (into_count k words region first) e ∙ ((λ i. rest i + as_number (is_into k region (f i) (get_or words (f i) 0)))
-    ∙ (let x : ℕ = into_count k words region first a in let y : ℕ = into_count k words region (first + a) b in let z : ℕ = as_number (is_into k region (first + a + b) (get_or words (first + a + b) 0)) in let goal : x + y + z ≡ x + (y + z) = omega arith in goal))
+    omega (arith, ap (into_count k words region first) e, count_more k words region first a b, ap (λ (n : ℕ). as_number (is_into k region n (get_or words n 0))) f)
 
 pub count_one : (k : Shape) (words : List ℕ) (region first n : ℕ) → into_count k words region first (n + 1) ≡ into_count k words region first n + as_number (is_into k region (first + n) (get_or words (first + n) 0))
 count_one k words region first n = ap (into_count k words region first) (let e : n + 1 ≡ suc n = omega arith in e)
@@ -38,71 +37,51 @@ is_into_of k region p n cr e = and_from (crosses k p n) (eqb (region_at k n) reg
 
 module _ (k : Shape) (old mid : List ℕ) (from to low high : ℕ) (begun : IsBegun (started k old)) (apart : from ≡ to → ⊥) (le : low ≤ high) (within : high ≤ k.cards)
     (clean : (c : ℕ) → c < k.cards → get_elem? old (mark_word k c) ≡ some 1 → ⊥) (h : AreMoved k old mid from to 0 (low * k.size)) (none : (c : ℕ) → low ≤ c → c < high → is_member k mid from c ≡ false) where
-  abbrev a : ℕ
-  a = low * k.size
-
-  abbrev b : ℕ
-  b = high * k.size
-
   in_order : low * k.size ≤ high * k.size
-  in_order = let x : ℕ = k.size * low in let y : ℕ = k.size * high in let m : x ≤ y = mul-le-mul_left k.size le in let n : ℕ = a in let o : ℕ = b in let e : n ≡ x = omega arith in let f : o ≡ y = omega arith in omega arith
+  in_order = mul-le-mul_right k.size le
 
   all_slots : high * k.size ≤ k.slots
-  all_slots = let x : ℕ = k.size * high in let y : ℕ = k.size * k.cards in let m : x ≤ y = mul-le-mul_left k.size within in let o : ℕ = b in let f : o ≡ x = omega arith in let c : ℕ = k.cards * k.size in let g : c ≡ y = omega arith in let s : k.slots ≡ c = begun.shaped.0 in omega arith
+  all_slots = omega (arith, mul-le-mul_right k.size within, begun.shaped.0)
 
   none_old : (p n : ℕ) → low * k.size ≤ p → p < high * k.size → p < k.slots → get_elem? old p ≡ some n → is_into k from p n ≡ false
   none_old p n from_low below lt at = false_from_ne_true _ (λ is.
       let bit : HasBit k mid (slot_card k p, from) = h.kept (slot_card k p, from) (into_bit k old from p begun clean (into_is k old from p n lt at is)) in
       true≢false (sym (eq-eqb _ 1 bit) ∙ none (slot_card k p)
-      (elim (cases_lt (slot_card k p) low) [ inl under ↦ absurd (let x : p < low * k.size = (div-lt_iff_lt-mul begun.shaped.1).0 under in let m : ℕ = low * k.size in let x' : p < m = x in let y : m ≤ p = from_low in omega arith) | inr over ↦ over ])
+      (elim (cases_lt (slot_card k p) low) [ inl under ↦ absurd (let x : p < low * k.size = (div-lt_iff_lt-mul begun.shaped.1).0 under in omega (arith, x, from_low)) | inr over ↦ over ])
       ((div-lt_iff_lt-mul begun.shaped.1).1 below)))
 
-  here : (p : ℕ) → p < k.slots → get_elem? old p ≡ some (get_or old p 0)
-  here p lt = read_at old p (let s : length old ≡ word_count k = begun.sized in omega (arith, s, lt))
-
   pub passed : AreMoved k old mid from to 0 (high * k.size)
-  passed = subst (λ (n : ℕ). AreMoved k old mid from to 0 n) (let x : ℕ = a in let y : ℕ = b in let o : x ≤ y = in_order in let e : x + (y - x) ≡ y = omega arith in e)
+  passed = subst (λ (n : ℕ). AreMoved k old mid from to 0 n) (let e : low * k.size + (high * k.size - low * k.size) ≡ high * k.size = omega (arith, in_order) in e)
       (moved_then k old mid mid from to 0 (low * k.size) (high * k.size - low * k.size) apart begun h
       (moved_none k mid from to (0 + low * k.size) (high * k.size - low * k.size) (λ p n from_low below lt at.
-      let x : ℕ = low * k.size in let y : ℕ = high * k.size in let o : x ≤ y = in_order in let l : 0 + x ≤ p = from_low in let u : p < 0 + x + (y - x) = below in
-      let l' : x ≤ p = omega arith in let u' : p < y = omega arith in
-      none_old p n l' u' lt (sym (h.outside p lt (inr l)) ∙ at))))
+      none_old p n (omega (arith, from_low)) (omega (arith, below, in_order)) lt (sym (h.outside p lt (inr from_low)) ∙ at))))
 
   pub passed_count : into_count k old from 0 (high * k.size) ≡ into_count k old from 0 (low * k.size)
   passed_count =
-      let x : ℕ = low * k.size in let y : ℕ = high * k.size in let o : x ≤ y = in_order in
-      let e : y ≡ x + (y - x) = omega arith in
-      let zero_more : into_count k old from (0 + x) (y - x) ≡ 0 = count_none k old from (0 + x) (y - x) (λ p from_low below.
-      let l : x ≤ p = omega (arith, from_low) in let u : p < y = omega (arith, below, o) in let lt : p < k.slots = (let s : y ≤ k.slots = all_slots in omega (arith, s, u)) in
-      none_old p (get_or old p 0) l u lt (here p lt)) in
-      ap (into_count k old from 0) e ∙ (count_more k old from 0 x (y - x) ∙ (let i : ℕ = into_count k old from 0 x in let j : ℕ = into_count k old from (0 + x) (y - x) in let z : j ≡ 0 = zero_more in let goal : i + j ≡ i = omega arith in goal))
+      let none_more = count_none k old from (0 + low * k.size) (high * k.size - low * k.size) (λ p from_low below.
+      let lt : p < high * k.size = omega (arith, below, in_order) in none_old p (get_or old p 0) (omega (arith, from_low)) lt (omega (arith, all_slots, lt)) (begun_read k old p begun (omega (arith, all_slots, lt)))) in
+      ap (into_count k old from 0) (let e : high * k.size ≡ low * k.size + (high * k.size - low * k.size) = omega (arith, in_order) in e)
+      ∙ (count_more k old from 0 (low * k.size) (high * k.size - low * k.size) ∙ omega (arith, none_more))
 
   on_count : high < k.cards → into_count k old from 0 ((high + 1) * k.size) ≡ into_count k old from 0 (low * k.size) + into_count k mid from (high * k.size) k.size
   on_count lt =
-      let y : ℕ = high * k.size in
-      let e : (high + 1) * k.size ≡ y + k.size = omega arith in
-      let f : 0 + y ≡ y = omega arith in
-      let fits : y + k.size ≤ k.slots = (let x : ℕ = k.size * (high + 1) in let c : ℕ = k.size * k.cards in let m : x ≤ c = mul-le-mul_left k.size (let q : high + 1 ≤ k.cards = omega (arith, lt) in q) in let d : ℕ = k.cards * k.size in let g : d ≡ c = omega arith in let s : k.slots ≡ d = begun.shaped.0 in let j : x ≡ y + k.size = omega arith in omega arith) in
-      ap (into_count k old from 0) e ∙ (count_more k old from 0 y k.size ∙ (λ i. passed_count i + (ap (λ (n : ℕ). into_count k old from n k.size) f
-      ∙ count_same k old mid from y k.size fits (λ p from_low below. let in_heap : p < k.slots = omega (arith, below, fits) in sym (reads_as mid p (get_or old p 0) 0 (passed.outside p in_heap (inr (let l : y ≤ p = from_low in let goal : 0 + y ≤ p = omega arith in goal)) ∙ here p in_heap)))) i))
+      let fits : high * k.size + k.size ≤ k.slots = omega (arith, mul-le-mul_right k.size lt, suc-mul high k.size, begun.shaped.0) in
+      ap (into_count k old from 0) (let e : (high + 1) * k.size ≡ high * k.size + k.size = omega arith in e)
+      ∙ (count_more k old from 0 (high * k.size) k.size ∙ (λ i. passed_count i + (ap (λ (n : ℕ). into_count k old from n k.size) (let e : 0 + high * k.size ≡ high * k.size = omega arith in e)
+      ∙ count_same k old mid from (high * k.size) k.size fits (λ p from_low below. let in_heap : p < k.slots = omega (arith, below, fits) in sym (reads_as mid p (get_or old p 0) 0 (passed.outside p in_heap (inr (omega (arith, from_low))) ∙ begun_read k old p begun in_heap)))) i))
 
   -- and then the slots of the card, among words that a call read
   pub on_card : (read new : List ℕ) (count more : ℕ) → read ≡ mid → high < k.cards → count ≡ into_count k old from 0 (low * k.size) → count ≤ low * k.size → AreMoved k read new from to (high * k.size) k.size → more ≡ into_count k read from (high * k.size) k.size → more ≤ k.size
       → AreMoved k old new from to 0 ((high + 1) * k.size) × (count + more ≡ into_count k old from 0 ((high + 1) * k.size)) × (count + more ≤ (high + 1) * k.size)
   on_card read new count more same lt counted few there then_counted then_few =
-      let y : ℕ = high * k.size in
-      let e : y + k.size ≡ (high + 1) * k.size = omega arith in
-      let f : y ≡ 0 + y = omega arith in (
+      let e : high * k.size + k.size ≡ (high + 1) * k.size = omega arith in
+      let f : high * k.size ≡ 0 + high * k.size = omega arith in (
         subst (λ (n : ℕ). AreMoved k old new from to 0 n) e (moved_then k old mid new from to 0 (high * k.size) k.size apart begun passed (subst (λ (x : List ℕ × ℕ). AreMoved k x.0 new from to x.1 k.size) (λ i. (same i, f i)) there)),
         (λ i. counted i + (then_counted ∙ ap (λ (ws : List ℕ). into_count k ws from (high * k.size) k.size) same) i) ∙ sym (on_count lt),
-        (let x : ℕ = low * k.size in let o : x ≤ y = in_order in let g : count ≤ x = few in omega (arith, e, then_few)),
+        omega (arith, in_order, few, e, then_few),
       )
 
 -- after all of them none is left
 
 pub none_into : (k : Shape) (old mid : List ℕ) (from to p : ℕ) → IsBegun (started k old) → (from ≡ to → ⊥) → AreMoved k old mid from to 0 k.slots → Into k mid from p → ⊥
-none_into k old mid from to p begun apart h x =
-    let lt : p < k.slots = x.1 in
-    let was : get_elem? old p ≡ some (get_or old p 0) = read_at old p (let s : length old ≡ word_count k = begun.sized in omega (arith, s, lt)) in
-    let now : x.0 ≡ word_after k from to p (get_or old p 0) = some-injective x.0 (word_after k from to p (get_or old p 0)) (sym x.2 ∙ h.moved p (get_or old p 0) (omega arith) (omega (arith, lt)) lt was) in
-    not_into k from to p (get_or old p 0) begun.shaped.2 apart (subst (λ (m : ℕ). is_into k from p m ≡ true) now (is_into_of k from p x.0 x.3 x.4))
+none_into k old mid from to p begun apart h x = moved_away k old mid from to 0 k.slots p x.0 apart begun h (omega arith) (omega (arith, x.1)) x.1 x.2 (is_into_of k from p x.0 x.3 x.4)

@@ -1,30 +1,27 @@
 -- A redirect at a pause as a step of the plain table.
 use Rattle.std.specs.Prelude.{◌≡◌, ◌≢◌, ◌+◌, ◌/◌, ◌<◌, ◌≤◌, ◌&&◌, ◌||◌}
-use Rattle.g1_race.specs.{ℕ, zero, suc, cond, eqb, map, take, Bool, true, false, List, length, get_or, Option, Some, None, refl, sym, ap, ◌∙◌, subst, inl, inr, ⊎_elim, arith, ne_eqb, not, count_by, some, get_elem?, enumerate_from, filter_map, range_with_len, and_from, and_parts, cases_Bool, eqb-false, not-true, or_cases, or_left, or_right, get_or_default, get_or-map, length-map, length-take, count_by_more_no, count_by_more_yes, slot_count, region_of, pair_cmp, Table, enters, moved_target, moved_pair, moved, moved_count, pair_total, pair_exact, listed, unlisted, Kept, from_kept, to_kept, slot_of, Shape, IsBegun, IsPair, HasBit, slot_card, front, mark_word, as_number, started, word_count, shape_of, ended, refs_of, table_of, target_of_word, AreMovedAway, Acquires, into_count, is_into, word_after, card_below, in_row, at_take, at_untake, reads_as, take_all, read_at}
+use Rattle.g1_race.specs.{true_is, length-take-le, ℕ, zero, suc, cond, eqb, map, take, Bool, true, false, List, length, get_or, Option, Some, None, refl, sym, ap, ◌∙◌, subst, inl, inr, ⊎_elim, arith, ne_eqb, not, count_by, some, get_elem?, enumerate_from, filter_map, and_from, and_parts, cases_Bool, eqb-false, not-true, or_cases, or_left, or_right, get_or_default, get_or-map, length-map, length-take, count_by_more_no, count_by_more_yes, slot_count, region_of, pair_cmp, Table, enters, moved_target, moved_pair, moved, moved_count, pair_total, pair_exact, listed, unlisted, Kept, from_kept, to_kept, slot_of, Shape, IsBegun, IsPair, HasBit, slot_card, front, mark_word, as_number, started, shape_of, ended, refs_of, table_of, target_of_word, AreMovedAway, Acquires, into_count, is_into, word_after, card_below, in_row, take_all}
 use Rattle.std.specs.FinSet as set
-use Rattle.std.proofs.lemmas.List.FromFn.{fill_by_all, get_or-enumerate_from, length-enumerate_from}
+use Rattle.std.proofs.lemmas.List.{ext_get_or}
+use Rattle.std.proofs.lemmas.List.FromFn.{get_or-enumerate_from, length-enumerate_from}
 use Rattle.g1_layout.specs.Shape as layout
-use Rattle.g1_race.proofs.Ends.{recorded_set, refs_here, set_recorded}
+use Rattle.g1_race.proofs.Ends.{recorded_set, set_recorded}
 use Rattle.g1_race.proofs.PauseTable.{pending_word, slots_are, table_is, word_pending}
+use Rattle.g1_race.proofs.AtPause.{begun_read}
+use Rattle.g1_race.proofs.PauseStores.{slot_gives}
 use Rattle.g1_race.proofs.Moving.{moved_low}
-use Rattle.g1_race.proofs.MovedTargets.{enters_to, enters_from, enters_is, after_target, span_is}
+use Rattle.g1_race.proofs.MovedTargets.{enters_is, after_target, span_is}
+use Rattle.g1_race.proofs.FlagWords.{front_at}
+
+count_next : {X : Type 0} (p : X → Bool) (xs : List X) (i : ℕ) (d : X) → i < length xs → count_by p (take (i + 1) xs) ≡ count_by p (take i xs) + as_number (p (get_or xs i d))
+count_next p xs i d lt = elim (cases_Bool (p (get_or xs i d))) [
+  | inl e ↦ omega (arith, count_by_more_yes p xs i d lt e, ap as_number e)
+  | inr e ↦ omega (arith, count_by_more_no p xs i d lt e, ap as_number e)
+]
 
 module _ (k : Shape) (l : layout.Shape) (laid : k ≡ shape_of l k.members) where
-  here : (words : List ℕ) (p : ℕ) → IsBegun (started k words) → p < k.slots → get_elem? words p ≡ some (get_or words p 0)
-  here words p h lt = read_at words p (let s : length words ≡ word_count k = h.sized in omega (arith, s, lt))
-
-  ref_is : (words : List ℕ) (p n : ℕ) → p < k.slots → get_elem? words p ≡ some n → get_or (refs_of (ended l k words)) p None ≡ target_of_word n
-  ref_is words p n lt at = reads_as (refs_of (ended l k words)) p (target_of_word n) None (refs_here (ended l k words) p n (omega (arith, lt, slots_are k l laid)) (at_take words (k.slots + k.cards) p n (omega (arith, lt)) at))
-
   refs_len : (words : List ℕ) → IsBegun (started k words) → length (refs_of (ended l k words)) ≡ slot_count l
-  refs_len words h =
-      let s : length words ≡ word_count k = h.sized in
-      let a : length (front k words) ≡ k.slots + k.cards = (let m = length-take (k.slots + k.cards) words in omega (arith, m, s)) in
-      let b : length (take (slot_count l) (front k words)) ≡ slot_count l = (let m = length-take (slot_count l) (front k words) in omega (arith, m, a, slots_are k l laid)) in
-      length-map (take (slot_count l) (front k words)) target_of_word ∙ b
-
-  front_at : (a b : List ℕ) (i n : ℕ) → front k a ≡ front k b → i < k.slots + k.cards → get_elem? b i ≡ some n → get_elem? a i ≡ some n
-  front_at a b i n same lt at = (at_untake a (k.slots + k.cards) i n (subst (λ (ws : List ℕ). get_elem? ws i ≡ some n) (sym same) (at_take b (k.slots + k.cards) i n lt at))).1
+  refs_len words h = length-map (take (slot_count l) (front k words)) target_of_word ∙ length-take-le (slot_count l) (front k words) (omega (arith, h.sized, slots_are k l laid, length-take (k.slots + k.cards) words))
 
   module _ (old new : List ℕ) (from to : ℕ) (b : IsBegun (started k old)) (h : IsBegun (started k new)) (away : AreMovedAway k old new from to) (within : to < k.regions) where
     abbrev t : Table
@@ -36,32 +33,27 @@ module _ (k : Shape) (l : layout.Shape) (laid : k ≡ shape_of l k.members) wher
     abbrev refs : List (Option ℕ)
     refs = refs_of (ended l k old)
 
-    abbrev each : ℕ → Option ℕ
-    each p = moved_target l from to (p, get_or refs p None)
-
     word_now : (p : ℕ) → p < k.slots → get_elem? new p ≡ some (word_after k from to p (get_or old p 0))
-    word_now p lt = front_at new mid p _ away.emptied.front (omega (arith, lt)) (away.moved.moved p (get_or old p 0) (omega arith) (omega (arith, lt)) lt (here old p b lt))
+    word_now p lt = front_at k mid new p away.emptied.front (omega (arith, lt)) ∙ away.moved.moved p (get_or old p 0) (omega arith) (omega (arith, lt)) lt (begun_read k old p b lt)
 
     ref_old : (p : ℕ) → p < k.slots → get_or refs p None ≡ target_of_word (get_or old p 0)
-    ref_old p lt = ref_is old p (get_or old p 0) lt (here old p b lt)
+    ref_old p lt = slot_gives k l old p (get_or old p 0) laid lt (begun_read k old p b lt)
 
-    new_refs : refs_of (ended l k new) ≡ map each (range_with_len 0 (slot_count l))
-    new_refs = fill_by_all each (refs_of (ended l k new)) (slot_count l) None (refs_len new h) (λ p lt.
-        let low : p < k.slots = omega (arith, lt, slots_are k l laid) in
-        ref_is new p (word_after k from to p (get_or old p 0)) low (word_now p low) ∙ (after_target k l laid from to p (get_or old p 0) (moved_low k to (get_or old p 0) b.shaped within) ∙ ap (λ (o : Option ℕ). moved_target l from to (p, o)) (sym (ref_old p low))))
+    listed_len : length (enumerate_from 0 refs) ≡ slot_count l
+    listed_len = length-enumerate_from 0 refs ∙ refs_len old b
 
     listed_at : (p : ℕ) → p < slot_count l → get_or (enumerate_from 0 refs) p (0, None) ≡ (p, get_or refs p None)
-    listed_at p lt = let first : 0 + p ≡ p = omega arith in get_or-enumerate_from 0 refs p (0, None) (omega (arith, lt, refs_len old b)) ∙ ap (λ (q : ℕ). (q, get_or refs p None)) first
+    listed_at p lt = get_or-enumerate_from 0 refs p (0, None) (omega (arith, lt, refs_len old b)) ∙ ap (λ (q : ℕ). (q, get_or refs p None)) (let first : 0 + p ≡ p = omega arith in first)
 
-    moved_refs : map (moved_target l from to) (enumerate_from 0 refs) ≡ map each (range_with_len 0 (slot_count l))
-    moved_refs = fill_by_all each (map (moved_target l from to) (enumerate_from 0 refs)) (slot_count l) None (length-map (enumerate_from 0 refs) (moved_target l from to) ∙ (length-enumerate_from 0 refs ∙ refs_len old b)) (λ p lt.
-        get_or-map (moved_target l from to) (enumerate_from 0 refs) p (0, None) None (omega (arith, lt, length-enumerate_from 0 refs, refs_len old b)) ∙ ap (moved_target l from to) (listed_at p lt))
+    refs_moved : refs_of (ended l k new) ≡ map (moved_target l from to) (enumerate_from 0 refs)
+    refs_moved = ext_get_or None _ _ (refs_len new h ∙ sym (length-map (enumerate_from 0 refs) (moved_target l from to) ∙ listed_len)) (λ p below.
+        let lt : p < slot_count l = omega (arith, below, refs_len new h) in
+        let low : p < k.slots = omega (arith, lt, slots_are k l laid) in
+        slot_gives k l new p (word_after k from to p (get_or old p 0)) laid low (word_now p low) ∙ (after_target k l laid from to p (get_or old p 0) (moved_low k to (get_or old p 0) b.shaped within)
+        ∙ (ap (moved_target l from to) (ap (λ (o : Option ℕ). (p, o)) (sym (ref_old p low)) ∙ sym (listed_at p lt)) ∙ sym (get_or-map (moved_target l from to) (enumerate_from 0 refs) p (0, None) None (omega (arith, lt, listed_len))))))
 
-    mark_now : (c n : ℕ) → c < k.cards → get_elem? old (mark_word k c) ≡ some n → get_elem? new (mark_word k c) ≡ some n
-    mark_now c n lt at = front_at new mid (mark_word k c) n away.emptied.front (omega (arith, lt)) (away.moved.marks c lt ∙ at)
-
-    mark_then : (c n : ℕ) → c < k.cards → get_elem? new (mark_word k c) ≡ some n → get_elem? old (mark_word k c) ≡ some n
-    mark_then c n lt at = sym (away.moved.marks c lt) ∙ front_at mid new (mark_word k c) n (sym away.emptied.front) (omega (arith, lt)) at
+    mark_same : (c : ℕ) → c < k.cards → get_elem? new (mark_word k c) ≡ get_elem? old (mark_word k c)
+    mark_same c lt = front_at k mid new (mark_word k c) away.emptied.front (omega (arith, lt)) ∙ away.moved.marks c lt
 
     recorded_is : (x : ℕ × ℕ) → set.contains (moved from to t).recorded x ≡ ((set.contains t.recorded x || set.contains (set.from_list {R = pair_cmp} (filter_map (moved_pair l from to) (enumerate_from 0 refs))) x) && not (eqb x.1 from))
     recorded_is x =
@@ -74,16 +66,12 @@ module _ (k : Shape) (l : layout.Shape) (laid : k ≡ shape_of l k.members) wher
     gained : (x : ℕ × ℕ) → Acquires k old from to x → set.contains (set.from_list {R = pair_cmp} (filter_map (moved_pair l from to) (enumerate_from 0 refs))) x ≡ true
     gained x (p, n, lt, at, is, ne, e) =
         let low : p < slot_count l = omega (arith, lt, slots_are k l laid) in
-        let ref : get_or refs p None ≡ target_of_word n = ref_is old p n lt at in
-        let enter : enters l from (p, get_or refs p None) ≡ true = subst (λ (o : Option ℕ). enters l from (p, o) ≡ true) (sym ref) (enters_to k l laid from p n is) in
+        let enter : enters l from (p, get_or refs p None) ≡ true = ap (λ (o : Option ℕ). enters l from (p, o)) (slot_gives k l old p n laid lt at) ∙ (sym (enters_is k l laid from p n) ∙ is) in
         let outside : eqb (region_of l p) to ≡ false = ne_eqb (region_of l p) to (λ f. ne (ap (λ (s : ℕ). p / s) (span_is k l laid) ∙ f)) in
-        let makes : moved_pair l from to (p, get_or refs p None) ≡ Some (layout.card_of l p, to) = ap (λ (c : Bool). cond {A = Option (ℕ × ℕ)} c (Some (layout.card_of l p, to)) None) (and_from (enters l from (p, get_or refs p None)) (not (eqb (region_of l p) to)) enter (ap not outside)) in
-        let at_list : get_or (enumerate_from 0 refs) p (p, get_or refs p None) ≡ (p, get_or refs p None) = (let first : 0 + p ≡ p = omega arith in get_or-enumerate_from 0 refs p (p, get_or refs p None) (omega (arith, low, refs_len old b)) ∙ (λ i. (first i, reads_again p low i))) in
+        let makes : moved_pair l from to (p, get_or refs p None) ≡ Some (layout.card_of l p, to) = true_is (enters l from (p, get_or refs p None) && not (eqb (region_of l p) to)) (Some (layout.card_of l p, to)) None (and_from _ _ enter (ap not outside)) in
         subst (λ (y : ℕ × ℕ). set.contains (set.from_list {R = pair_cmp} (filter_map (moved_pair l from to) (enumerate_from 0 refs))) y ≡ true) (ap (λ (c : ℕ). (c, to)) (sym (card_is p)) ∙ e)
-        (unlisted pair_total pair_exact _ _ (to_kept (moved_pair l from to) (enumerate_from 0 refs) p (p, get_or refs p None) (layout.card_of l p, to) (omega (arith, low, length-enumerate_from 0 refs, refs_len old b)) at_list makes))
-      where
-        reads_again : (p : ℕ) → p < slot_count l → get_or refs p (get_or refs p None) ≡ get_or refs p None
-        reads_again p low = get_or_default refs p (get_or refs p None) None (omega (arith, low, refs_len old b))
+        (unlisted pair_total pair_exact _ _ (to_kept (moved_pair l from to) (enumerate_from 0 refs) p (p, get_or refs p None) (layout.card_of l p, to) (omega (arith, low, listed_len))
+        (get_or_default (enumerate_from 0 refs) p (p, get_or refs p None) (0, None) (omega (arith, low, listed_len)) ∙ listed_at p low) makes))
 
     pair_parts : (p : ℕ) (x : ℕ × ℕ) (c : Bool) → cond {A = Option (ℕ × ℕ)} c (Some (layout.card_of l p, to)) None ≡ Some x → (c ≡ true) × ((layout.card_of l p, to) ≡ x)
     pair_parts p x true e = (refl, cc)
@@ -91,21 +79,17 @@ module _ (k : Shape) (l : layout.Shape) (laid : k ≡ shape_of l k.members) wher
 
     kept_bit : (x : ℕ × ℕ) → Kept (moved_pair l from to) (enumerate_from 0 refs) x → HasBit k mid x × IsPair k x
     kept_bit x (p, slot, below, at, makes) =
-        let low : p < slot_count l = omega (arith, below, length-enumerate_from 0 refs, refs_len old b) in
-        let lt : p < k.slots = omega (arith, low, slots_are k l laid) in
-        let is : moved_pair l from to (p, get_or refs p None) ≡ Some x = ap (moved_pair l from to) (slot_of refs p slot below at) ∙ makes in
-        let q = pair_parts p x (enters l from (p, get_or refs p None) && not (eqb (region_of l p) to)) is in
+        let lt : p < k.slots = omega (arith, below, listed_len, slots_are k l laid) in
+        let q = pair_parts p x (enters l from (p, get_or refs p None) && not (eqb (region_of l p) to)) (ap (moved_pair l from to) (slot_of refs p slot below at) ∙ makes) in
         let c = and_parts (enters l from (p, get_or refs p None)) (not (eqb (region_of l p) to)) q.0 in
-        let into : is_into k from p (get_or old p 0) ≡ true = enters_from k l laid from p (get_or old p 0) (subst (λ (o : Option ℕ). enters l from (p, o) ≡ true) (ref_old p lt) c.0) in
+        let into : is_into k from p (get_or old p 0) ≡ true = enters_is k l laid from p (get_or old p 0) ∙ (ap (λ (o : Option ℕ). enters l from (p, o)) (sym (ref_old p lt)) ∙ c.0) in
         let ne : p / k.span ≢ to = λ e. eqb-false (region_of l p) to (not-true (eqb (region_of l p) to) c.1) (ap (λ (s : ℕ). p / s) (sym (span_is k l laid)) ∙ e) in
-        let bit : HasBit k mid (slot_card k p, to) = away.moved.has p (get_or old p 0) (omega arith) (omega (arith, lt)) lt (here old p b lt) into ne in
-        let same : (slot_card k p, to) ≡ x = ap (λ (d : ℕ). (d, to)) (card_is p) ∙ q.1 in
-        (subst (HasBit k mid) same bit, subst (IsPair k) same (card_below k p b.shaped lt, within))
+        subst (λ (y : ℕ × ℕ). HasBit k mid y × IsPair k y) (ap (λ (d : ℕ). (d, to)) (card_is p) ∙ q.1) (away.moved.has p (get_or old p 0) (omega arith) (omega (arith, lt)) lt (begun_read k old p b lt) into ne, (card_below k p b.shaped lt, within))
 
     pub moved_is : table_of (ended l k new) ≡ moved from to (table_of (ended l k old))
-    moved_is = table_is k l laid new (moved from to t) h refl (new_refs ∙ sym moved_refs)
-        (λ c p. let w = pending_word k l laid new c p in word_pending k l laid old c w.0 (mark_then c 1 w.0 w.1))
-        (λ c p. let w = pending_word k l laid old c p in word_pending k l laid new c w.0 (mark_now c 1 w.0 w.1))
+    moved_is = table_is k l laid new (moved from to t) h refl refs_moved
+        (λ c p. let w = pending_word k l laid new c p in word_pending k l laid old c w.0 (sym (mark_same c w.0) ∙ w.1))
+        (λ c p. let w = pending_word k l laid old c p in word_pending k l laid new c w.0 (mark_same c w.0 ∙ w.1))
         (λ x pair bit.
         let out : x.1 ≢ from = λ e. away.emptied.clear x pair.0 e (in_row k x b.shaped pair) bit in
         recorded_is x ∙ and_from _ _ (⊎_elim
@@ -124,17 +108,10 @@ module _ (k : Shape) (l : layout.Shape) (laid : k ≡ shape_of l k.members) wher
     counted zero le = refl
     counted (suc i) le =
         let low : i < slot_count l = omega arith in
-        let lt : i < k.slots = omega (arith, low, slots_are k l laid) in
-        let inside : i < length (enumerate_from 0 refs) = omega (arith, low, length-enumerate_from 0 refs, refs_len old b) in
-        let is : is_into k from i (get_or old i 0) ≡ enters l from (get_or (enumerate_from 0 refs) i (0, None)) = enters_is k l laid from i (get_or old i 0) ∙ (ap (λ (o : Option ℕ). enters l from (i, o)) (sym (ref_old i lt)) ∙ ap (enters l from) (sym (listed_at i low))) in
-        let first : 0 + i ≡ i = omega arith in
-        let last : into_count k old from 0 (suc i) ≡ into_count k old from 0 i + as_number (is_into k from i (get_or old i 0)) = (λ j. into_count k old from 0 i + as_number (is_into k from (first j) (get_or old (first j) 0))) in
-        let more : suc i ≡ i + 1 = omega arith in
-        let rest = counted i (omega (arith, le)) in
-        ap (λ (n : ℕ). count_by (enters l from) (take n (enumerate_from 0 refs))) more ∙ elim (cases_Bool (is_into k from i (get_or old i 0))) [
-          | inl yes_it ↦ count_by_more_yes (enters l from) (enumerate_from 0 refs) i (0, None) inside (sym is ∙ yes_it) ∙ (ap (λ (n : ℕ). n + 1) rest ∙ sym (last ∙ ap (λ (c : Bool). into_count k old from 0 i + as_number c) yes_it))
-          | inr no_it ↦ count_by_more_no (enters l from) (enumerate_from 0 refs) i (0, None) inside (sym is ∙ no_it) ∙ (rest ∙ sym (last ∙ (ap (λ (c : Bool). into_count k old from 0 i + as_number c) no_it ∙ (let x : ℕ = into_count k old from 0 i in let e : x + 0 ≡ x = omega arith in e))))
-        ]
+        let is : is_into k from i (get_or old i 0) ≡ enters l from (get_or (enumerate_from 0 refs) i (0, None)) = enters_is k l laid from i (get_or old i 0) ∙ ap (enters l from) (ap (λ (o : Option ℕ). (i, o)) (sym (ref_old i (omega (arith, low, slots_are k l laid)))) ∙ sym (listed_at i low)) in
+        let last = ap (λ (n : ℕ). as_number (is_into k from n (get_or old n 0))) (let e : 0 + i ≡ i = omega arith in e) in
+        let next = ap (λ (n : ℕ). count_by (enters l from) (take n (enumerate_from 0 refs))) (let e : suc i ≡ i + 1 = omega arith in e) in
+        omega (arith, next, count_next (enters l from) (enumerate_from 0 refs) i (0, None) (omega (arith, low, listed_len)), last, ap as_number is, counted i (omega (arith, le)))
 
     pub count_is : into_count k old from 0 k.slots ≡ moved_count from (table_of (ended l k old))
-    count_is = ap (into_count k old from 0) (slots_are k l laid) ∙ (sym (counted (slot_count l) (omega arith)) ∙ ap (count_by (enters l from)) (take_all (enumerate_from 0 refs) (slot_count l) (omega (arith, length-enumerate_from 0 refs, refs_len old b))))
+    count_is = ap (into_count k old from 0) (slots_are k l laid) ∙ (sym (counted (slot_count l) (omega arith)) ∙ ap (count_by (enters l from)) (take_all (enumerate_from 0 refs) (slot_count l) (omega (arith, listed_len))))

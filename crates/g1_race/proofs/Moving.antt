@@ -1,7 +1,7 @@
 -- References that are moved from one region to another at a pause, slot by slot.
-use Rattle.std.specs.Prelude.{◌^◌, ◌≡◌, ◌≢◌, ◌+◌, ◌-◌, ◌*◌, ◌/◌, ◌%◌, ◌<◌, ◌≤◌}
-use Rattle.g1_race.specs.{ℕ, true, false, List, length, set, get_or, mod-lt, refl, sym, ap, ◌∙◌, subst, inl, inr, ⊎_elim, arith, some, some-injective, get_elem?, and_parts, cases_Bool, cases_lt, eqb-true, true≢false, div-mul-add, set_else, set_here, Shape, In, IsBegun, IsWholeShape, HasBit, slot_card, crosses, mark_word, region_at, started, word_count, Notes, AreMoved, Acquires, is_into, moved_word, word_after, mark_apart, bit_as, same_bits, false_is, read_at, true_is}
-use Rattle.g1_race.proofs.AtPause.{begun_placed}
+use Rattle.std.specs.Prelude.{◌^◌, ◌≡◌, ◌≢◌, ◌⊎◌, ◌+◌, ◌-◌, ◌*◌, ◌/◌, ◌%◌, ◌<◌, ◌≤◌}
+use Rattle.g1_race.specs.{ℕ, true, false, List, length, set, get_or, mod-lt, refl, sym, ap, ◌∙◌, subst, inl, inr, ⊎_elim, arith, some, some-injective, get_elem?, and_parts, cases_Bool, cases_lt, eqb-true, true≢false, div-mul-add, set_else, set_here, Shape, In, IsBegun, IsWholeShape, HasBit, slot_card, crosses, mark_word, region_at, started, word_count, Notes, AreMoved, Acquires, is_into, moved_word, word_after, mark_apart, bit_as, same_bits, false_is, true_is}
+use Rattle.g1_race.proofs.AtPause.{begun_placed, begun_read}
 use Rattle.g1_race.proofs.Ends.{crosses_apart}
 use Rattle.g1_race.proofs.PauseStores.{slot_in}
 use Rattle.g1_race.proofs.StoreCalls.{other_region}
@@ -9,29 +9,22 @@ use Rattle.g1_race.proofs.StoreCalls.{other_region}
 -- the word of a moved reference
 
 pub moved_region : (k : Shape) (to n : ℕ) → 0 < k.span → region_at k (moved_word k to n) ≡ to
-moved_region k to n pos =
-    let a : ℕ = to * k.span in let r : ℕ = (n - 1) % k.span in
-    ap (λ (m : ℕ). m / k.span) (let e : a + r + 1 - 1 ≡ a + r = omega arith in e) ∙ div-mul-add to k.span r (mod-lt (n - 1) pos)
+moved_region k to n pos = ap (λ (m : ℕ). m / k.span) (let e : to * k.span + (n - 1) % k.span + 1 - 1 ≡ to * k.span + (n - 1) % k.span = omega arith in e) ∙ div-mul-add to k.span ((n - 1) % k.span) (mod-lt (n - 1) pos)
 
 pub moved_fits : (k : Shape) (to n : ℕ) → IsWholeShape k → to < k.regions → moved_word k to n ≤ k.slots
-moved_fits k to n shaped lt = let a : ℕ = to * k.span in let r : ℕ = (n - 1) % k.span in let h : a + r < k.slots = slot_in k to r shaped lt (mod-lt (n - 1) shaped.2) in let goal : a + r + 1 ≤ k.slots = omega arith in goal
+moved_fits k to n shaped lt = omega (arith, slot_in k to ((n - 1) % k.span) shaped lt (mod-lt (n - 1) shaped.2))
 
 pub moved_low : (k : Shape) (to n : ℕ) → IsWholeShape k → to < k.regions → moved_word k to n < 2 ^ 32
-moved_low k to n shaped lt = let fits : moved_word k to n ≤ k.slots = moved_fits k to n shaped lt in let few : k.slots < 2 ^ 32 = shaped.3 in omega (arith, fits, few)
+moved_low k to n shaped lt = omega (arith, moved_fits k to n shaped lt, shaped.3)
 
 pub moved_crosses : (k : Shape) (to p n : ℕ) → IsWholeShape k → to < k.regions → p / k.span ≢ to → crosses k p (moved_word k to n) ≡ true
 moved_crosses k to p n shaped lt ne = let pos = shaped.2 in other_region k p (to * k.span + (n - 1) % k.span) (moved_word k to n) refl (moved_low k to n shaped lt) (λ e. ne (e ∙ div-mul-add to k.span ((n - 1) % k.span) (mod-lt (n - 1) pos)))
 
 -- no moved reference refers into the region that it left
-pub not_into : (k : Shape) (from to p n : ℕ) → 0 < k.span → (from ≡ to → ⊥) → is_into k from p (word_after k from to p n) ≡ true → ⊥
+not_into : (k : Shape) (from to p n : ℕ) → 0 < k.span → (from ≡ to → ⊥) → is_into k from p (word_after k from to p n) ≡ true → ⊥
 not_into k from to p n pos apart h = elim (cases_Bool (is_into k from p n)) [
-  | inl yes_it ↦
-      let word : word_after k from to p n ≡ moved_word k to n = true_is (is_into k from p n) (moved_word k to n) n yes_it in
-      let into = (and_parts _ _ (subst (λ (m : ℕ). is_into k from p m ≡ true) word h)).1 in
-      apart (sym (eqb-true (region_at k (moved_word k to n)) from into) ∙ moved_region k to n pos)
-  | inr no_it ↦
-      let word : word_after k from to p n ≡ n = false_is (is_into k from p n) (moved_word k to n) n no_it in
-      true≢false (sym (subst (λ (m : ℕ). is_into k from p m ≡ true) word h) ∙ no_it)
+  | inl yes_it ↦ apart (sym (eqb-true (region_at k (moved_word k to n)) from (and_parts _ _ (subst (λ (m : ℕ). is_into k from p m ≡ true) (true_is (is_into k from p n) (moved_word k to n) n yes_it) h)).1) ∙ moved_region k to n pos)
+  | inr no_it ↦ true≢false (sym (subst (λ (m : ℕ). is_into k from p m ≡ true) (false_is (is_into k from p n) (moved_word k to n) n no_it) h) ∙ no_it)
 ]
 
 -- one slot
@@ -47,33 +40,27 @@ module _ (k : Shape) (old mid : List ℕ) (from to p n : ℕ) (b : IsBegun (star
   bits : (x : ℕ × ℕ) → HasBit k mid x → HasBit k new x
   bits x = bit_as k mid new x (same_bits k mid p word (omega (arith, lt)))
 
-  bits_back : (x : ℕ × ℕ) → HasBit k new x → HasBit k mid x
-  bits_back x = bit_as k new mid x (λ y. sym (same_bits k mid p word (omega (arith, lt)) y))
-
-  begun_moved : IsBegun (started k (set mid p (moved_word k to n)))
-  begun_moved = begun_placed k mid p word lt (inl (moved_fits k to n b.shaped low)) (λ cr. inl (subst (λ (r : ℕ). HasBit k mid (slot_card k p, r)) (sym (moved_region k to n b.shaped.2)) (notes.has (slot_card k p, to) (has (λ e. crosses_apart k p word cr (e ∙ sym (moved_region k to n b.shaped.2))))))) h
-
   same : (q : ℕ) → (p < k.slots) → q ≢ p → q < k.slots + k.cards → get_elem? new q ≡ get_elem? old q
   same q here ne below = set_else mid p q word ne ∙ notes.front q below
 
-  moved_one : AreMoved k old (set mid p (moved_word k to n)) from to p 1
-  moved_one = record {
-    moved = λ q m le below inside there.
-        let e : q ≡ p = omega (arith, le, below) in
-        let one : m ≡ n = some-injective m n (sym there ∙ (ap (λ (j : ℕ). get_elem? old j) e ∙ at)) in
-        ap (λ (j : ℕ). get_elem? new j) e ∙ (set_here mid p word (let s : length mid ≡ word_count k = h.sized in omega (arith, s, lt)) ∙ ap (λ (w : ℕ). some w)
-        (sym (ap (λ (j : ℕ). word_after k from to j m) e ∙ (ap (λ (j : ℕ). word_after k from to p j) one ∙ true_is (is_into k from p n) word n into))));
-    outside = λ q inside apart. same q lt (λ e. ⊎_elim (λ (a : q < p). absurd (omega (arith, a, e))) (λ (a : p + 1 ≤ q). absurd (omega (arith, a, e))) apart) (omega (arith, inside));
-    marks = λ c below. same (mark_word k c) lt (λ e. mark_apart k p c lt e) (omega (arith, below));
-    kept = λ x was. bits x (notes.kept x was);
-    only = λ x pair is. ⊎_elim (λ (u : HasBit k old x). inl u) (λ (i : In xs x). let g = gain x i in inr (p, n, lt, at, into, g.0, g.1)) (notes.only x pair (bits_back x is));
-    has = λ q m le below inside there is ne.
-        let e : p ≡ q = omega (arith, le, below) in
-        subst (λ (j : ℕ). HasBit k new (slot_card k j, to)) e (bits (slot_card k p, to) (notes.has (slot_card k p, to) (has (λ f. ne (ap (λ (j : ℕ). j / k.span) (sym e) ∙ f)))));
-  }
-
   pub moved_slot : IsBegun (started k (set mid p (moved_word k to n))) × AreMoved k old (set mid p (moved_word k to n)) from to p 1
-  moved_slot = (begun_moved, moved_one)
+  moved_slot = (
+    begun_placed k mid p word lt (inl (moved_fits k to n b.shaped low)) (λ cr. inl (subst (λ (r : ℕ). HasBit k mid (slot_card k p, r)) (sym (moved_region k to n b.shaped.2)) (notes.has (slot_card k p, to) (has (λ e. crosses_apart k p word cr (e ∙ sym (moved_region k to n b.shaped.2))))))) h,
+    record {
+      moved = λ q m le below inside there.
+          let e : q ≡ p = omega (arith, le, below) in
+          let one : m ≡ n = some-injective m n (sym there ∙ (ap (λ (j : ℕ). get_elem? old j) e ∙ at)) in
+          ap (λ (j : ℕ). get_elem? new j) e ∙ (set_here mid p word (let s : length mid ≡ word_count k = h.sized in omega (arith, s, lt)) ∙ ap (λ (w : ℕ). some w)
+          (sym (ap (λ (j : ℕ). word_after k from to j m) e ∙ (ap (λ (j : ℕ). word_after k from to p j) one ∙ true_is (is_into k from p n) word n into))));
+      outside = λ q inside apart. same q lt (λ e. ⊎_elim (λ (a : q < p). absurd (omega (arith, a, e))) (λ (a : p + 1 ≤ q). absurd (omega (arith, a, e))) apart) (omega (arith, inside));
+      marks = λ c below. same (mark_word k c) lt (λ e. mark_apart k p c lt e) (omega (arith, below));
+      kept = λ x was. bits x (notes.kept x was);
+      only = λ x pair is. ⊎_elim (λ (u : HasBit k old x). inl u) (λ (i : In xs x). let g = gain x i in inr (p, n, lt, at, into, g.0, g.1)) (notes.only x pair (bit_as k new mid x (λ y. sym (same_bits k mid p word (omega (arith, lt)) y)) is));
+      has = λ q m le below inside there is ne.
+          let e : p ≡ q = omega (arith, le, below) in
+          subst (λ (j : ℕ). HasBit k new (slot_card k j, to)) e (bits (slot_card k p, to) (notes.has (slot_card k p, to) (has (λ f. ne (ap (λ (j : ℕ). j / k.span) (sym e) ∙ f)))));
+    },
+  )
 
 -- several slots
 
@@ -87,14 +74,18 @@ moved_none k words from to first count none = record {
   has = λ p n le lt inside at is ne. absurd (true≢false (sym is ∙ none p n le lt inside at));
 }
 
+-- no moved slot still refers into the region
+pub moved_away : (k : Shape) (old mid : List ℕ) (from to first a p n : ℕ) → (from ≡ to → ⊥) → IsBegun (started k old) → AreMoved k old mid from to first a → first ≤ p → p < first + a → p < k.slots → get_elem? mid p ≡ some n → is_into k from p n ≡ true → ⊥
+moved_away k old mid from to first a p n apart begun h le low inside at is = not_into k from to p (get_or old p 0) begun.shaped.2 apart
+    (subst (λ (m : ℕ). is_into k from p m ≡ true) (some-injective n (word_after k from to p (get_or old p 0)) (sym at ∙ h.moved p (get_or old p 0) le low inside (begun_read k old p begun inside))) is)
+
 pub moved_then : (k : Shape) (old mid new : List ℕ) (from to first a b : ℕ) → (from ≡ to → ⊥) → IsBegun (started k old) → AreMoved k old mid from to first a → AreMoved k mid new from to (first + a) b → AreMoved k old new from to first (a + b)
 moved_then k old mid new from to first a b apart begun h g = record {
   moved = λ p n le lt inside at. elim (cases_lt p (first + a)) [
     | inl low ↦ g.outside p inside (inl low) ∙ h.moved p n le low inside at
     | inr high ↦ g.moved p n high (omega (arith, lt)) inside (h.outside p inside (inr high) ∙ at)
   ];
-  outside = λ p inside out. g.outside p inside (⊎_elim (λ (x : p < first). inl (omega (arith, x))) (λ (x : first + (a + b) ≤ p). inr (omega (arith, x))) out)
-      ∙ h.outside p inside (⊎_elim (λ (x : p < first). inl x) (λ (x : first + (a + b) ≤ p). inr (omega (arith, x))) out);
+  outside = λ p inside out. g.outside p inside (let later : (p < first + a) ⊎ (first + a + b ≤ p) = grind arith in later) ∙ h.outside p inside (let here : (p < first) ⊎ (first + a ≤ p) = grind arith in here);
   marks = λ c below. g.marks c below ∙ h.marks c below;
   kept = λ x was. g.kept x (h.kept x was);
   only = λ x pair is. ⊎_elim (λ (u : HasBit k mid x). h.only x pair u) (λ (u : Acquires k mid from to x). inr (gains_back u)) (g.only x pair is);
@@ -104,9 +95,6 @@ moved_then k old mid new from to first a b apart begun h g = record {
   ];
 }
   where
-    here : (p : ℕ) → p < k.slots → get_elem? old p ≡ some (get_or old p 0)
-    here p inside = read_at old p (let s : length old ≡ word_count k = begun.sized in omega (arith, s, inside))
-
     gains_back : {x : ℕ × ℕ} → Acquires k mid from to x → Acquires k old from to x
     gains_back {x} u = (u.0, u.1, u.2, was u.0 u.1 u.2 u.3 u.4, u.4, u.5, u.6)
       where
@@ -114,7 +102,7 @@ moved_then k old mid new from to first a b apart begun h g = record {
         was p n inside at is = elim (cases_lt p first) [
           | inl low ↦ sym (h.outside p inside (inl low)) ∙ at
           | inr le ↦ elim (cases_lt p (first + a)) [
-            | inl low ↦ absurd (not_into k from to p (get_or old p 0) begun.shaped.2 apart (subst (λ (m : ℕ). is_into k from p m ≡ true) (some-injective n (word_after k from to p (get_or old p 0)) (sym at ∙ h.moved p (get_or old p 0) le low inside (here p inside))) is))
+            | inl low ↦ absurd (moved_away k old mid from to first a p n apart begun h le low inside at is)
             | inr high ↦ sym (h.outside p inside (inr high)) ∙ at
           ]
         ]

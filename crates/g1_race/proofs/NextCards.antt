@@ -11,12 +11,7 @@ mark_is_not k words card n at ne = ne_eqb _ 1 (λ e. ne (sym (reads_as words (ma
 
 -- there are fewer than 2 ^ 32
 pub cards_fit : (k : Shape) → IsWholeShape k → k.cards < 2 ^ 32
-cards_fit k shaped =
-    let n : ℕ = k.cards * k.size in
-    let e : k.slots ≡ n = shaped.0 in
-    let one : 1 ≤ k.size = omega (arith, shaped.1) in
-    let le : k.cards * 1 ≤ n = mul-le-mul_left k.cards one in
-    omega (arith, le, e, shaped.3)
+cards_fit k shaped = omega (arith, mul-le-mul_left k.cards (let one : 1 ≤ k.size = omega (arith, shaped.1) in one), shaped.0, shaped.3)
 
 -- back to its word
 pub marked_word : (k : Shape) (words : List ℕ) (card : ℕ) → IsBegun (started k words) → card < k.cards → is_marked k words card ≡ true → get_elem? words (mark_word k card) ≡ some 1
@@ -39,11 +34,9 @@ module _ (k : Shape) {words read : List ℕ} (same : read ≡ words) (from card 
 
   member_bit : (i x : ℕ) → x ≡ card + i → place + i < 64 → bit_at (get_or words (bit_word k (x, region)) 0) (bit_place k (x, region)) ≡ bit_at rest i
   member_bit i x is lt =
-      let p : place ≡ card % 64 = f in
-      let q : x / 64 ≡ card / 64 = omega arith in
-      let low : x % 64 ≡ place + i = omega arith in
-      let word : bit_word k (x, region) ≡ at = ap (λ (m : ℕ). k.slots + k.cards + (region * k.row + m)) q ∙ sym e in
-      ap (λ (n : ℕ). bit_at n (x % 64)) (ap (λ (j : ℕ). get_or words j 0) word ∙ (ap (λ (l : List ℕ). get_or l at 0) (sym same) ∙ reads_as read at found 0 there)) ∙ (ap (λ (j : ℕ). bit_at found j) low ∙ sym (bit_after found place i))
+      let word : bit_word k (x, region) ≡ at = ap (λ (m : ℕ). k.slots + k.cards + (region * k.row + m)) (let q : x / 64 ≡ card / 64 = omega (arith, f) in q) ∙ sym e in
+      ap (λ (n : ℕ). bit_at n (x % 64)) (ap (λ (j : ℕ). get_or words j 0) word ∙ (ap (λ (l : List ℕ). get_or l at 0) (sym same) ∙ reads_as read at found 0 there))
+      ∙ (ap (λ (j : ℕ). bit_at found j) (let low : x % 64 ≡ place + i = omega (arith, f) in low) ∙ sym (bit_after found place i))
 
   not_member : (i x : ℕ) → x ≡ card + i → place + i < 64 → bit_at rest i ≡ 0 → is_member k words region x ≡ false
   not_member i x is lt z = ne_eqb _ 1 (λ o. absurd (let a : 0 ≡ 1 = sym z ∙ (sym (member_bit i x is lt) ∙ o) in omega arith))
@@ -58,11 +51,8 @@ module _ (k : Shape) {words read : List ℕ} (same : read ≡ words) (from card 
     abbrev tz : ℕ
     tz = trailing_zeros w64 rest
 
-    small : rest < 2 ^ 64
-    small = let r : ℕ = rest in let le : r ≤ found = div-le_self found (2 ^ place) in let goal : r < 2 ^ 64 = omega arith in goal
-
     zeros : (tz < 64) × (bit_at rest tz ≡ 1) × ((i : ℕ) → i < tz → bit_at rest i ≡ 0)
-    zeros = bit_at-trailing_zeros w64 rest (let r : ℕ = rest in let ne : r ≢ 0 = some_left in let goal : 0 < r = omega arith in goal) small
+    zeros = bit_at-trailing_zeros w64 rest (let r : ℕ = rest in let ne : r ≢ 0 = some_left in let goal : 0 < r = omega arith in goal) (omega (arith, div-le_self found (2 ^ place)))
 
     inside : place + tz < 64
     inside = elim (cases_lt (place + tz) 64) [
@@ -71,11 +61,9 @@ module _ (k : Shape) {words read : List ℕ} (same : read ≡ words) (from card 
     ]
 
     none_until : (x : ℕ) → from ≤ x → x < card + tz → is_member k words region x ≡ false
-    none_until x low lt = let t : ℕ = tz in let lt' : x < card + t = lt in let in' : place + t < 64 = inside in elim (cases_lt x card) [
+    none_until x low lt = elim (cases_lt x card) [
       | inl before ↦ none x low before
-      | inr le ↦
-          let small_i : x - card < t = omega arith in
-          not_member (x - card) x (omega arith) (let goal : place + (x - card) < 64 = omega arith in goal) (zeros.2 (x - card) small_i)
+      | inr le ↦ not_member (x - card) x (omega (arith, le)) (omega (arith, inside, le, lt)) (zeros.2 (x - card) (omega (arith, le, lt)))
     ]
 
     pub next_found : (limit : ℕ) → from ≤ card → card + tz < limit → IsNext (is_member k words region) limit from (Some (card + tz))

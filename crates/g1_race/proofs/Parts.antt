@@ -22,9 +22,6 @@ module _ (m : ℕ) (l : layout.Shape) (words : List ℕ) (h : IsEnded (shape_of 
   sized : length end.words ≡ slot_count l + card_count l
   sized = length-take-le (slot_count l + card_count l) words (let e = h.begun.sized in omega arith)
 
-  slots : length (refs_of end) ≡ slot_count l
-  slots = length-map (take (slot_count l) end.words) target_of_word ∙ length-take-le (slot_count l) end.words (omega (arith, sized))
-
   places : All (λ t. IfSome t (λ p. p < slot_count l)) (refs_of end)
   places i d lt = fits (get_or (refs_of end) i d) (at_unmap target_of_word (take (slot_count l) end.words) i (get_or (refs_of end) i d) (at_read (refs_of end) i d lt))
     where
@@ -32,15 +29,12 @@ module _ (m : ℕ) (l : layout.Shape) (words : List ℕ) (h : IsEnded (shape_of 
       fits None x = tt
       fits (Some p) x = let there = at_untake end.words (slot_count l) i x.0 x.1 in let is = target_back x.0 p x.2 in let le : x.0 ≤ slot_count l = low_word (shape_of l m) x.0 (h.begun.bounded i x.0 there.0 (at_untake words (slot_count l + card_count l) i x.0 there.1).1) is.1 in let goal : p < slot_count l = omega (arith, le, is.0) in goal
 
-  ended_parts : ArePartsOf l (refs_of end) (marks_of end) end.pairs
-  ended_parts = record {
-    slots = slots;
+  -- lists that are equal to those of the table
+  pub parts_fit : (refs : List (Option ℕ)) (marks : List Bool) (pairs : List (ℕ × ℕ)) → refs ≡ refs_of end → marks ≡ marks_of end → pairs ≡ end.pairs → ArePartsOf l refs marks pairs
+  parts_fit refs marks pairs a b d = subst (λ (x : List (Option ℕ) × (List Bool × List (ℕ × ℕ))). ArePartsOf l x.0 x.1.0 x.1.1) (λ i. (sym a i, (sym b i, sym d i))) (record {
+    slots = length-map (take (slot_count l) end.words) target_of_word ∙ length-take-le (slot_count l) end.words (omega (arith, sized));
     places = places;
     cards = length_marks end sized;
-    within = λ i d lt. pair_listed (shape_of l m) l words h.laid h.begun (get_or end.pairs i d) (Contains-get_or end.pairs i d lt);
+    within = λ i x lt. pair_listed (shape_of l m) l words h.laid h.begun (get_or end.pairs i x) (Contains-get_or end.pairs i x lt);
     cover = begun_covered (shape_of l m) l words h.laid h.begun;
-  }
-
-  -- the same of lists that are equal to them
-  pub parts_fit : (refs : List (Option ℕ)) (marks : List Bool) (pairs : List (ℕ × ℕ)) → refs ≡ refs_of end → marks ≡ marks_of end → pairs ≡ end.pairs → ArePartsOf l refs marks pairs
-  parts_fit refs marks pairs a b d = subst (λ (x : List (Option ℕ) × (List Bool × List (ℕ × ℕ))). ArePartsOf l x.0 x.1.0 x.1.1) (λ i. (sym a i, (sym b i, sym d i))) ended_parts
+  })

@@ -1,6 +1,6 @@
 -- What is recorded at a pause after some of its calls.
 use Rattle.std.specs.Prelude.{◌≡◌, ◌⊎◌, ◌<◌, ◌∷◌}
-use Rattle.g1_race.specs.{inl, inr, ℕ, suc, List, [], length, Contains, sym, ap, ◌∙◌, subst, ⊎_elim, arith, fold, and_parts, Table, Holds, IsRecorded, refined, Entry, Store, Clear, Redirect, written, settled, table_after, in_pairs, to_pairs, recorded_cases, Holds_from_held, Shape, View, Begun, BeganInto, In, IsWholeShape, AmongStores, IsKnown, IsOver, shape_of, Ended, table_of, DrainAtPause, HadInto, HeldDuring, table_at_moment, in_contains}
+use Rattle.g1_race.specs.{inl, inr, ℕ, suc, List, [], length, sym, ap, ◌∙◌, subst, arith, fold, and_parts, Table, Holds, IsRecorded, refined, Entry, Store, Clear, Redirect, written, settled, table_after, recorded_cases, Holds_from_held, Shape, table_of, DrainAtPause, HeldDuring, table_at_moment}
 use Rattle.std.proofs.lemmas.List.{take_all}
 use Rattle.g1_core.specs.declared.entry.Call.{Call}
 use Rattle.g1_core.specs.declared.entry.Reply.{Reply}
@@ -8,7 +8,7 @@ use Rattle.g1_core.specs.declared.entry.Reply.TheVariants as reply
 use Rattle.g1_core.specs.declared.reply.ClearReply.TheVariants as clear_reply
 use Rattle.g1_core.proofs.MovedLemmas.{moved_known}
 use Rattle.g1_core.proofs.RunLemmas.{forgotten, HasSlots, layout_after, written_layout}
-use Rattle.g1_race.proofs.Draining.{HoldsInto, began_holds, in_shape, known_once, stored_now}
+use Rattle.g1_race.proofs.Draining.{held_first, recorded_first}
 
 -- one call
 
@@ -26,36 +26,29 @@ held_by (Store slot target) r cards t card region h = inr (record { slot = h.slo
 held_by _ r cards t card region h = inl h
 
 recorded_step : (t : Table) (e : Entry) (card region : ℕ) → HasSlots t.layout → IsRecorded (table_after t e) card region → IsRecorded t card region ⊎ Holds t card region ⊎ Holds (table_after t e) card region
-recorded_step t e card region some_slot h = ⊎_elim
-    (λ (r : IsRecorded (refined e.refined (written e.call t)) card region). elim (recorded_cases e.refined (written e.call t) card region r) [
-      | inl old ↦ inl (written_known e.call t card region old)
-      | inr new ↦ inr (⊎_elim (λ (a : Holds t card region). inl a) (λ (b : Holds (table_after t e) card region). inr b) (held_by e.call e.reply e.refined t card region (Holds_from_held (written e.call t) card region new)))
-    ])
-    (λ (b : Holds (table_after t e) card region). inr (inr b))
-    (settled_known e.call e.reply (refined e.refined (written e.call t)) card region (subst HasSlots (sym (written_layout e.call t)) some_slot) h)
+recorded_step t e card region some_slot h = elim (settled_known e.call e.reply (refined e.refined (written e.call t)) card region (subst HasSlots (sym (written_layout e.call t)) some_slot) h) [
+  | inl r ↦ elim (recorded_cases e.refined (written e.call t) card region r) [
+    | inl old ↦ inl (written_known e.call t card region old)
+    | inr new ↦ inr (held_by e.call e.reply e.refined t card region (Holds_from_held (written e.call t) card region new))
+  ]
+  | inr b ↦ inr (inr b)
+]
 
 -- all calls
 
 abbrev pub Had : Table → List Entry → ℕ → ℕ → Type 0
 Had t calls card region = IsRecorded t card region ⊎ Holds t card region ⊎ HeldDuring t calls card region
 
-one_later : (t : Table) (e : Entry) (calls : List Entry) (card region : ℕ) → HeldDuring (table_after t e) calls card region → HeldDuring t (e ∷ calls) card region
-one_later t e calls card region h = record { moment = suc h.moment; some_call = omega arith; within = omega (arith, h.within); held = h.held }
-
 at_first : (t : Table) (e : Entry) (calls : List Entry) (card region : ℕ) → Holds (table_after t e) card region → HeldDuring t (e ∷ calls) card region
 at_first t e calls card region h = record { moment = 1; some_call = omega arith; within = omega arith; held = h }
 
 pub recorded_had : (t : Table) (calls : List Entry) (card region : ℕ) → HasSlots t.layout → IsRecorded (fold table_after t calls) card region → Had t calls card region
 recorded_had t [] card region some_slot h = inl h
-recorded_had t (e ∷ calls) card region some_slot h = pick (recorded_had (table_after t e) calls card region (subst HasSlots (sym (layout_after t e)) some_slot) h)
-  where
-    pick : Had (table_after t e) calls card region → Had t (e ∷ calls) card region
-    pick (inr (inl held)) = inr (inr (at_first t e calls card region held))
-    pick (inr (inr later)) = inr (inr (one_later t e calls card region later))
-    pick (inl was) = ⊎_elim
-        (λ (r : IsRecorded t card region). inl r)
-        (λ (x : Holds t card region ⊎ Holds (table_after t e) card region). ⊎_elim (λ (a : Holds t card region). inr (inl a)) (λ (b : Holds (table_after t e) card region). inr (inr (at_first t e calls card region b))) x)
-        (recorded_step t e card region some_slot was)
+recorded_had t (e ∷ calls) card region some_slot h = elim (recorded_had (table_after t e) calls card region (subst HasSlots (sym (layout_after t e)) some_slot) h) [
+  | inl was ↦ elim (recorded_step t e card region some_slot was) [ inl r ↦ inl r | inr (inl a) ↦ inr (inl a) | inr (inr b) ↦ inr (inr (at_first t e calls card region b)) ]
+  | inr (inl held) ↦ inr (inr (at_first t e calls card region held))
+  | inr (inr later) ↦ inr (inr (record { moment = suc later.moment; some_call = omega arith; within = omega (arith, later.within); held = later.held }))
+]
 
 held_had : (t : Table) (calls : List Entry) (card region : ℕ) → Holds (fold table_after t calls) card region → Had t calls card region
 held_had t [] card region h = inr (inl h)
@@ -63,42 +56,21 @@ held_had t (e ∷ calls) card region h = inr (inr (record { moment = length (e �
 
 -- since the race last resumed
 
-module _ (e : Ended) (begun : Begun) (racers sweepers : List View) (shaped : IsWholeShape begun.shape) (laid : begun.shape ≡ shape_of e.layout begun.shape.members) (over : IsOver begun e.words racers sweepers)
-    (same : (x : ℕ × ℕ) → (Contains e.pairs x → IsKnown begun sweepers x) × (IsKnown begun sweepers x → Contains e.pairs x)) (card region : ℕ) where
-  abbrev first : Ended
-  first = record { layout = e.layout; words = begun.words; pairs = begun.pairs }
-
-  had : AmongStores begun.shape racers (card, region) ⊎ BeganInto begun.shape begun.words (card, region) ⊎ In begun.pairs (card, region) → HadInto e.layout begun racers card region
-  had (inl s) = inl s
-  had (inr (inl b)) = inr (inl (began_holds first begun.shape.members card region (subst IsWholeShape laid shaped) (subst (λ (k : Shape). BeganInto k begun.words (card, region)) laid b)))
-  had (inr (inr i)) = inr (inr (to_pairs begun.pairs (card, region) (in_contains begun.pairs (card, region) i)))
-
-  pub recorded_first : IsRecorded (table_of e) card region → HadInto e.layout begun racers card region
-  recorded_first r = had (known_once begun e.words racers sweepers over card region ((same (card, region)).0 (in_pairs e.pairs (card, region) r)))
-
-  pub held_first : Holds (table_of e) card region → HadInto e.layout begun racers card region
-  held_first h = had (stored_now begun e.words racers sweepers over card region (subst (λ (s : Shape). HoldsInto s e.words card region) (sym laid) (in_shape e begun.shape.members card region h)))
-
 pub drain_at_pause : DrainAtPause
-drain_at_pause e begun racers sweepers calls caller region cards done after shaped laid over same step card c = pick (
-    elim (recorded_cases done now card region (step.allowed.answers.1.recorded card c)) [
-      | inl old ↦ recorded_had t calls card region slots (subst (λ (u : Table). IsRecorded u card region) whole old)
-      | inr new ↦ held_had t calls card region (subst (λ (u : Table). Holds u card region) whole (Holds_from_held now card region new))
-    ])
+drain_at_pause e begun racers sweepers calls caller region cards done after shaped laid over same step card c = elim had [
+  | inl r ↦ inl (recorded_first e begun racers sweepers shaped laid over same card region r)
+  | inr (inl h) ↦ inl (held_first e begun racers sweepers shaped laid over same card region h)
+  | inr (inr d) ↦ inr d
+]
   where
-    t : Table
-    t = table_of e
-
     now : Table
     now = table_at_moment (table_of e) calls (length calls)
 
     whole : table_at_moment (table_of e) calls (length calls) ≡ fold table_after (table_of e) calls
     whole = ap (fold table_after (table_of e)) (take_all (length calls) calls (omega arith))
 
-    slots : HasSlots e.layout
-    slots = subst (λ (n : ℕ). 0 < n) (ap (λ (s : Shape). s.span) laid) shaped.2
-
-    pick : Had (table_of e) calls card region → HadInto e.layout begun racers card region ⊎ HeldDuring (table_of e) calls card region
-    pick (inl r) = inl (recorded_first e begun racers sweepers shaped laid over same card region r)
-    pick (inr (inl h)) = inl (held_first e begun racers sweepers shaped laid over same card region h)
-    pick (inr (inr d)) = inr d
+    had : Had (table_of e) calls card region
+    had = elim (recorded_cases done now card region (step.allowed.answers.1.recorded card c)) [
+      | inl old ↦ recorded_had (table_of e) calls card region (subst (λ (n : ℕ). 0 < n) (ap (λ (s : Shape). s.span) laid) shaped.2) (subst (λ (u : Table). IsRecorded u card region) whole old)
+      | inr new ↦ held_had (table_of e) calls card region (subst (λ (u : Table). Holds u card region) whole (Holds_from_held now card region new))
+    ]

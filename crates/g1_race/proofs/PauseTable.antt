@@ -1,23 +1,15 @@
 -- What a pause's words say as a table.
-use Rattle.std.specs.Prelude.{◌≡◌, ◌≢◌, ◌+◌, ◌<◌, ◌≤◌}
-use Rattle.g1_race.specs.{ℕ, eqb, List, map, drop, true, Contains, refl, sym, ap, ◌∙◌, subst, inl, inr, ⊎_elim, arith, some, get_elem?, slot_count, region_of, region_of_card, nat_cmp, and_parts, not-true, true≢false, eqb-true, Option, length, eq-eqb, CardSet, set_of, Table, Holds, IsCovered, IsPending, IsRecorded, AreMembers, refined, IsStep, drained, pending_flag, none_of, All_by_member, same_cards, same_pairs, refined_pending, still_recorded, newly_recorded, recorded_cases, held_from_Holds, Holds_from_held, Shape, BeganInto, IsBegun, IsPair, HasBit, IsWholeShape, mark_word, front, started, shape_of, ended, target_of_word, refs_of, marks_of, table_of, AreRefined, MembersAreExact, is_marked, is_member, marked_cards, member_cards, AreAllRefined, IsExactAtPause, never_both, at_take, at_untake, at_unmap}
+use Rattle.std.specs.Prelude.{◌≡◌, ◌+◌, ◌<◌, ◌≤◌}
+use Rattle.g1_race.specs.{at_read, cases_lt, false, get_or, get_or-map, get_or_past, length-drop, length-map, ℕ, eqb, List, map, drop, Contains, refl, sym, ap, ◌∙◌, subst, inl, inr, ⊎_elim, arith, some, get_elem?, slot_count, nat_cmp, and_parts, not-true, true≢false, eqb-true, Option, length, eq-eqb, CardSet, set_of, Table, Holds, IsPending, IsRecorded, AreMembers, refined, IsStep, drained, pending_flag, none_of, All_by_member, same_cards, same_pairs, refined_pending, still_recorded, newly_recorded, recorded_cases, held_from_Holds, Holds_from_held, Shape, BeganInto, IsBegun, IsPair, HasBit, IsWholeShape, mark_word, front, started, shape_of, ended, target_of_word, refs_of, marks_of, table_of, AreRefined, MembersAreExact, is_marked, is_member, marked_cards, member_cards, AreAllRefined, IsExactAtPause, never_both, at_take, at_untake, take_same}
+use Rattle.std.proofs.Math.Seq.{take-take}
+use Rattle.std.proofs.lemmas.List.{get_or-drop}
 use Rattle.g1_layout.specs.Shape as layout
 use Rattle.std.specs.FinSet as fin
 use Rattle.g1_core.proofs.SetLemmas.{in_list as from_cards, in_set as in_cards}
 use Rattle.g1_race.proofs.Telling.{at_most_both, gathered, is_listed, listed_is, listed_below, listed_distinct, set_len}
 use Rattle.g1_race.proofs.NextCards.{mark_is, marked_word}
-use Rattle.g1_race.proofs.Ends.{begun_covered, marked_pending, marks_here, recorded_set, set_recorded, region_of_quotient}
-use Rattle.g1_race.proofs.Draining.{began_holds}
-use Rattle.g1_race.proofs.Fronts.{take_same, take_less, undrop, flag_at, one_of}
-
--- where nothing is pending each card that holds is recorded
-covered_held : (t : Table) (c r : ℕ) → ((card : ℕ) → IsPending t card → ⊥) → IsCovered t → Holds t c r → IsRecorded t c r
-covered_held t c r clean cover h =
-    let across : region_of t.layout h.slot ≢ region_of t.layout h.place = λ q. h.outside (ap (region_of_card t.layout) (sym h.on_card) ∙ (region_of_quotient t.layout h.slot ∙ (q ∙ h.into))) in
-    ⊎_elim
-    (λ (p : IsPending t (layout.card_of t.layout h.slot)). absurd (clean _ p))
-    (λ (q : IsRecorded t (layout.card_of t.layout h.slot) (region_of t.layout h.place)). subst (λ (x : ℕ × ℕ). IsRecorded t x.0 x.1) (λ i. (h.on_card i, h.into i)) q)
-    (cover h.slot h.place (record { refers = h.refers; across = across }))
+use Rattle.g1_race.proofs.Ends.{begun_covered, marked_pending, marks_here, recorded_set, set_recorded}
+use Rattle.g1_race.proofs.Draining.{began_holds, covered_held}
 
 pub members_exact : MembersAreExact
 members_exact t region cards clean cover m c h = m.all c (covered_held t c region clean cover h)
@@ -36,20 +28,25 @@ module _ (k : Shape) (l : layout.Shape) (laid : k ≡ shape_of l k.members) wher
   -- a pending card has a word of 1
   pub pending_word : (words : List ℕ) (c : ℕ) → IsPending (table_of (ended l k words)) c → (c < k.cards) × (get_elem? words (mark_word k c) ≡ some 1)
   pending_word words c p =
-      let e = ended l k words in
-      let read = at_unmap (λ n. eqb n 1) (drop (slot_count l) (front k words)) c true (flag_at (marks_of e) c (pending_flag (marks_of e) c p)) in
-      let there = at_untake words (k.slots + k.cards) (slot_count l + c) read.0 (undrop (front k words) (slot_count l) c (slot_count l + c) read.0 refl read.1) in
-      let lt : slot_count l + c < k.slots + k.cards = there.0 in
-      (omega (arith, lt, slots_are), ap (λ (n : ℕ). get_elem? words (n + c)) slots_are ∙ (there.1 ∙ ap (λ (n : ℕ). some n) (one_of read.0 read.2)))
+      let marks : List ℕ = drop (slot_count l) (front k words) in
+      let flag = pending_flag (marks_of (ended l k words)) c p in
+      let long : length (marks_of (ended l k words)) ≡ length marks = length-map marks (λ n. eqb n 1) in
+      elim (cases_lt c (length marks)) [
+        | inl lt ↦
+            let one : get_or (front k words) (slot_count l + c) 0 ≡ 1 = eqb-true _ 1 (ap (λ (n : ℕ). eqb n 1) (sym (get_or-drop (slot_count l) (front k words) c 0)) ∙ (sym (get_or-map (λ n. eqb n 1) marks c 0 false lt) ∙ flag)) in
+            let there = at_untake words (k.slots + k.cards) (slot_count l + c) 1 (at_read (front k words) (slot_count l + c) 0 (omega (arith, lt, length-drop (slot_count l) (front k words))) ∙ ap (λ (n : ℕ). some n) one) in
+            (omega (arith, there.0, slots_are), ap (λ (n : ℕ). get_elem? words (n + c)) slots_are ∙ there.1)
+        | inr past ↦ absurd (true≢false (sym flag ∙ get_or_past (marks_of (ended l k words)) c false (omega (arith, long, past))))
+      ]
 
   pub word_pending : (words : List ℕ) (c : ℕ) → c < k.cards → get_elem? words (mark_word k c) ≡ some 1 → IsPending (table_of (ended l k words)) c
   word_pending words c lt at = marked_pending (marks_of (ended l k words)) c (marks_here (ended l k words) c 1 (at_take words (k.slots + k.cards) (slot_count l + c) 1 (omega (arith, lt, slots_are)) (ap (λ (n : ℕ). get_elem? words (n + c)) (sym slots_are) ∙ at)))
 
   pub refs_same : (old new : List ℕ) → ((p : ℕ) → p < k.slots → get_elem? new p ≡ get_elem? old p) → refs_of (ended l k new) ≡ refs_of (ended l k old)
   refs_same old new same = ap (map target_of_word)
-      (take_less (slot_count l) (k.slots + k.cards) new (omega (arith, slots_are))
-      ∙ (take_same (slot_count l) new old (λ p lt. same p (omega (arith, lt, slots_are)))
-      ∙ sym (take_less (slot_count l) (k.slots + k.cards) old (omega (arith, slots_are)))))
+      (take-take (slot_count l) (k.slots + k.cards) new (omega (arith, slots_are))
+      ∙ (take_same new old (slot_count l) (λ p lt. same p (omega (arith, lt, slots_are)))
+      ∙ sym (take-take (slot_count l) (k.slots + k.cards) old (omega (arith, slots_are)))))
 
   -- a reference of the words is one of the table
   pub holds_now : (words : List ℕ) (c r : ℕ) → IsWholeShape k → BeganInto k words (c, r) → Holds (table_of (ended l k words)) c r

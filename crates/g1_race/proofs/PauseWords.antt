@@ -1,6 +1,7 @@
 -- What refinement at a pause does to the words.
-use Rattle.std.specs.Prelude.{◌≡◌, ◌≢◌, ◌⊎◌, ◌+◌, ◌*◌, ◌%◌, ◌^◌, ◌<◌, ◌≤◌, ◌∷◌, ◌++◌}
-use Rattle.g1_race.specs.{ℕ, zero, suc, cond, Bool, true, false, List, [], length, set, get_or, bit_or, length-set, div-add-mod', mod-lt, refl, sym, ap, ◌∙◌, subst, inl, inr, ⊎_elim, arith, some, ℕ_discrete, get_elem?, cases_lt, bit_at, div-mul-add, set_else, set_here, Shape, In, IsBegun, IsMarked, IsOfCrossing, HasBit, BeganInto, bit_word, bit_place, flag, mark_word, word_count, slot_card, region_at, crosses, started, pair_at, Notes, RefinesCard, AreRefined, card_pairs, in_left, in_right, in_either, read_at, true_is, reads_as, word_low, SameBits, same_bits, bit_as, with_pair, bit_here, bits_stay, bits_back, card_below, are_flagged, bit_below, front_stays, never_both, bounded_same, same_slots_at_mark}
+use Rattle.std.specs.Prelude.{◌≡◌, ◌⊎◌, ◌+◌, ◌*◌, ◌%◌, ◌^◌, ◌<◌, ◌≤◌, ◌∷◌, ◌++◌}
+use Rattle.g1_race.specs.{ℕ, zero, suc, cond, Bool, true, false, List, [], length, set, get_or, bit_or, length-set, div-add-mod', mod-lt, refl, sym, ap, ◌∙◌, subst, inl, inr, ⊎_elim, arith, some, cases_eq, get_elem?, cases_lt, bit_at, div-mul-add, set_else, set_here, Shape, In, IsBegun, IsOfCrossing, HasBit, BeganInto, bit_word, bit_place, flag, mark_word, slot_card, region_at, crosses, started, pair_at, Notes, RefinesCard, AreRefined, card_pairs, in_left, in_right, in_either, true_is, reads_as, word_low, SameBits, same_bits, bit_as, with_pair, bit_here, bits_stay, bits_back, bit_below, front_stays}
+use Rattle.g1_race.proofs.AtPause.{begun_front, begun_mark, begun_read, filled_next}
 use Rattle.g1_race.proofs.SweepCalls.{slot_below}
 
 -- one bit is set, of a pair or a card's flag
@@ -10,18 +11,9 @@ module _ (k : Shape) (words : List ℕ) (x : ℕ × ℕ) (h : IsBegun (started k
   short = subst (λ (n : ℕ). bit_word k x < n) (sym h.sized) (bit_below k x h.shaped card row)
 
   pub begun_bit : (x.1 < k.regions → IsOfCrossing k x) → IsBegun (started k (with_pair k words x))
-  begun_bit of = record {
-    shaped = h.shaped;
-    sized = length-set words (bit_word k x) _ ∙ h.sized;
-    bounded = λ p n lt at. h.bounded p n lt (sym (front_stays k words x p (omega (arith, lt))) ∙ at);
-    marks = λ c lt. ⊎_elim (λ (m : get_elem? words (mark_word k c) ≡ some 1). inl (front_stays k words x (mark_word k c) (omega (arith, lt)) ∙ m)) (λ (z : get_elem? words (mark_word k c) ≡ some 0). inr (front_stays k words x (mark_word k c) (omega (arith, lt)) ∙ z)) (h.marks c lt);
-    covered = λ p n lt at cr. ⊎_elim
-        (λ (b : HasBit k words (slot_card k p, region_at k n)). inl (bits_stay k words x short _ b))
-        (λ (m : IsMarked k words p). inr (front_stays k words x (mark_word k (slot_card k p)) (let c = card_below k p h.shaped lt in omega (arith, c)) ∙ m))
-        (h.covered p n lt (sym (front_stays k words x p (omega (arith, lt))) ∙ at) cr);
-    proper = λ y py b. ⊎_elim (λ (c : HasBit k words y). h.proper y py c) (λ (e : x ≡ y). subst (IsOfCrossing k) e (of (subst (λ (z : ℕ × ℕ). z.1 < k.regions) (sym e) py.1))) (bits_back k words x short y h.shaped card py.0 b);
-    flagged = are_flagged k words (with_pair k words x) (λ c lt m. sym (front_stays k words x (mark_word k c) (omega (arith, lt))) ∙ m) (λ c. bits_stay k words x short (flag k c)) h.flagged;
-  }
+  begun_bit of = begun_front k words (with_pair k words x) h (length-set words (bit_word k x) _) (front_stays k words x) (λ p n lt at cr. bits_stay k words x short _)
+      (λ y py b. ⊎_elim (λ (c : HasBit k words y). inl c) (λ (e : x ≡ y). inr (subst (IsOfCrossing k) e (of (subst (λ (z : ℕ × ℕ). z.1 < k.regions) (sym e) py.1)))) (bits_back k words x short y h.shaped card py.0 b))
+      (λ c lt m. bits_stay k words x short (flag k c))
 
   pub notes_bit : Notes k words (with_pair k words x) (x ∷ [])
   notes_bit = record {
@@ -55,28 +47,18 @@ notes_then k a b c xs ys h g = record {
 
 -- the pairs of a card
 
-here_pairs : (k : Shape) (words : List ℕ) (c i n : ℕ) → get_elem? words (c * k.size + i) ≡ some n → crosses k (c * k.size + i) n ≡ true → (j : ℕ) → i < j → In (card_pairs k words c j) (slot_card k (c * k.size + i), region_at k n)
-here_pairs k words c i n at cr zero lt = absurd (omega arith)
-here_pairs k words c i n at cr (suc j) lt = pick (ℕ_discrete i j) (λ below. here_pairs k words c i n at cr j below)
-  where
-    before : List (ℕ × ℕ)
-    before = card_pairs k words c j
-
-    last : List (ℕ × ℕ)
-    last = pair_at k (c * k.size + j) (get_or words (c * k.size + j) 0)
-
-    here : pair_at k (c * k.size + i) (get_or words (c * k.size + i) 0) ≡ (slot_card k (c * k.size + i), region_at k n) ∷ []
-    here = ap (λ (m : ℕ). pair_at k (c * k.size + i) m) (reads_as words (c * k.size + i) n 0 at) ∙ true_is (crosses k (c * k.size + i) n) ((slot_card k (c * k.size + i), region_at k n) ∷ []) [] cr
-
-    pick : Dec (i ≡ j) → (i < j → In before (slot_card k (c * k.size + i), region_at k n)) → In (before ++ last) (slot_card k (c * k.size + i), region_at k n)
-    pick (yes e) was = in_right before last _ (subst (λ (m : ℕ). In (pair_at k (c * k.size + m) (get_or words (c * k.size + m) 0)) (slot_card k (c * k.size + i), region_at k n)) e (subst (λ (l : List (ℕ × ℕ)). In l (slot_card k (c * k.size + i), region_at k n)) (sym here) (inl refl)))
-    pick (no ne) was = in_left before last _ (was (omega (arith, lt, ne)))
+here_pairs : (k : Shape) (words : List ℕ) (c i : ℕ) (x : ℕ × ℕ) → In (pair_at k (c * k.size + i) (get_or words (c * k.size + i) 0)) x → (j : ℕ) → i < j → In (card_pairs k words c j) x
+here_pairs k words c i x there zero lt = absurd (omega arith)
+here_pairs k words c i x there (suc j) lt = elim (cases_eq i j) [
+  | inl e ↦ in_right (card_pairs k words c j) _ x (subst (λ (m : ℕ). In (pair_at k (c * k.size + m) (get_or words (c * k.size + m) 0)) x) e there)
+  | inr ne ↦ in_left (card_pairs k words c j) _ x (here_pairs k words c i x there j (omega (arith, lt, ne)))
+]
 
 on_card : (k : Shape) (words : List ℕ) (p n : ℕ) → 0 < k.size → get_elem? words p ≡ some n → crosses k p n ≡ true → In (card_pairs k words (slot_card k p) k.size) (slot_card k p, region_at k n)
 on_card k words p n pos at cr =
-    let split : slot_card k p * k.size + p % k.size ≡ p = div-add-mod' p k.size in
-    subst (λ (q : ℕ). In (card_pairs k words (slot_card k p) k.size) (slot_card k q, region_at k n)) split
-    (here_pairs k words (slot_card k p) (p % k.size) n (subst (λ (q : ℕ). get_elem? words q ≡ some n) (sym split) at) (subst (λ (q : ℕ). crosses k q n ≡ true) (sym split) cr) k.size (mod-lt p pos))
+    let x : ℕ × ℕ = (slot_card k p, region_at k n) in
+    let here : pair_at k p (get_or words p 0) ≡ x ∷ [] = ap (pair_at k p) (reads_as words p n 0 at) ∙ true_is (crosses k p n) (x ∷ []) [] cr in
+    here_pairs k words (slot_card k p) (p % k.size) x (subst (λ (q : ℕ). In (pair_at k q (get_or words q 0)) x) (sym (div-add-mod' p k.size)) (subst (λ (l : List (ℕ × ℕ)). In l x) (sym here) (inl refl))) k.size (mod-lt p pos)
 
 one_pair : (b : Bool) (y x : ℕ × ℕ) → In (cond b (y ∷ []) []) x → (b ≡ true) × (y ≡ x)
 one_pair true y x (inl e) = (refl, e)
@@ -92,7 +74,7 @@ found_there k words c h lt (suc i) le x there = ⊎_elim
     let p : ℕ = c * k.size + i in
     let n = get_or words p 0 in
     let below : p < k.slots = slot_below k c i h.shaped lt (omega (arith, le)) in
-    let at : get_elem? words p ≡ some n = read_at words p (let e : length words ≡ word_count k = h.sized in omega (arith, e, below)) in
+    let at : get_elem? words p ≡ some n = begun_read k words p h below in
     let is = one_pair (crosses k p n) (slot_card k p, region_at k n) x b in
     let on : slot_card k p ≡ c = div-mul-add c k.size i (omega (arith, le)) in
     (sym (ap (λ (y : ℕ × ℕ). y.0) is.1) ∙ on, (p, n, at, (below, word_low k p n (h.bounded p n below at) is.0, is.0), is.1)))
@@ -104,54 +86,26 @@ module _ (k : Shape) (old mid : List ℕ) (c : ℕ) (was : IsBegun (started k ol
   abbrev clean : List ℕ
   clean = set mid (mark_word k c) 0
 
-  there_is : mark_word k c < length mid
-  there_is = omega (arith, h.sized, lt)
-
   bits : SameBits k mid clean
   bits = same_bits k mid (mark_word k c) 0 (omega (arith, lt))
 
-  other : (d : ℕ) → d ≢ c → get_elem? clean (mark_word k d) ≡ get_elem? mid (mark_word k d)
-  other d ne = set_else mid (mark_word k c) (mark_word k d) 0 (λ e. ne (omega (arith, e)))
-
   pub begun_cleaned : IsBegun (started k clean)
-  begun_cleaned = record {
-    shaped = h.shaped;
-    sized = length-set mid (mark_word k c) 0 ∙ h.sized;
-    bounded = bounded_same k mid clean (same_slots_at_mark k mid c 0) h.bounded;
-    marks = λ d below. pick d below (ℕ_discrete d c);
-    covered = λ p n below at cr. let there = same_slots_at_mark k mid c 0 p n below at in ⊎_elim
-        (λ (i : HasBit k mid (slot_card k p, region_at k n)). inl (bit_as k mid clean _ bits i))
-        (λ (m : IsMarked k mid p). choose p n below there cr m (ℕ_discrete (slot_card k p) c))
-        (h.covered p n below there cr);
-    proper = λ x pair b. h.proper x pair (bit_as k clean mid x (λ y. sym (bits y)) b);
-    flagged = are_flagged k mid clean (λ d below m. was_marked d m (ℕ_discrete d c)) (λ d. bit_as k mid clean (flag k d) bits) h.flagged;
-  }
-    where
-      was_marked : (d : ℕ) → get_elem? clean (mark_word k d) ≡ some 1 → Dec (d ≡ c) → get_elem? mid (mark_word k d) ≡ some 1
-      was_marked d m (yes e) = absurd (never_both clean (mark_word k c) (set_here mid (mark_word k c) 0 there_is) (ap (λ (i : ℕ). get_elem? clean (mark_word k i)) (sym e) ∙ m))
-      was_marked d m (no ne) = sym (other d ne) ∙ m
-
-      pick : (d : ℕ) → d < k.cards → Dec (d ≡ c) → (get_elem? clean (mark_word k d) ≡ some 1) ⊎ (get_elem? clean (mark_word k d) ≡ some 0)
-      pick d below (yes e) = inr (ap (λ (i : ℕ). get_elem? clean (mark_word k i)) e ∙ set_here mid (mark_word k c) 0 there_is)
-      pick d below (no ne) = ⊎_elim (λ (m : get_elem? mid (mark_word k d) ≡ some 1). inl (other d ne ∙ m)) (λ (z : get_elem? mid (mark_word k d) ≡ some 0). inr (other d ne ∙ z)) (h.marks d below)
-
-      choose : (p n : ℕ) → p < k.slots → get_elem? mid p ≡ some n → crosses k p n ≡ true → IsMarked k mid p → Dec (slot_card k p ≡ c) → HasBit k clean (slot_card k p, region_at k n) ⊎ IsMarked k clean p
-      choose p n below there cr m (yes e) = inl (bit_as k mid clean _ bits (notes.has _ (subst (λ (d : ℕ). In (card_pairs k old d k.size) (slot_card k p, region_at k n)) e (on_card k old p n was.shaped.1 (sym (notes.front p (omega (arith, below))) ∙ there) cr))))
-      choose p n below there cr m (no ne) = inr (other (slot_card k p) ne ∙ m)
+  begun_cleaned = begun_mark k mid c 0 lt (λ here. inr (inl (
+    here,
+    λ p n on below at cr. bit_as k mid clean _ bits
+        (notes.has _ (subst (λ (d : ℕ). In (card_pairs k old d k.size) (slot_card k p, region_at k n)) on (on_card k old p n was.shaped.1 (sym (notes.front p (omega (arith, below))) ∙ at) cr))),
+  ))) h
 
   pub refined_is : RefinesCard k old clean c
   refined_is = record {
     slots = λ p below. set_else mid (mark_word k c) p 0 (λ e. absurd (omega (arith, e, below))) ∙ notes.front p (omega (arith, below));
-    clean = set_here mid (mark_word k c) 0 there_is;
-    marks = λ d below ne. other d ne ∙ notes.front (mark_word k d) (omega (arith, below));
+    clean = set_here mid (mark_word k c) 0 (omega (arith, h.sized, lt));
+    marks = λ d below ne. set_else mid (mark_word k c) (mark_word k d) 0 (λ e. ne (omega (arith, e))) ∙ notes.front (mark_word k d) (omega (arith, below));
     kept = λ x b. bit_as k mid clean x bits (notes.kept x b);
     only = λ x pair b. ⊎_elim (λ (u : HasBit k old x). inl u) (λ (i : In (card_pairs k old c k.size) x). inr (found_there k old c was lt k.size (omega arith) x i)) (notes.only x pair (bit_as k clean mid x (λ y. sym (bits y)) b));
   }
 
 -- one card after another
-
-began_back : (k : Shape) (old mid : List ℕ) (x : ℕ × ℕ) → ((p : ℕ) → p < k.slots → get_elem? mid p ≡ get_elem? old p) → BeganInto k mid x → BeganInto k old x
-began_back k old mid x same b = (b.0, b.1, sym (same b.0 b.3.0) ∙ b.2, b.3, b.4)
 
 -- the cards from one on to the next dirty one are clean
 pub refined_past : (k : Shape) (old mid : List ℕ) (n m : ℕ) → IsBegun (started k mid) → n ≤ m → ((c : ℕ) → n ≤ c → c < m → c < k.cards → get_elem? mid (mark_word k c) ≡ some 1 → ⊥) → AreRefined k old mid n → AreRefined k old mid m
@@ -165,15 +119,11 @@ refined_past k old mid n m b le never h = record { slots = h.slots; clean = λ c
 pub refined_next : (k : Shape) (old mid new : List ℕ) (n : ℕ) → n < k.cards → get_elem? mid (mark_word k n) ≡ some 1 → AreRefined k old mid n → RefinesCard k mid new n → AreRefined k old new (n + 1)
 refined_next k old mid new n there dirty h g = record {
   slots = λ p lt. g.slots p lt ∙ h.slots p lt;
-  clean = λ c lt below. pick c lt below (ℕ_discrete c n);
+  clean = filled_next k.cards (mark_word k) (λ c. 0) mid new n h.clean g.clean (λ c ne below. g.marks c below ne);
   marks = λ c up below. g.marks c below (λ e. absurd (omega (arith, up, e))) ∙ h.marks c (omega (arith, up)) below;
   kept = λ x pair b. g.kept x (h.kept x pair b);
   only = λ x pair b. ⊎_elim
       (λ (u : HasBit k mid x). h.only x pair u)
-      (λ (i : (x.0 ≡ n) × BeganInto k mid x). inr (subst (λ (c : ℕ). get_elem? old (mark_word k c) ≡ some 1) (sym i.0) (sym (h.marks n (omega arith) there) ∙ dirty), began_back k old mid x h.slots i.1))
+      (λ (i : (x.0 ≡ n) × BeganInto k mid x). inr (subst (λ (c : ℕ). get_elem? old (mark_word k c) ≡ some 1) (sym i.0) (sym (h.marks n (omega arith) there) ∙ dirty), (let b = i.1 in (b.0, b.1, sym (h.slots b.0 b.3.0) ∙ b.2, b.3, b.4))))
       (g.only x pair b);
 }
-  where
-    pick : (c : ℕ) → c < n + 1 → c < k.cards → Dec (c ≡ n) → get_elem? new (mark_word k c) ≡ some 0
-    pick c lt below (yes e) = ap (λ (d : ℕ). get_elem? new (mark_word k d)) e ∙ g.clean
-    pick c lt below (no ne) = g.marks c below ne ∙ h.clean c (omega (arith, lt, ne)) below

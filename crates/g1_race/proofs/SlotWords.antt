@@ -1,11 +1,10 @@
 -- What the calls of a pause make of the slots' words.
-use Rattle.std.specs.Prelude.{◌≡◌, ◌≢◌, ◌⊎◌, ◌+◌, ◌-◌, ◌*◌, ◌/◌, ◌%◌, ◌<◌, ◌≤◌}
-use Rattle.g1_race.specs.{ℕ, mod-lt, div-add-mod', eqb, List, set, sym, ap, ◌∙◌, subst, inl, inr, arith, eq-eqb, ne_eqb, some, get_elem?, cases_eq, cases_lt, div-mul-add, set_else, set_here, Shape, front, mark_word, mark_apart, at_take, at_untake, false_is, true_is, within, WordsBecome, one_word, same_word, wiped_word, AreMovedAway, word_after, AreRefined, IsDirtied}
+use Rattle.std.specs.Prelude.{◌≡◌, ◌≢◌, ◌⊎◌, ◌+◌, ◌*◌, ◌/◌, ◌%◌, ◌<◌, ◌≤◌}
+use Rattle.g1_race.specs.{ℕ, mod-lt, div-add-mod', eqb, List, set, sym, ap, ◌∙◌, subst, inl, inr, arith, eq-eqb, ne_eqb, some, get_elem?, cases_eq, div-mul-add, set_else, set_here, Shape, front, mark_word, mark_apart, false_is, true_is, within, WordsBecome, one_word, same_word, wiped_word, AreMovedAway, word_after, AreRefined, IsDirtied}
+use Rattle.g1_race.proofs.FlagWords.{front_at}
 
 pub front_words : (k : Shape) (old new : List ℕ) → front k new ≡ front k old → WordsBecome same_word k old new
-front_words k old new same p n lt at =
-    let there = subst (λ (l : List ℕ). get_elem? l p ≡ some n) (sym same) (at_take old (k.slots + k.cards) p n (omega (arith, lt)) at) in
-    (at_untake new (k.slots + k.cards) p n there).1
+front_words k old new same p n lt at = front_at k old new p same (omega (arith, lt)) ∙ at
 
 pub refined_words : (k : Shape) (old new : List ℕ) (count : ℕ) → AreRefined k old new count → WordsBecome same_word k old new
 refined_words k old new count r p n lt at = r.slots p lt ∙ at
@@ -23,27 +22,17 @@ put_words k old slot word new e = subst (λ (ws : List ℕ). WordsBecome (one_wo
 pub unchanged_words : (k : Shape) (old new : List ℕ) → new ≡ old → WordsBecome same_word k old new
 unchanged_words k old new e p n lt at = ap (λ (ws : List ℕ). get_elem? ws p) e ∙ at
 
--- a slot of no other region lies among those of this one
-in_span : (k : Shape) (r p : ℕ) → r * k.span ≤ p → p < r * k.span + k.span → p / k.span ≡ r
-in_span k r p low high =
-    let first : ℕ = r * k.span in
-    let i : ℕ = p - first in
-    let is : first + i ≡ p = omega (arith, low) in
-    ap (λ (n : ℕ). n / k.span) (sym is) ∙ div-mul-add r k.span i (omega (arith, low, high))
+-- a slot of another region lies before this one's or behind them
+beside_span : (k : Shape) (r p : ℕ) → p / k.span ≢ r → (p < r * k.span) ⊎ (r * k.span + k.span ≤ p)
+beside_span k r p ne = grind (arith, div-mul-add)
 
 pub wiped_words : (k : Shape) (old new : List ℕ) (r : ℕ) → 0 < k.span → ((i : ℕ) → i < k.span → get_elem? new (r * k.span + i) ≡ some 0)
     → ((p : ℕ) → (p < r * k.span) ⊎ (r * k.span + k.span ≤ p) → get_elem? new p ≡ get_elem? old p) → WordsBecome (wiped_word k r) k old new
 wiped_words k old new r pos null other p n lt at = elim (cases_eq (p / k.span) r) [
   | inl e ↦ subst (λ (q : ℕ). get_elem? new q ≡ some 0) (ap (λ (m : ℕ). m * k.span + p % k.span) (sym e) ∙ div-add-mod' p k.span) (null (p % k.span) (mod-lt p pos))
       ∙ ap (λ (m : ℕ). some m) (sym (true_is (eqb (p / k.span) r) 0 n (eq-eqb (p / k.span) r e)))
-  | inr ne ↦ other p (apart ne) ∙ (at ∙ ap (λ (m : ℕ). some m) (sym (false_is (eqb (p / k.span) r) 0 n (ne_eqb (p / k.span) r ne))))
+  | inr ne ↦ other p (beside_span k r p ne) ∙ (at ∙ ap (λ (m : ℕ). some m) (sym (false_is (eqb (p / k.span) r) 0 n (ne_eqb (p / k.span) r ne))))
 ]
-  where
-    apart : p / k.span ≢ r → (p < r * k.span) ⊎ (r * k.span + k.span ≤ p)
-    apart ne = elim (cases_lt p (r * k.span)) [
-      | inl low ↦ inl low
-      | inr high ↦ elim (cases_lt p (r * k.span + k.span)) [ inl below ↦ absurd (ne (in_span k r p high below)) | inr past ↦ inr past ]
-    ]
 
 pub dirtied_words : (k : Shape) (old new : List ℕ) (card : ℕ) → IsDirtied k old new card → WordsBecome same_word k old new
 dirtied_words k old new card d p n lt at = ap (λ (ws : List ℕ). get_elem? ws p) d.marked

@@ -1,9 +1,27 @@
 -- Cards that are told apart by a test.
 use Rattle.std.specs.Prelude.{◌≡◌, ◌⊎◌, ◌+◌, ◌<◌, ◌≤◌, ◌∷◌, ◌++◌}
-use Rattle.g1_race.specs.{inl, inr, ℕ, zero, suc, cond, Bool, true, false, List, [], length, Contains, Option, Some, None, sym, ap, ◌∙◌, subst, arith, cases_Bool, cases_lt, append-nil, length_push, nat_eq, IsDistinct, false_from_ne_true, nat_cmp, eq_by_cmp, Equal-is, nat_cmp_total, eq_by_cmp_equiv, exact_unsigned, or_cases, or_left, or_right, true≢false, Contains-append_left, Contains-push, Contains-push_cases, set_of, in_list, same_cards, one_more, push_distinct, cards_where, IsNext}
+use Rattle.g1_race.specs.{inl, inr, ℕ, zero, suc, cond, Bool, true, false, List, [], length, Contains, Option, Some, None, refl, sym, ap, ◌∙◌, subst, arith, as_number, cases_Bool, cases_eq, cases_lt, append-nil, length_push, nat_eq, IsDistinct, false_from_ne_true, nat_cmp, true≢false, set_of, in_list, one_more, push_distinct, cards_where, IsNext}
+use Rattle.std.proofs.lemmas.List.{length-append}
+use Rattle.std.proofs.lemmas.Map.Keys.{apart_from_distinct, IsDistinct-tail}
+use Rattle.std.specs.Cmp.{nat_eq_equiv}
 use Rattle.std.specs.FinSet as set
-use Rattle.g1_core.proofs.SetLemmas.{in_set}
 use Rattle.g1_race.proofs.Gathering.{Gathered, gathered_none, gathered_in, gathered_out}
+
+pub one_at_most : (b : Bool) → as_number b ≤ 1
+one_at_most true = omega arith
+one_at_most false = omega arith
+
+pub some_below : (b : Bool) → 1 ≤ as_number b → b ≡ true
+some_below true le = refl
+some_below false le = absurd (omega arith)
+
+-- numbers that are all different make a set of as many
+distinct_len : (xs : List ℕ) → IsDistinct nat_eq xs → set.len (set_of xs) ≡ length xs
+distinct_len [] distinct = set.len-empty nat_cmp
+distinct_len (x ∷ xs) distinct = one_more (set_of xs) x (false_from_ne_true _ (λ h.
+    let i = in_list xs x h in
+    true≢false (sym (nat_eq_equiv.refl x) ∙ ap (nat_eq x) (sym i.2) ∙ apart_from_distinct nat_eq (x ∷ xs) 0 (suc i.0) x distinct (omega arith) (omega (arith, i.1)))))
+    ∙ (let rest = distinct_len xs (IsDistinct-tail nat_eq x xs distinct) in omega (arith, rest))
 
 module _ (test : ℕ → Bool) where
   pub put_in : (n : ℕ) → test n ≡ true → cards_where test (suc n) ≡ cards_where test n ++ n ∷ []
@@ -48,32 +66,30 @@ module _ (test : ℕ → Bool) where
   is_listed n card lt e = (gathered n).every card lt e
 
   -- how many there are
+  counted : (n : ℕ) → length (cards_where test (suc n)) ≡ length (cards_where test n) + as_number (test n)
+  counted n = length-append (cards_where test n) (cond (test n) (n ∷ []) []) ∙ ap (λ (m : ℕ). length (cards_where test n) + m) (one_or_none (test n))
+    where
+      one_or_none : (b : Bool) → length (cond b (n ∷ []) []) ≡ as_number b
+      one_or_none true = refl
+      one_or_none false = refl
+
   pub few : (n : ℕ) → length (cards_where test n) ≤ n
   few zero = omega arith
-  few (suc n) = elim (cases_Bool (test n)) [
-    | inl e ↦ let a : length (cards_where test (suc n)) ≡ length (cards_where test n) + 1 = ap length (put_in n e) ∙ length_push (cards_where test n) n in omega (arith, a, few n)
-    | inr e ↦ let a : length (cards_where test (suc n)) ≡ length (cards_where test n) = ap length (left_out n e) in omega (arith, a, few n)
-  ]
+  few (suc n) = omega (arith, counted n, one_at_most (test n), few n)
 
-  pub part : (n m : ℕ) → n ≤ m → length (cards_where test n) ≤ length (cards_where test m)
-  part n zero le = let e : n ≡ 0 = omega (arith, le) in let a : length (cards_where test n) ≡ length (cards_where test 0) = ap (λ (i : ℕ). length (cards_where test i)) e in omega arith
-  part n (suc m) le = elim (cases_lt m n) [
-    | inl lt ↦ let e : n ≡ suc m = omega (arith, lt, le) in let a : length (cards_where test n) ≡ length (cards_where test (suc m)) = ap (λ (i : ℕ). length (cards_where test i)) e in omega arith
-    | inr low ↦ let rest = part n m low in elim (cases_Bool (test m)) [
-      | inl e ↦ let a : length (cards_where test (suc m)) ≡ length (cards_where test m) + 1 = ap length (put_in m e) ∙ length_push (cards_where test m) m in omega (arith, a, rest)
-      | inr e ↦ let a : length (cards_where test (suc m)) ≡ length (cards_where test m) = ap length (left_out m e) in omega (arith, a, rest)
-    ]
+  part : (n m : ℕ) → n ≤ m → length (cards_where test n) ≤ length (cards_where test m)
+  part n zero le = omega (arith, ap (λ (i : ℕ). length (cards_where test i)) (let e : n ≡ 0 = omega (arith, le) in e))
+  part n (suc m) le = elim (cases_eq n (suc m)) [
+    | inl e ↦ omega (arith, ap (λ (i : ℕ). length (cards_where test i)) e)
+    | inr ne ↦ omega (arith, counted m, part n m (omega (arith, le, ne)))
   ]
-
-  -- there is room for one more in the list where the next was found
-  pub room_for : (limit from card : ℕ) → IsNext test limit from (Some card) → length (cards_where test from) < length (cards_where test limit)
-  room_for limit from card h =
-      let a : length (cards_where test (card + 1)) ≡ length (cards_where test from) + 1 = ap length (next_listed limit from card h) ∙ length_push (cards_where test from) card in
-      let b = part (card + 1) limit (let lt : card < limit = h.1 in omega arith) in
-      omega (arith, a, b)
 
   pub one_counted : (limit from card : ℕ) → IsNext test limit from (Some card) → length (cards_where test (card + 1)) ≡ length (cards_where test from) + 1
   one_counted limit from card h = ap length (next_listed limit from card h) ∙ length_push (cards_where test from) card
+
+  -- there is room for one more in the list where the next was found
+  pub room_for : (limit from card : ℕ) → IsNext test limit from (Some card) → length (cards_where test from) < length (cards_where test limit)
+  room_for limit from card h = omega (arith, one_counted limit from card h, part (card + 1) limit (let lt : card < limit = h.1 in omega arith))
 
   pub listed_distinct : (n : ℕ) → IsDistinct nat_eq (cards_where test n)
   unfolding IsDistinct
@@ -84,26 +100,8 @@ module _ (test : ℕ → Bool) where
   ]
 
   -- the set of them has as many
-  same_one : (n : ℕ) → set_of (cards_where test n ++ n ∷ []) ≡ set.insert (set_of (cards_where test n)) n
-  same_one n = same_cards _ _
-      (λ q h. set.contains-insert nat_cmp_total (set_of (cards_where test n)) n q ∙ elim (Contains-push_cases (cards_where test n) n q (in_list _ q h)) [
-        | inl a ↦ or_right _ _ (in_set _ q a)
-        | inr e ↦ or_left _ _ (ap (λ (x : ℕ). eq_by_cmp nat_cmp x n) (sym e) ∙ (eq_by_cmp_equiv nat_cmp_total).refl n)
-      ])
-      (λ q h. in_set _ q (elim (or_cases _ _ (sym (set.contains-insert nat_cmp_total (set_of (cards_where test n)) n q) ∙ h)) [
-        | inl same ↦ subst (λ (x : ℕ). Contains (cards_where test n ++ n ∷ []) x) (sym (exact_unsigned q n ((Equal-is (nat_cmp q n)).0 same))) (Contains-push (cards_where test n) n)
-        | inr old ↦ Contains-append_left (cards_where test n) (n ∷ []) q (in_list _ q old)
-      ]))
-
-  new_one : (n : ℕ) → set.contains (set_of (cards_where test n)) n ≡ false
-  new_one n = false_from_ne_true _ (λ h. let lt = listed_below n n (in_list (cards_where test n) n h) in absurd (omega (arith, lt)))
-
   pub set_len : (n : ℕ) → set.len (set_of (cards_where test n)) ≡ length (cards_where test n)
-  set_len zero = set.len-empty nat_cmp
-  set_len (suc n) = elim (cases_Bool (test n)) [
-    | inl e ↦ ap (λ (l : List ℕ). set.len (set_of l)) (put_in n e) ∙ (ap set.len (same_one n) ∙ (one_more (set_of (cards_where test n)) n (new_one n) ∙ (ap (λ (x : ℕ). x + 1) (set_len n) ∙ sym (ap length (put_in n e) ∙ length_push (cards_where test n) n))))
-    | inr e ↦ ap (λ (l : List ℕ). set.len (set_of l)) (left_out n e) ∙ (set_len n ∙ sym (ap length (left_out n e)))
-  ]
+  set_len n = distinct_len (cards_where test n) (listed_distinct n)
 
 -- a walk from each card of the test to the next, whose reads find the words that it began with
 module _ (test : List ℕ → ℕ → Bool) {words read : List ℕ} (limit from : ℕ) (same : read ≡ words) where
@@ -128,14 +126,8 @@ module _ (test : List ℕ → ℕ → Bool) {words read : List ℕ} (limit from 
 -- where each card of the test is one of two others
 pub at_most_both : (f g h : ℕ → Bool) (n : ℕ) → ((c : ℕ) → c < n → f c ≡ true → (g c ≡ true) ⊎ (h c ≡ true)) → length (cards_where f n) ≤ length (cards_where g n) + length (cards_where h n)
 at_most_both f g h zero each = omega arith
-at_most_both f g h (suc n) each =
-    let rest = at_most_both f g h n (λ c lt. each c (omega (arith, lt))) in
-    let more_g = part g n (suc n) (omega arith) in
-    let more_h = part h n (suc n) (omega arith) in
-    elim (cases_Bool (f n)) [
-      | inl e ↦ let a : length (cards_where f (suc n)) ≡ length (cards_where f n) + 1 = ap length (put_in f n e) ∙ length_push (cards_where f n) n in elim (each n (omega arith) e) [
-        | inl y ↦ let b : length (cards_where g (suc n)) ≡ length (cards_where g n) + 1 = ap length (put_in g n y) ∙ length_push (cards_where g n) n in omega (arith, a, b, rest, more_h)
-        | inr y ↦ let b : length (cards_where h (suc n)) ≡ length (cards_where h n) + 1 = ap length (put_in h n y) ∙ length_push (cards_where h n) n in omega (arith, a, b, rest, more_g)
-      ]
-      | inr e ↦ let a : length (cards_where f (suc n)) ≡ length (cards_where f n) = ap length (left_out f n e) in omega (arith, a, rest, more_g, more_h)
-    ]
+at_most_both f g h (suc n) each = omega (arith, counted f n, counted g n, counted h n, at_most_both f g h n (λ c lt. each c (omega (arith, lt))), either (f n) (g n) (h n) (each n (omega arith)))
+  where
+    either : (a b c : Bool) → (a ≡ true → (b ≡ true) ⊎ (c ≡ true)) → as_number a ≤ as_number b + as_number c
+    either false b c h = omega arith
+    either true b c h = elim (h refl) [ inl e ↦ omega (arith, ap as_number e) | inr e ↦ omega (arith, ap as_number e) ]
