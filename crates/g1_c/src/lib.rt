@@ -22,6 +22,7 @@
 //! nothing else.
 #![tactic(auto)]
 
+mod calling;
 pub mod heap;
 pub mod member;
 pub mod one_core;

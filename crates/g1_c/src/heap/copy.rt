@@ -3,15 +3,14 @@ ghost use Rattle.std.specs.Prelude.{◌≡◌, ◌⊎◌, ◌+◌, ◌≤◌};
 ghost use Rattle.g1_c.specs.{slot_count, TellsRefusal, Copies, IsHeapRefused, IsSameHeap, OfPaused};
 ghost use Rattle.g1_c.specs.{LacksSlots};
 
-use core::mem::replace_with;
+use crate::calling::on_heap;
 use g1_handles::code::DONE;
-use g1_handles::heap::at_pause::{PausedHeap, at_pause};
 use g1_handles::heap::copy::copy_at;
 use g1_handles::heap::handle::HeapHandle;
 use std::alloc::Global;
 
 /// As in `g1.h`.
-#[tactic(auto, using(crate::proofs::Calls::tells_none))]
+#[tactic(auto, using(crate::proofs::heap_made, crate::proofs::tells_none))]
 #[unsafe(no_mangle)]
 pub extern "C" fn g1_heap_copy(
     alloc: Global,
@@ -28,14 +27,7 @@ pub extern "C" fn g1_heap_copy(
         (IsHeapRefused heap.old.value (λ old r. LacksSlots old.layout from count r
         ⊎ LacksSlots old.layout to count r)) }
 {
-    match replace_with(
-        heap,
-        (
-            alloc,
-            |heap: &mut PausedHeap| copy_at(heap, from, to, count),
-        ),
-        at_pause,
-    ) {
+    match on_heap!(alloc, heap, copy_at(from, to, count)) {
         Err(refusal) => refusal.word(),
         Ok(()) => DONE,
     }

@@ -3,9 +3,8 @@ ghost use Rattle.std.specs.Prelude.{◌≡◌, ◌≢◌, ◌<◌};
 ghost use Rattle.g1_c.specs.{take, TellsRefusal, DrainsAtPause, Refines, IsWritten, IsRefusal};
 ghost use Rattle.g1_c.specs.{IsHeapRefused, IsSameHeap, HasFirst, LacksRegion};
 
-use core::mem::replace_with;
+use crate::calling::on_heap;
 use g1_handles::code::{DONE, Refusal};
-use g1_handles::heap::at_pause::{PausedHeap, at_pause};
 use g1_handles::heap::drains::refine_at;
 use g1_handles::heap::handle::HeapHandle;
 use g1_handles::heap::sets::{Told, Which, set_of_heap};
@@ -13,6 +12,7 @@ use std::alloc::Global;
 
 /// As in `g1.h`.
 #[unsafe(no_mangle)]
+#[tactic(auto, using(crate::specs::called_same))]
 pub extern "C" fn g1_heap_drain(
     alloc: Global,
     heap: &mut HeapHandle,
@@ -46,7 +46,7 @@ pub extern "C" fn g1_heap_drain(
 }
 
 /// As in `g1.h`.
-#[tactic(auto, using(crate::proofs::Calls::tells_none))]
+#[tactic(auto, using(crate::proofs::tells_none))]
 #[unsafe(no_mangle)]
 pub extern "C" fn g1_heap_refine(alloc: Global, heap: &mut HeapHandle) -> u32
     ensures refined { result ≡ 0 → IsSameHeap heap.old.value heap.new.value (λ old new.
@@ -54,11 +54,7 @@ pub extern "C" fn g1_heap_refine(alloc: Global, heap: &mut HeapHandle) -> u32
     ensures told { TellsRefusal 0 result heap.old.value heap.new.value (Unit {0})
         (IsHeapRefused heap.old.value (λ old r. ⊥)) }
 {
-    match replace_with(
-        heap,
-        (alloc, |heap: &mut PausedHeap| Ok(refine_at(heap))),
-        at_pause,
-    ) {
+    match on_heap!(alloc, heap, Ok(refine_at())) {
         Err(refusal) => refusal.word(),
         Ok(()) => DONE,
     }

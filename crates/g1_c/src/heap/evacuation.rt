@@ -4,16 +4,16 @@ ghost use Rattle.std.specs.Prelude.{◌≡◌, ◌≢◌, ◌⊎◌, ◌<◌};
 ghost use Rattle.g1_c.specs.{TellsRefusal, ClearsAt, Redirects, Wipes, Forgets, RefersOut};
 ghost use Rattle.g1_c.specs.{IsRefusal, IsHeapRefused, IsSameHeap, OfPaused, LacksRegion};
 
-use core::mem::replace_with;
+use crate::calling::on_heap;
 use g1_core::ClearReply;
 use g1_handles::code::{DONE, Refusal};
-use g1_handles::heap::at_pause::{PausedHeap, at_pause};
 use g1_handles::heap::evacuation::{clear_at, forget_at, redirect_at, wipe_at};
 use g1_handles::heap::handle::HeapHandle;
 use std::alloc::Global;
 
 /// As in `g1.h`.
 #[unsafe(no_mangle)]
+#[tactic(auto, using(crate::specs::called_same))]
 pub extern "C" fn g1_heap_clear(
     alloc: Global,
     heap: &mut HeapHandle,
@@ -31,11 +31,7 @@ pub extern "C" fn g1_heap_clear(
         (IsHeapRefused heap.old.value (λ old. LacksRegion old.layout region)) }
     ensures refused { 0 < result → heap.new.value ≡ heap.old.value }
 {
-    match replace_with(
-        heap,
-        (alloc, |heap: &mut PausedHeap| clear_at(heap, region)),
-        at_pause,
-    ) {
+    match on_heap!(alloc, heap, clear_at(region)) {
         Err(refusal) => {
             *detail = 0;
             refusal.word()
@@ -48,7 +44,7 @@ pub extern "C" fn g1_heap_clear(
 }
 
 /// As in `g1.h`.
-#[tactic(auto, using(crate::proofs::Calls::tells_none))]
+#[tactic(auto, using(crate::proofs::heap_made, crate::proofs::tells_none))]
 #[unsafe(no_mangle)]
 pub extern "C" fn g1_heap_redirect(
     alloc: Global,
@@ -63,11 +59,7 @@ pub extern "C" fn g1_heap_redirect(
         (IsHeapRefused heap.old.value (λ old r. LacksRegion old.layout from r
         ⊎ LacksRegion old.layout to r ⊎ ((r ≡ Refusal.SameRegion) × (from ≡ to)))) }
 {
-    match replace_with(
-        heap,
-        (alloc, |heap: &mut PausedHeap| redirect_at(heap, from, to)),
-        at_pause,
-    ) {
+    match on_heap!(alloc, heap, redirect_at(from, to)) {
         Err(refusal) => {
             *moved = 0;
             refusal.word()
@@ -80,7 +72,7 @@ pub extern "C" fn g1_heap_redirect(
 }
 
 /// As in `g1.h`.
-#[tactic(auto, using(crate::proofs::Calls::tells_none))]
+#[tactic(auto, using(crate::proofs::heap_made, crate::proofs::tells_none))]
 #[unsafe(no_mangle)]
 pub extern "C" fn g1_heap_wipe(alloc: Global, heap: &mut HeapHandle, region: u32) -> u32
     ensures wiped { result ≡ 0 → IsSameHeap heap.old.value heap.new.value (λ old new.
@@ -89,18 +81,14 @@ pub extern "C" fn g1_heap_wipe(alloc: Global, heap: &mut HeapHandle, region: u32
     ensures told { TellsRefusal 0 result heap.old.value heap.new.value (Unit {0})
         (IsHeapRefused heap.old.value (λ old. LacksRegion old.layout region)) }
 {
-    match replace_with(
-        heap,
-        (alloc, |heap: &mut PausedHeap| wipe_at(heap, region)),
-        at_pause,
-    ) {
+    match on_heap!(alloc, heap, wipe_at(region)) {
         Err(refusal) => refusal.word(),
         Ok(()) => DONE,
     }
 }
 
 /// As in `g1.h`.
-#[tactic(auto, using(crate::proofs::Calls::tells_none))]
+#[tactic(auto, using(crate::proofs::heap_made, crate::proofs::tells_none))]
 #[unsafe(no_mangle)]
 pub extern "C" fn g1_heap_forget(alloc: Global, heap: &mut HeapHandle, region: u32) -> u32
     ensures forgotten { result ≡ 0 → IsSameHeap heap.old.value heap.new.value (λ old new.
@@ -109,11 +97,7 @@ pub extern "C" fn g1_heap_forget(alloc: Global, heap: &mut HeapHandle, region: u
         (IsHeapRefused heap.old.value (λ old r. LacksRegion old.layout region r ⊎
         ((r ≡ Refusal.StillReferenced) × RefersOut old region))) }
 {
-    match replace_with(
-        heap,
-        (alloc, |heap: &mut PausedHeap| forget_at(heap, region)),
-        at_pause,
-    ) {
+    match on_heap!(alloc, heap, forget_at(region)) {
         Err(refusal) => refusal.word(),
         Ok(()) => DONE,
     }

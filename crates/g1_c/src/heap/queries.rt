@@ -6,11 +6,10 @@ ghost use Rattle.g1_c.specs.{TellsMembers, IsWritten, IsRefusal, reference_of, I
 ghost use Rattle.g1_c.specs.{IsSameHeap, HasFirst, LacksCard, LacksRegion, LacksSlot, Answers};
 ghost use Rattle.g1_race.specs.Reading.{IsNextMember};
 
+use crate::calling::on_heap;
 use crate::one_core::queries::Totals;
 use crate::tell::{tell, tell_whether};
-use core::mem::replace_with;
 use g1_handles::code::{DONE, NULL, Refusal};
-use g1_handles::heap::at_pause::{PausedHeap, at_pause};
 use g1_handles::heap::handle::HeapHandle;
 use g1_handles::heap::queries::{is_pending_at, next_member_at, status_at, target_at};
 use g1_handles::heap::sets::{Told, Which, set_of_heap};
@@ -29,11 +28,7 @@ pub extern "C" fn g1_heap_target(
         SlotRefers old slot (reference_of target)))
         (IsHeapRefused heap.old.value (λ old. LacksSlot old.layout slot)) }
 {
-    let answer = replace_with(
-        heap,
-        (alloc, |heap: &mut PausedHeap| target_at(heap, slot)),
-        at_pause,
-    );
+    let answer = on_heap!(alloc, heap, target_at(slot));
     tell(answer, NULL, target)
 }
 
@@ -51,16 +46,12 @@ pub extern "C" fn g1_heap_is_pending(
         (IsHeapRefused heap.old.value (λ old. LacksCard old.layout card)) }
     ensures word { pending.new ≤ 1 }
 {
-    let answer = replace_with(
-        heap,
-        (alloc, |heap: &mut PausedHeap| is_pending_at(heap, card)),
-        at_pause,
-    );
+    let answer = on_heap!(alloc, heap, is_pending_at(card));
     tell_whether(answer, pending)
 }
 
 /// As in `g1.h`.
-#[tactic(auto, using(crate::proofs::Calls::tells_none))]
+#[tactic(auto, using(crate::proofs::tells_none))]
 #[unsafe(no_mangle)]
 pub extern "C" fn g1_heap_status(alloc: Global, heap: &mut HeapHandle, totals: &mut Totals) -> u32
     ensures status { result ≡ 0 → IsSameHeap heap.old.value heap.new.value (λ old new.
@@ -73,11 +64,7 @@ pub extern "C" fn g1_heap_status(alloc: Global, heap: &mut HeapHandle, totals: &
         (λ old r. ⊥)) }
     ensures same { heap.new.value ≡ heap.old.value }
 {
-    match replace_with(
-        heap,
-        (alloc, |heap: &mut PausedHeap| Ok(status_at(heap))),
-        at_pause,
-    ) {
+    match on_heap!(alloc, heap, Ok(status_at())) {
         Err(refusal) => {
             *totals = Totals {
                 pending: 0,
@@ -97,6 +84,7 @@ pub extern "C" fn g1_heap_status(alloc: Global, heap: &mut HeapHandle, totals: &
 
 /// As in `g1.h`.
 #[unsafe(no_mangle)]
+#[tactic(auto, using(crate::specs::called_same))]
 pub extern "C" fn g1_heap_members(
     alloc: Global,
     heap: &mut HeapHandle,
@@ -143,13 +131,6 @@ pub extern "C" fn g1_heap_next_member(
         IsNextMember (table_at old) region from (reference_of card)))
         (IsHeapRefused heap.old.value (λ old. LacksRegion old.layout region)) }
 {
-    let answer = replace_with(
-        heap,
-        (
-            alloc,
-            |heap: &mut PausedHeap| next_member_at(heap, region, from),
-        ),
-        at_pause,
-    );
+    let answer = on_heap!(alloc, heap, next_member_at(region, from));
     tell(answer, NULL, card)
 }

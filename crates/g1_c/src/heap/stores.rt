@@ -3,16 +3,15 @@ ghost use Rattle.std.specs.Prelude.{◌≡◌, ◌⊎◌, ◌≤◌};
 ghost use Rattle.g1_c.specs.{length, take, TellsRefusal, StoresAt, StoresAllAt, IsFaultAt, OfKind};
 ghost use Rattle.g1_c.specs.{reference_of, IsHeapRefused, IsSameHeap, OfPaused, LacksPlace};
 
-use core::mem::replace_with;
+use crate::calling::on_heap;
 use g1_handles::code::{DONE, STOPPED, kind_word};
-use g1_handles::heap::at_pause::{PausedHeap, at_pause};
 use g1_handles::heap::handle::HeapHandle;
 use g1_handles::heap::stores::{store_all_at, store_at};
 use g1_handles::one_core::batch::Store;
 use std::alloc::Global;
 
 /// As in `g1.h`.
-#[tactic(auto, using(crate::proofs::Calls::tells_none))]
+#[tactic(auto, using(crate::proofs::heap_made, crate::proofs::tells_none))]
 #[unsafe(no_mangle)]
 pub extern "C" fn g1_heap_store(
     alloc: Global,
@@ -26,11 +25,7 @@ pub extern "C" fn g1_heap_store(
     ensures told { TellsRefusal 0 result heap.old.value heap.new.value (kind.new ≡ 0)
         (IsHeapRefused heap.old.value (λ old. LacksPlace old.layout slot target)) }
 {
-    match replace_with(
-        heap,
-        (alloc, |heap: &mut PausedHeap| store_at(heap, slot, target)),
-        at_pause,
-    ) {
+    match on_heap!(alloc, heap, store_at(slot, target)) {
         Err(refusal) => {
             *kind = 0;
             refusal.word()
@@ -43,7 +38,7 @@ pub extern "C" fn g1_heap_store(
 }
 
 /// As in `g1.h`.
-#[tactic(auto, using(crate::proofs::Calls::tells_none))]
+#[tactic(auto, using(crate::proofs::tells_none))]
 #[unsafe(no_mangle)]
 pub extern "C" fn g1_heap_store_all(
     alloc: Global,
@@ -60,14 +55,7 @@ pub extern "C" fn g1_heap_store_all(
     ensures told { TellsRefusal 3 result heap.old.value heap.new.value (stored.new ≡ 0)
         (IsHeapRefused heap.old.value (λ old r. ⊥)) }
 {
-    match replace_with(
-        heap,
-        (
-            alloc,
-            |heap: &mut PausedHeap| Ok(store_all_at(heap, stores)),
-        ),
-        at_pause,
-    ) {
+    match on_heap!(alloc, heap, Ok(store_all_at(stores))) {
         Err(refusal) => {
             *stored = 0;
             refusal.word()

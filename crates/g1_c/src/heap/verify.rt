@@ -3,15 +3,14 @@ ghost use Rattle.std.specs.Prelude.{◌≡◌, ◌+◌, ◌≤◌};
 ghost use Rattle.g1_c.specs.{length, slot_count, TellsRefusal, IsHeapRefused, IsSameHeap, OfPaused};
 ghost use Rattle.g1_c.specs.{FindsAt, LacksRanges};
 
-use core::mem::replace_with;
+use crate::calling::on_heap;
 use g1_handles::code::{DONE, NULL};
-use g1_handles::heap::at_pause::{PausedHeap, at_pause};
 use g1_handles::heap::handle::HeapHandle;
 use g1_handles::heap::verify::verify_at;
 use std::alloc::Global;
 
 /// As in `g1.h`.
-#[tactic(auto, using(crate::proofs::Calls::tells_none))]
+#[tactic(auto, using(crate::proofs::heap_made, crate::proofs::tells_none))]
 #[unsafe(no_mangle)]
 pub extern "C" fn g1_heap_verify(
     alloc: Global,
@@ -31,14 +30,7 @@ pub extern "C" fn g1_heap_verify(
         (λ old. LacksRanges old.layout first count first (length references.now))) }
     ensures same { heap.new.value ≡ heap.old.value }
 {
-    match replace_with(
-        heap,
-        (
-            alloc,
-            |heap: &mut PausedHeap| verify_at(heap, first, count, references),
-        ),
-        at_pause,
-    ) {
+    match on_heap!(alloc, heap, verify_at(first, count, references)) {
         Err(refusal) => {
             *differing = NULL;
             *missing = NULL;

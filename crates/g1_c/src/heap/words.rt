@@ -4,17 +4,17 @@ ghost use Rattle.g1_c.specs.{race_words, TellsRefusal, HasWord, StoresDataAt, Is
 ghost use Rattle.g1_c.specs.{IsSameHeap, OfHeap, SaysNoHeap, LacksSlot, Answers};
 ghost use denote.RawPtr.{null_ptr};
 
+use crate::calling::on_heap;
 use crate::tell::tell;
 use core::mem::replace_with;
 use g1_handles::code::{DONE, Refusal};
-use g1_handles::heap::at_pause::{PausedHeap, at_pause};
 use g1_handles::heap::handle::HeapHandle;
 use g1_handles::heap::words::{store_data_at, word_at, words_in};
 use std::alloc::Global;
 use std::ptr::null;
 
 /// As in `g1.h`.
-#[tactic(auto, using(crate::proofs::Calls::tells_none))]
+#[tactic(auto, using(crate::proofs::tells_none))]
 #[unsafe(no_mangle)]
 pub extern "C" fn g1_heap_words(alloc: Global, heap: &mut HeapHandle, words: &mut *const u64) -> u32
     ensures words { result ≡ 0 → OfHeap heap.old.value (λ race. words.new ≡ race_words race) }
@@ -46,16 +46,12 @@ pub extern "C" fn g1_heap_word(
         (λ word. IsSameHeap heap.old.value heap.new.value (λ old new. HasWord old slot word))
         (IsHeapRefused heap.old.value (λ old. LacksSlot old.layout slot)) }
 {
-    let answer = replace_with(
-        heap,
-        (alloc, |heap: &mut PausedHeap| word_at(heap, slot)),
-        at_pause,
-    );
+    let answer = on_heap!(alloc, heap, word_at(slot));
     tell(answer, 0, word)
 }
 
 /// As in `g1.h`.
-#[tactic(auto, using(crate::proofs::Calls::tells_none))]
+#[tactic(auto, using(crate::proofs::heap_made, crate::proofs::tells_none))]
 #[unsafe(no_mangle)]
 pub extern "C" fn g1_heap_store_data(
     alloc: Global,
@@ -69,14 +65,7 @@ pub extern "C" fn g1_heap_store_data(
         (IsHeapRefused heap.old.value (λ old r. LacksSlot old.layout slot r ⊎ ((r ≡ Refusal.BadWord)
         × (word < 2 ^ 32)))) }
 {
-    match replace_with(
-        heap,
-        (
-            alloc,
-            |heap: &mut PausedHeap| store_data_at(heap, slot, word),
-        ),
-        at_pause,
-    ) {
+    match on_heap!(alloc, heap, store_data_at(slot, word)) {
         Err(refusal) => refusal.word(),
         Ok(()) => DONE,
     }

@@ -3,18 +3,15 @@ ghost use Rattle.std.specs.Prelude.{◌≡◌, ◌⊎◌, ◌<◌, ◌≤◌};
 ghost use Rattle.g1_c.specs.{length, take, array_vec_len, race_layout, TellsRefusal, IsFaultAt};
 ghost use Rattle.g1_c.specs.{StoresAll, CanStoreAll, OfRacer, IfRacer, racer_race_of, SaysNoMember};
 
-use core::mem::replace_with;
-use g1_handles::any_handle::visit;
+use crate::calling::on_racer;
 use g1_handles::code::{DONE, FULL, STOPPED};
-use g1_handles::member::Member;
 use g1_handles::member::batch::{BatchEnd, store_all_by};
 use g1_handles::member::racer_handle::RacerHandle;
 use g1_handles::one_core::batch::Store;
-use g1_race::Racer;
 use std::alloc::Global;
 
 /// As in `g1.h`.
-#[tactic(auto, using(crate::proofs::Calls::tells_none))]
+#[tactic(auto, using(crate::proofs::tells_none))]
 #[unsafe(no_mangle)]
 pub extern "C" fn g1_race_store_all(
     alloc: Global,
@@ -34,14 +31,7 @@ pub extern "C" fn g1_race_store_all(
     ensures told { TellsRefusal 4 result racer.old.value racer.new.value (stored.new ≡ 0)
         (SaysNoMember racer.old.value) }
 {
-    match replace_with(
-        racer,
-        (
-            alloc,
-            |racer: &mut Member<Racer>| store_all_by(racer, stores),
-        ),
-        visit,
-    ) {
+    match on_racer!(alloc, racer, store_all_by(stores)) {
         Err(refusal) => {
             *stored = 0;
             refusal.word()

@@ -3,19 +3,16 @@ ghost use Rattle.std.specs.Prelude.{◌≡◌, ◌<◌};
 ghost use Rattle.g1_c.specs.{TellsRefusal, OfRacer, OfSweeper, SaysNoMember};
 ghost use Rattle.g1_handles.specs.Counting.{stored_of};
 
-use core::mem::replace_with;
-use g1_handles::any_handle::visit;
+use crate::calling::{on_racer, on_sweeper};
 use g1_handles::code::DONE;
-use g1_handles::member::Member;
 use g1_handles::member::counts::{store_counts_of, sweep_counts_of};
 use g1_handles::member::racer_handle::RacerHandle;
 use g1_handles::member::sweeper_handle::SweeperHandle;
 use g1_layout::Kind;
-use g1_race::{Racer, Sweeper};
 use std::alloc::Global;
 
 /// As in `g1.h`.
-#[tactic(auto, using(crate::proofs::Calls::tells_none))]
+#[tactic(auto, using(crate::proofs::tells_none))]
 #[unsafe(no_mangle)]
 pub extern "C" fn g1_racer_counts(
     alloc: Global,
@@ -35,11 +32,7 @@ pub extern "C" fn g1_racer_counts(
         (SaysNoMember racer.old.value) }
     ensures same { racer.new.value ≡ racer.old.value }
 {
-    match replace_with(
-        racer,
-        (alloc, |racer: &mut Member<Racer>| store_counts_of(racer)),
-        visit,
-    ) {
+    match on_racer!(alloc, racer, store_counts_of()) {
         Err(refusal) => {
             *null = 0;
             *same_region = 0;
@@ -55,7 +48,7 @@ pub extern "C" fn g1_racer_counts(
 }
 
 /// As in `g1.h`.
-#[tactic(auto, using(crate::proofs::Calls::tells_none))]
+#[tactic(auto, using(crate::proofs::tells_none))]
 #[unsafe(no_mangle)]
 pub extern "C" fn g1_sweeper_counts(
     alloc: Global,
@@ -72,14 +65,7 @@ pub extern "C" fn g1_sweeper_counts(
         (SaysNoMember sweeper.old.value) }
     ensures same { sweeper.new.value ≡ sweeper.old.value }
 {
-    match replace_with(
-        sweeper,
-        (
-            alloc,
-            |sweeper: &mut Member<Sweeper>| sweep_counts_of(sweeper),
-        ),
-        visit,
-    ) {
+    match on_sweeper!(alloc, sweeper, sweep_counts_of()) {
         Err(refusal) => {
             *refined = 0;
             *cleaned = 0;

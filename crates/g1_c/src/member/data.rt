@@ -3,17 +3,14 @@ ghost use Rattle.std.specs.Prelude.{◌≡◌, ◌<◌, ◌≤◌, ◌^◌};
 ghost use Rattle.g1_c.specs.{slot_count, race_layout, TellsRefusal, OfRacer, IfRacer, StoresData};
 ghost use Rattle.g1_c.specs.{racer_race_of, IsRaceDataRefused};
 
-use core::mem::replace_with;
-use g1_handles::any_handle::visit;
+use crate::calling::on_racer;
 use g1_handles::code::DONE;
-use g1_handles::member::Member;
 use g1_handles::member::data::store_data_by;
 use g1_handles::member::racer_handle::RacerHandle;
-use g1_race::Racer;
 use std::alloc::Global;
 
 /// As in `g1.h`.
-#[tactic(auto, using(crate::proofs::Calls::tells_none))]
+#[tactic(auto, using(crate::proofs::role_made, crate::proofs::taken_2, crate::proofs::tells_none))]
 #[unsafe(no_mangle)]
 pub extern "C" fn g1_race_store_data(
     alloc: Global,
@@ -29,14 +26,7 @@ pub extern "C" fn g1_race_store_data(
     ensures told { TellsRefusal 0 result racer.old.value racer.new.value (old.new ≡ 0)
         (IsRaceDataRefused racer.old.value slot word) }
 {
-    match replace_with(
-        racer,
-        (
-            alloc,
-            |racer: &mut Member<Racer>| store_data_by(racer, slot, word),
-        ),
-        visit,
-    ) {
+    match on_racer!(alloc, racer, store_data_by(slot, word)) {
         Err(refusal) => {
             *old = 0;
             refusal.word()

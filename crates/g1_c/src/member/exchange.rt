@@ -4,17 +4,14 @@ ghost use Rattle.g1_c.specs.{array_vec_len, race_layout, TellsRefusal, IsStoreOf
 ghost use Rattle.g1_c.specs.{reference_of, Swaps, Exchanges, FindsOther, OfRacer, IfRacer};
 ghost use Rattle.g1_c.specs.{racer_race_of, IsRaceStoreRefused, IsRaceExchangeRefused};
 
-use core::mem::replace_with;
-use g1_handles::any_handle::visit;
+use crate::calling::on_racer;
 use g1_handles::code::{DIFFERS, DONE, NULL, kind_word};
-use g1_handles::member::Member;
 use g1_handles::member::exchange::{Exchange, compare_exchange_by, swap_by};
 use g1_handles::member::racer_handle::RacerHandle;
-use g1_race::Racer;
 use std::alloc::Global;
 
 /// As in `g1.h`.
-#[tactic(auto, using(crate::proofs::Calls::tells_none))]
+#[tactic(auto, using(crate::proofs::of_kind, crate::proofs::role_made, crate::proofs::tells_none))]
 #[unsafe(no_mangle)]
 pub extern "C" fn g1_race_swap(
     alloc: Global,
@@ -32,14 +29,7 @@ pub extern "C" fn g1_race_swap(
     ensures told { TellsRefusal 0 result racer.old.value racer.new.value
         ((old.new ≡ 4294967295) × (kind.new ≡ 0)) (IsRaceStoreRefused racer.old.value slot target) }
 {
-    match replace_with(
-        racer,
-        (
-            alloc,
-            |racer: &mut Member<Racer>| swap_by(racer, slot, target),
-        ),
-        visit,
-    ) {
+    match on_racer!(alloc, racer, swap_by(slot, target)) {
         Err(refusal) => {
             *old = NULL;
             *kind = 0;
@@ -54,7 +44,7 @@ pub extern "C" fn g1_race_swap(
 }
 
 /// As in `g1.h`.
-#[tactic(auto, using(crate::proofs::Calls::tells_none))]
+#[tactic(auto, using(crate::proofs::of_kind, crate::proofs::role_made, crate::proofs::tells_none))]
 #[unsafe(no_mangle)]
 pub extern "C" fn g1_race_compare_exchange(
     alloc: Global,
@@ -81,14 +71,7 @@ pub extern "C" fn g1_race_compare_exchange(
         (IsRaceExchangeRefused racer.old.value slot expected target) }
 {
     *kind = 0;
-    match replace_with(
-        racer,
-        (
-            alloc,
-            |racer: &mut Member<Racer>| compare_exchange_by(racer, slot, expected, target),
-        ),
-        visit,
-    ) {
+    match on_racer!(alloc, racer, compare_exchange_by(slot, expected, target)) {
         Err(refusal) => {
             *found = NULL;
             refusal.word()

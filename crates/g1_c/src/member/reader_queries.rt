@@ -5,20 +5,18 @@ ghost use Rattle.g1_c.specs.{reference_of, OfReader, reader_layout, ReadsTarget,
 ghost use Rattle.g1_c.specs.{ReadsPair, ReadsPending, ReadsNext, IsReaderRefused, LacksCard};
 ghost use Rattle.g1_c.specs.{LacksPair, LacksRegion, LacksSlot, Answers};
 
+use crate::calling::on_reader;
 use crate::tell::{tell, tell_whether};
-use core::mem::replace_with;
-use g1_handles::any_handle::visit;
 use g1_handles::code::NULL;
-use g1_handles::member::Member;
 use g1_handles::member::reader_handle::ReaderHandle;
 use g1_handles::member::reader_queries::{
     has_by, is_pending_by, next_member_by, target_by, word_by,
 };
-use g1_race::Reader;
 use std::alloc::Global;
 
 /// As in `g1.h`.
 #[unsafe(no_mangle)]
+#[tactic(auto, using(crate::proofs::role_answers))]
 pub extern "C" fn g1_reader_target(
     alloc: Global,
     reader: &mut ReaderHandle,
@@ -30,16 +28,13 @@ pub extern "C" fn g1_reader_target(
         (λ target. OfReader reader.old.value (λ a. ReadsTarget a slot (reference_of target)))
         (IsReaderRefused reader.old.value (λ a. LacksSlot (reader_layout a) slot)) }
 {
-    let answer = replace_with(
-        reader,
-        (alloc, |reader: &mut Member<Reader>| target_by(reader, slot)),
-        visit,
-    );
+    let answer = on_reader!(alloc, reader, target_by(slot));
     tell(answer, NULL, target)
 }
 
 /// As in `g1.h`.
 #[unsafe(no_mangle)]
+#[tactic(auto, using(crate::proofs::role_answers))]
 pub extern "C" fn g1_reader_word(
     alloc: Global,
     reader: &mut ReaderHandle,
@@ -50,16 +45,13 @@ pub extern "C" fn g1_reader_word(
         (λ word. OfReader reader.old.value (λ a. ReadsWord a slot word))
         (IsReaderRefused reader.old.value (λ a. LacksSlot (reader_layout a) slot)) }
 {
-    let answer = replace_with(
-        reader,
-        (alloc, |reader: &mut Member<Reader>| word_by(reader, slot)),
-        visit,
-    );
+    let answer = on_reader!(alloc, reader, word_by(slot));
     tell(answer, 0, word)
 }
 
 /// As in `g1.h`.
 #[unsafe(no_mangle)]
+#[tactic(auto, using(crate::proofs::role_answers))]
 pub extern "C" fn g1_reader_is_pending(
     alloc: Global,
     reader: &mut ReaderHandle,
@@ -72,14 +64,7 @@ pub extern "C" fn g1_reader_is_pending(
         (IsReaderRefused reader.old.value (λ a. LacksCard (reader_layout a) card)) }
     ensures word { pending.new ≤ 1 }
 {
-    let answer = replace_with(
-        reader,
-        (
-            alloc,
-            |reader: &mut Member<Reader>| is_pending_by(reader, card),
-        ),
-        visit,
-    );
+    let answer = on_reader!(alloc, reader, is_pending_by(card));
     tell_whether(answer, pending)
 }
 
@@ -97,19 +82,13 @@ pub extern "C" fn g1_reader_has(
         (IsReaderRefused reader.old.value (λ a. LacksPair (reader_layout a) card region)) }
     ensures word { has.new ≤ 1 }
 {
-    let answer = replace_with(
-        reader,
-        (
-            alloc,
-            |reader: &mut Member<Reader>| has_by(reader, card, region),
-        ),
-        visit,
-    );
+    let answer = on_reader!(alloc, reader, has_by(card, region));
     tell_whether(answer, has)
 }
 
 /// As in `g1.h`.
 #[unsafe(no_mangle)]
+#[tactic(auto, using(crate::proofs::role_answers))]
 pub extern "C" fn g1_reader_next_member(
     alloc: Global,
     reader: &mut ReaderHandle,
@@ -121,13 +100,6 @@ pub extern "C" fn g1_reader_next_member(
         (λ card. OfReader reader.old.value (λ a. ReadsNext a region from (reference_of card)))
         (IsReaderRefused reader.old.value (λ a. LacksRegion (reader_layout a) region)) }
 {
-    let answer = replace_with(
-        reader,
-        (
-            alloc,
-            |reader: &mut Member<Reader>| next_member_by(reader, region, from),
-        ),
-        visit,
-    );
+    let answer = on_reader!(alloc, reader, next_member_by(region, from));
     tell(answer, NULL, card)
 }

@@ -4,17 +4,14 @@ ghost use Rattle.g1_c.specs.{array_vec_len, race_layout, TellsRefusal, IsStoreOf
 ghost use Rattle.g1_c.specs.{reference_of, OfRacer, IfRacer, Stores, racer_race_of};
 ghost use Rattle.g1_c.specs.{IsRaceStoreRefused};
 
-use core::mem::replace_with;
-use g1_handles::any_handle::visit;
+use crate::calling::on_racer;
 use g1_handles::code::{DONE, kind_word};
-use g1_handles::member::Member;
 use g1_handles::member::racer_handle::RacerHandle;
 use g1_handles::member::store::store_by;
-use g1_race::Racer;
 use std::alloc::Global;
 
 /// As in `g1.h`.
-#[tactic(auto, using(crate::proofs::Calls::tells_none))]
+#[tactic(auto, using(crate::proofs::of_kind, crate::proofs::role_made, crate::proofs::tells_none))]
 #[unsafe(no_mangle)]
 pub extern "C" fn g1_race_store(
     alloc: Global,
@@ -31,14 +28,7 @@ pub extern "C" fn g1_race_store(
     ensures told { TellsRefusal 0 result racer.old.value racer.new.value (kind.new ≡ 0)
         (IsRaceStoreRefused racer.old.value slot target) }
 {
-    match replace_with(
-        racer,
-        (
-            alloc,
-            |racer: &mut Member<Racer>| store_by(racer, slot, target),
-        ),
-        visit,
-    ) {
+    match on_racer!(alloc, racer, store_by(slot, target)) {
         Err(refusal) => {
             *kind = 0;
             refusal.word()

@@ -4,17 +4,14 @@ ghost use Rattle.g1_c.specs.{TellsRefusal, OfKind, OfRacer, IfRacer, racer_race_
 ghost use Rattle.g1_handles.specs.RaceWords.{SwapsWord, FindsOtherWord, CanStoreWord, MayHave};
 ghost use Rattle.g1_handles.specs.RaceWords.{IsSwapWordRefused, IsExchangeWordRefused};
 
-use core::mem::replace_with;
-use g1_handles::any_handle::visit;
+use crate::calling::on_racer;
 use g1_handles::code::{DIFFERS, DONE, kind_word};
-use g1_handles::member::Member;
 use g1_handles::member::racer_handle::RacerHandle;
 use g1_handles::member::words::{compare_exchange_word_by, swap_word_by};
-use g1_race::Racer;
 use std::alloc::Global;
 
 /// As in `g1.h`.
-#[tactic(auto, using(crate::proofs::Calls::tells_none))]
+#[tactic(auto, using(crate::proofs::of_kind, crate::proofs::role_made, crate::proofs::tells_none))]
 #[unsafe(no_mangle)]
 pub extern "C" fn g1_race_swap_word(
     alloc: Global,
@@ -31,14 +28,7 @@ pub extern "C" fn g1_race_swap_word(
     ensures told { TellsRefusal 0 result racer.old.value racer.new.value
         ((old.new ≡ 0) × (kind.new ≡ 0)) (IsSwapWordRefused racer.old.value slot word) }
 {
-    match replace_with(
-        racer,
-        (
-            alloc,
-            |racer: &mut Member<Racer>| swap_word_by(racer, slot, word),
-        ),
-        visit,
-    ) {
+    match on_racer!(alloc, racer, swap_word_by(slot, word)) {
         Err(refusal) => {
             *old = 0;
             *kind = 0;
@@ -53,7 +43,7 @@ pub extern "C" fn g1_race_swap_word(
 }
 
 /// As in `g1.h`.
-#[tactic(auto, using(crate::proofs::Calls::tells_none))]
+#[tactic(auto, using(crate::proofs::of_kind, crate::proofs::role_made, crate::proofs::taken_2, crate::proofs::tells_none,))]
 #[unsafe(no_mangle)]
 pub extern "C" fn g1_race_compare_exchange_word(
     alloc: Global,
@@ -78,14 +68,7 @@ pub extern "C" fn g1_race_compare_exchange_word(
         (IsExchangeWordRefused racer.old.value slot expected word) }
 {
     *kind = 0;
-    match replace_with(
-        racer,
-        (
-            alloc,
-            |racer: &mut Member<Racer>| compare_exchange_word_by(racer, slot, expected, word),
-        ),
-        visit,
-    ) {
+    match on_racer!(alloc, racer, compare_exchange_word_by(slot, expected, word)) {
         Err(refusal) => {
             *found = 0;
             refusal.word()

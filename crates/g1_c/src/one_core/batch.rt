@@ -4,9 +4,7 @@ ghost use Rattle.g1_c.specs.Prelude.{length, take, IfSome, IsWritten, Between, m
 ghost use Rattle.g1_c.specs.Prelude.{AreStoresRefused, IsCallRefused};
 ghost use Rattle.g1_c.specs.Calls.{TellsRefusal};
 
-use core::mem::replace_with;
-use g1_core::Core;
-use g1_handles::any_handle::visit;
+use crate::calling::on_core;
 use g1_handles::code::{DONE, STOPPED};
 use g1_handles::list::write_list;
 use g1_handles::one_core::batch::{Store, store_all_in};
@@ -24,7 +22,7 @@ pub struct Batch {
 }
 
 /// As in `g1.h`.
-#[tactic(auto, using(crate::proofs::Calls::tells_none))]
+#[tactic(auto, using(crate::proofs::tells_none))]
 #[unsafe(no_mangle)]
 pub extern "C" fn g1_store_all(
     alloc: Global,
@@ -50,11 +48,7 @@ pub extern "C" fn g1_store_all(
         logged: 0,
     };
     let room = cards.len();
-    match replace_with(
-        handle,
-        (alloc, |core: &mut Core| store_all_in(core, stores, room)),
-        visit,
-    ) {
+    match on_core!(alloc, handle, store_all_in(stores, room)) {
         Err(refusal) => refusal.word(),
         Ok(stored) => {
             *batch = Batch {

@@ -2,9 +2,8 @@
 ghost use Rattle.std.specs.Prelude.{◌≡◌, ◌≢◌, ◌<◌};
 ghost use Rattle.g1_c.specs.{Between, IsRefusal, IsCallRefused, LacksRegion, ClearsTo, AreOnlyRead};
 
-use core::mem::replace_with;
-use g1_core::{ClearReply, Core};
-use g1_handles::any_handle::visit;
+use crate::calling::on_core;
+use g1_core::ClearReply;
 use g1_handles::one_core::clearing::clear_in;
 use g1_handles::one_core::handle::Handle;
 use std::alloc::Global;
@@ -28,11 +27,7 @@ pub extern "C" fn g1_clear(alloc: Global, handle: &mut Handle, region: u32, deta
         LacksRegion old.state.table.layout region)) }
     ensures refused { 0 < result → AreOnlyRead handle.old.value handle.new.value }
 {
-    match replace_with(
-        handle,
-        (alloc, |core: &mut Core| clear_in(core, region)),
-        visit,
-    ) {
+    match on_core!(alloc, handle, clear_in(region)) {
         Err(refusal) => {
             *detail = 0;
             refusal.word()

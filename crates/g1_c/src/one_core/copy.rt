@@ -3,16 +3,14 @@ ghost use Rattle.std.specs.Prelude.{◌≡◌, ◌+◌, ◌≤◌};
 ghost use Rattle.g1_c.specs.{IfSome, slot_count, TellsRefusal, Between, LacksRanges, IsCallRefused};
 ghost use Rattle.g1_handles.specs.Copies.{CopiesSlots};
 
-use core::mem::replace_with;
-use g1_core::Core;
-use g1_handles::any_handle::visit;
+use crate::calling::on_core;
 use g1_handles::code::DONE;
 use g1_handles::one_core::copy::copy_in;
 use g1_handles::one_core::handle::Handle;
 use std::alloc::Global;
 
 /// As in `g1.h`.
-#[tactic(auto, using(crate::proofs::Calls::tells_none))]
+#[tactic(auto, using(crate::proofs::tells_none))]
 #[unsafe(no_mangle)]
 pub extern "C" fn g1_copy(alloc: Global, handle: &mut Handle, from: u32, to: u32, count: u32) -> u32
     ensures copied { result ≡ 0 → Between handle.old.value handle.new.value (λ old new.
@@ -24,11 +22,7 @@ pub extern "C" fn g1_copy(alloc: Global, handle: &mut Handle, from: u32, to: u32
         (IsCallRefused handle.old.value
         (λ old. LacksRanges old.state.table.layout from count to count)) }
 {
-    match replace_with(
-        handle,
-        (alloc, |core: &mut Core| copy_in(core, from, to, count)),
-        visit,
-    ) {
+    match on_core!(alloc, handle, copy_in(from, to, count)) {
         Err(refusal) => refusal.word(),
         Ok(()) => DONE,
     }

@@ -3,9 +3,7 @@ ghost use Rattle.std.specs.Prelude.{◌≡◌, ◌≢◌, ◌<◌};
 ghost use Rattle.g1_c.specs.{length, take, IsWritten, OfOpen, IsRefusal, HasMembers, Overflows};
 ghost use Rattle.g1_c.specs.{AreMembersRefused, IsCallRefused};
 
-use core::mem::replace_with;
-use g1_core::Core;
-use g1_handles::any_handle::visit;
+use crate::calling::on_core;
 use g1_handles::code::{DONE, Refusal};
 use g1_handles::list::write_list;
 use g1_handles::one_core::handle::Handle;
@@ -35,11 +33,7 @@ pub extern "C" fn g1_members(
 {
     *count = 0;
     let room = cards.len();
-    match replace_with(
-        handle,
-        (alloc, |core: &mut Core| members_in(core, region, room)),
-        visit,
-    ) {
+    match on_core!(alloc, handle, members_in(region, room)) {
         Err(refusal) => refusal.word(),
         Ok(Listed::NoRoom(needed)) => {
             *count = needed;

@@ -5,9 +5,7 @@ ghost use Rattle.g1_c.specs.Prelude.{reference_of, RefersTo, IsToldPending, HasS
 ghost use Rattle.g1_c.specs.Prelude.{IsCallRefused, SaysNotOpen, LacksCard, LacksSlot};
 ghost use Rattle.g1_c.specs.Calls.{TellsRefusal};
 
-use core::mem::replace_with;
-use g1_core::Core;
-use g1_handles::any_handle::visit;
+use crate::calling::on_core;
 use g1_handles::code::{DONE, NULL};
 use g1_handles::one_core::handle::Handle;
 use g1_handles::one_core::queries::{is_pending_in, status_in, target_in};
@@ -24,7 +22,7 @@ pub struct Totals {
 }
 
 /// As in `g1.h`.
-#[tactic(auto, using(crate::proofs::Calls::tells_none))]
+#[tactic(auto, using(crate::proofs::tells_none))]
 #[unsafe(no_mangle)]
 pub extern "C" fn g1_target(alloc: Global, handle: &mut Handle, slot: u32, target: &mut u32) -> u32
     ensures target { result ≡ 0 → Between handle.old.value handle.new.value (λ old new.
@@ -35,11 +33,7 @@ pub extern "C" fn g1_target(alloc: Global, handle: &mut Handle, slot: u32, targe
         (IsCallRefused handle.old.value (λ old. LacksSlot old.state.table.layout slot)) }
 {
     *target = NULL;
-    match replace_with(
-        handle,
-        (alloc, |core: &mut Core| target_in(core, slot)),
-        visit,
-    ) {
+    match on_core!(alloc, handle, target_in(slot)) {
         Err(refusal) => refusal.word(),
         Ok(word) => {
             *target = word;
@@ -49,7 +43,7 @@ pub extern "C" fn g1_target(alloc: Global, handle: &mut Handle, slot: u32, targe
 }
 
 /// As in `g1.h`.
-#[tactic(auto, using(crate::proofs::Calls::tells_none))]
+#[tactic(auto, using(crate::proofs::tells_none))]
 #[unsafe(no_mangle)]
 pub extern "C" fn g1_is_pending(
     alloc: Global,
@@ -66,11 +60,7 @@ pub extern "C" fn g1_is_pending(
         (IsCallRefused handle.old.value (λ old. LacksCard old.state.table.layout card)) }
     ensures same { handle.new.value ≡ handle.old.value }
 {
-    match replace_with(
-        handle,
-        (alloc, |core: &mut Core| is_pending_in(core, card)),
-        visit,
-    ) {
+    match on_core!(alloc, handle, is_pending_in(card)) {
         Err(refusal) => {
             *pending = 0;
             refusal.word()
@@ -83,7 +73,7 @@ pub extern "C" fn g1_is_pending(
 }
 
 /// As in `g1.h`.
-#[tactic(auto, using(crate::proofs::Calls::tells_none))]
+#[tactic(auto, using(crate::proofs::tells_none))]
 #[unsafe(no_mangle)]
 pub extern "C" fn g1_status(alloc: Global, handle: &mut Handle, totals: &mut Totals) -> u32
     ensures totals { result ≡ 0 → OfOpen handle.old.value (λ machine.
@@ -98,11 +88,7 @@ pub extern "C" fn g1_status(alloc: Global, handle: &mut Handle, totals: &mut Tot
         pending: 0,
         recorded: 0,
     };
-    match replace_with(
-        handle,
-        (alloc, |core: &mut Core| Ok(status_in(core))),
-        visit,
-    ) {
+    match on_core!(alloc, handle, Ok(status_in())) {
         Err(refusal) => refusal.word(),
         Ok(status) => {
             *totals = Totals {

@@ -3,9 +3,8 @@ ghost use Rattle.std.specs.Prelude.{◌≡◌, ◌<◌};
 ghost use Rattle.g1_c.specs.{length, take, TellsRefusal, IsWritten, Between, IsCallRefused};
 ghost use Rattle.g1_c.specs.{IsRedirectRefused, RedirectsTo};
 
-use core::mem::replace_with;
-use g1_core::{Core, Redirected};
-use g1_handles::any_handle::visit;
+use crate::calling::on_core;
+use g1_core::Redirected;
 use g1_handles::code::{DONE, SHORT};
 use g1_handles::list::write_list;
 use g1_handles::one_core::handle::Handle;
@@ -13,7 +12,7 @@ use g1_handles::one_core::redirection::redirect_in;
 use std::alloc::Global;
 
 /// As in `g1.h`.
-#[tactic(auto, using(crate::proofs::Calls::tells_none))]
+#[tactic(auto, using(crate::proofs::tells_none))]
 #[unsafe(no_mangle)]
 pub extern "C" fn g1_redirect(
     alloc: Global,
@@ -38,11 +37,7 @@ pub extern "C" fn g1_redirect(
     *moved = 0;
     *refined_count = 0;
     let room = refined.len();
-    match replace_with(
-        handle,
-        (alloc, |core: &mut Core| redirect_in(core, from, to, room)),
-        visit,
-    ) {
+    match on_core!(alloc, handle, redirect_in(from, to, room)) {
         Err(refusal) => refusal.word(),
         Ok(Redirected::Short { refined: list }) => {
             *refined_count = write_list(list.as_slice(), refined);

@@ -4,9 +4,7 @@ ghost use Rattle.g1_c.specs.Prelude.{length, take, IsWritten, Between, IsCallRef
 ghost use Rattle.g1_c.specs.Prelude.{IsRefinementRefused, RefinesTo, reply_of};
 ghost use Rattle.g1_c.specs.Calls.{TellsRefusal};
 
-use core::mem::replace_with;
-use g1_core::Core;
-use g1_handles::any_handle::visit;
+use crate::calling::on_core;
 use g1_handles::list::write_list;
 use g1_handles::one_core::handle::Handle;
 use g1_handles::one_core::refinement::{refine_in, word_of};
@@ -25,7 +23,7 @@ pub struct Tally {
 }
 
 /// As in `g1.h`.
-#[tactic(auto, using(crate::proofs::Calls::tells_none))]
+#[tactic(auto, using(crate::proofs::tells_none))]
 #[unsafe(no_mangle)]
 pub extern "C" fn g1_refine(
     alloc: Global,
@@ -49,11 +47,7 @@ pub extern "C" fn g1_refine(
         skipped: 0,
     };
     let room = refined.len();
-    match replace_with(
-        handle,
-        (alloc, |core: &mut Core| refine_in(core, cards, room)),
-        visit,
-    ) {
+    match on_core!(alloc, handle, refine_in(cards, room)) {
         Err(refusal) => refusal.word(),
         Ok(reply) => {
             *tally = Tally {

@@ -5,16 +5,14 @@ ghost use Rattle.g1_c.specs.{OfOpen, LacksPlace, IsCallRefused};
 ghost use Rattle.g1_core.specs.Run.{kind_of};
 ghost use Rattle.g1_core.specs.Barrier.{stored_machine};
 
-use core::mem::replace_with;
-use g1_core::Core;
-use g1_handles::any_handle::visit;
+use crate::calling::on_core;
 use g1_handles::code::{DONE, kind_word};
 use g1_handles::one_core::handle::Handle;
 use g1_handles::one_core::store::store_in;
 use std::alloc::Global;
 
 /// As in `g1.h`.
-#[tactic(auto, using(crate::proofs::Calls::tells_none))]
+#[tactic(auto, using(crate::proofs::tells_none))]
 #[unsafe(no_mangle)]
 pub extern "C" fn g1_store(
     alloc: Global,
@@ -32,11 +30,7 @@ pub extern "C" fn g1_store(
     ensures told { TellsRefusal 0 result handle.old.value handle.new.value (kind.new ≡ 0)
         (IsCallRefused handle.old.value (λ old. LacksPlace old.state.table.layout slot target)) }
 {
-    match replace_with(
-        handle,
-        (alloc, |core: &mut Core| store_in(core, slot, target)),
-        visit,
-    ) {
+    match on_core!(alloc, handle, store_in(slot, target)) {
         Err(refusal) => {
             *kind = 0;
             refusal.word()

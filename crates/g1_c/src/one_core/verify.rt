@@ -3,16 +3,14 @@ ghost use Rattle.std.specs.Prelude.{◌≡◌, ◌+◌, ◌≤◌};
 ghost use Rattle.g1_c.specs.{IfSome, length, slot_count, IsOnlyRead, TellsRefusal, Between, Finds};
 ghost use Rattle.g1_c.specs.{LacksRanges, IsCallRefused};
 
-use core::mem::replace_with;
-use g1_core::Core;
-use g1_handles::any_handle::visit;
+use crate::calling::on_core;
 use g1_handles::code::{DONE, NULL};
 use g1_handles::one_core::handle::Handle;
 use g1_handles::one_core::verify::verify_in;
 use std::alloc::Global;
 
 /// As in `g1.h`.
-#[tactic(auto, using(crate::proofs::Calls::tells_none))]
+#[tactic(auto, using(crate::proofs::tells_none))]
 #[unsafe(no_mangle)]
 pub extern "C" fn g1_verify(
     alloc: Global,
@@ -33,14 +31,7 @@ pub extern "C" fn g1_verify(
         ((differing.new ≡ 4294967295) × (missing.new ≡ 4294967295)) (IsCallRefused handle.old.value
         (λ old. LacksRanges old.state.table.layout first count first (length references.now))) }
 {
-    match replace_with(
-        handle,
-        (
-            alloc,
-            |core: &mut Core| verify_in(core, first, count, references),
-        ),
-        visit,
-    ) {
+    match on_core!(alloc, handle, verify_in(first, count, references)) {
         Err(refusal) => {
             *differing = NULL;
             *missing = NULL;

@@ -1,6 +1,6 @@
 -- Each clause is that of the call on what the handle held.
 use Rattle.g1_c.specs.{rules, refl, racing_in}
-use Rattle.g1_c.proofs.{of_kind, role_made, role_refused, role_same, taken_3, tells}
+use Rattle.g1_c.proofs.{role_refused, role_same, taken_3, tells}
 use Rattle.g1_c.proofs.member.exchange.g1_race_compare_exchange.Goals as goal
 
 pub returns-in-Err-clause-taken : goal.returns-in-Err-clause-taken
@@ -8,9 +8,3 @@ returns-in-Err-clause-taken c = taken_3 racing_in _ _ _ _ _ _ _ _ _ c.in-Err.ens
 
 pub returns-in-Err-clause-told : goal.returns-in-Err-clause-told
 returns-in-Err-clause-told c = tells _ _ _ _ _ _ _ c.word.ensures.number refl (role_refused racing_in _ _ _ _ _ _ c.in-Err.ensures (λ _ _ c. search rules)) (role_same _ _ _ _ _ c.in-Err.ensures (λ _ _ c. search rules))
-
-pub returns-in-Ok-Differs-clause-differs : goal.returns-in-Ok-Differs-clause-differs
-returns-in-Ok-Differs-clause-differs c done = role_made racing_in _ _ _ _ _ _ (rw c.in-Ok-Differs.field-0-is at c.in-Ok-Differs.ensures) (λ _ _ c. search rules)
-
-pub returns-in-Ok-Stored-clause-stored : goal.returns-in-Ok-Stored-clause-stored
-returns-in-Ok-Stored-clause-stored c done = of_kind racing_in _ _ _ _ c.in-Ok-Stored.stored c.kind_word.ensures (role_made racing_in _ _ _ _ _ _ (rw c.in-Ok-Stored.field-0-is at c.in-Ok-Stored.ensures) (λ _ _ c. search rules))
