@@ -37,7 +37,11 @@ macro_rules! on_heap {
 
 macro_rules! on_member {
     ($role:ty, $($call:tt)*) => {
-        $crate::calling::on_value!(g1_handles::any_handle::visit, g1_handles::member::Member<$role>, $($call)*)
+        $crate::calling::on_value!(
+            g1_handles::any_handle::visit,
+            g1_handles::member::Member<$role>,
+            $($call)*
+        )
     };
 }
 
