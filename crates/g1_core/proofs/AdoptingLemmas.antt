@@ -2,6 +2,7 @@
 use Rattle.std.specs.Prelude.{◌≡◌, ◌+◌, ◌<◌, ◌∷◌, ◌++◌}
 use Rattle.g1_core.specs.{inl, inr, ℕ, zero, suc, Bool, true, false, List, [], length, take, drop, get_or, Contains, refl, sym, ap, ◌∙◌, subst, arith, replicate, or_cases, or_left, or_right, false_from_ne_true, get_or-map, length-map, length-replicate, take_more, Contains-append_left, Contains-append_right, Contains-append_cases, pair_cmp, PairSet, Mark, Clean, Dirty, of_card, pending_of, mark_for, marks_for}
 use Rattle.std.proofs.Common.{set as list_set}
+use Rattle.std.proofs.lemmas.List.{set-get_or}
 use Rattle.std.specs.FinSet as set
 use Rattle.g1_core.proofs.SetLemmas.{pair_total, same_pairs, in_pairs, to_pairs}
 use Rattle.g1_core.proofs.MarkLemmas.{dirty_clean, from_pending, pending_marked, one_more}
@@ -15,26 +16,20 @@ module _ {X : Type 0} where
   put_suc (x ∷ xs) (y ∷ ys) zero d lt lt' = refl
   put_suc (x ∷ xs) (y ∷ ys) (suc i) d lt lt' = ap (λ (l : List X). x ∷ l) (put_suc xs ys i d (omega arith) (omega arith))
 
-  keep_suc : (xs ys : List X) (i : ℕ) (d : X) → i < length xs → i < length ys → get_or xs i d ≡ get_or ys i d → take i xs ++ drop i ys ≡ take (suc i) xs ++ drop (suc i) ys
-  keep_suc [] ys i d lt lt' e = absurd (omega arith)
-  keep_suc (x ∷ xs) [] i d lt lt' e = absurd (omega arith)
-  keep_suc (x ∷ xs) (y ∷ ys) zero d lt lt' e = ap (λ (z : X). z ∷ ys) (sym e)
-  keep_suc (x ∷ xs) (y ∷ ys) (suc i) d lt lt' e = ap (λ (l : List X). x ∷ l) (keep_suc xs ys i d (omega arith) (omega arith) e)
-
   next_suc : (i : ℕ) (xs ys : List X) → take (suc i) xs ++ drop (suc i) ys ≡ take (i + 1) xs ++ drop (i + 1) ys
   next_suc i xs ys = ap (λ (n : ℕ). take n xs ++ drop n ys) (let e : suc i ≡ i + 1 = omega arith in e)
 
   pub put_next : (xs ys : List X) (i : ℕ) (d : X) → i < length xs → i < length ys → list_set (take i xs ++ drop i ys) i (get_or xs i d) ≡ take (i + 1) xs ++ drop (i + 1) ys
   put_next xs ys i d lt lt' = put_suc xs ys i d lt lt' ∙ next_suc i xs ys
 
-  pub keep_next : (xs ys : List X) (i : ℕ) (d : X) → i < length xs → i < length ys → get_or xs i d ≡ get_or ys i d → take i xs ++ drop i ys ≡ take (i + 1) xs ++ drop (i + 1) ys
-  keep_next xs ys i d lt lt' e = keep_suc xs ys i d lt lt' e ∙ next_suc i xs ys
-
   pub at_place : (xs ys : List X) (i : ℕ) (d : X) → i < length xs → i < length ys → (get_or (take i xs ++ drop i ys) i d ≡ get_or ys i d) × (i < length (take i xs ++ drop i ys))
   at_place [] ys i d lt lt' = absurd (omega arith)
   at_place (x ∷ xs) [] i d lt lt' = absurd (omega arith)
   at_place (x ∷ xs) (y ∷ ys) zero d lt lt' = (refl, omega arith)
   at_place (x ∷ xs) (y ∷ ys) (suc i) d lt lt' = let h = at_place xs ys i d (omega arith) (omega arith) in let lt : i < length (take i xs ++ drop i ys) = h.1 in (h.0, omega arith)
+
+  pub keep_next : (xs ys : List X) (i : ℕ) (d : X) → i < length xs → i < length ys → get_or xs i d ≡ get_or ys i d → take i xs ++ drop i ys ≡ take (i + 1) xs ++ drop (i + 1) ys
+  keep_next xs ys i d lt lt' e = sym (set-get_or (take i xs ++ drop i ys) i d) ∙ ap (list_set (take i xs ++ drop i ys) i) ((at_place xs ys i d lt lt').0 ∙ sym e) ∙ put_next xs ys i d lt lt'
 
 -- one more pair is recorded
 module _ (pairs : List (ℕ × ℕ)) (i : ℕ) (p : ℕ × ℕ) (lt : i < length pairs) (is : p ≡ get_or pairs i p) where

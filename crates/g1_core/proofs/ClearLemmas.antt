@@ -15,6 +15,7 @@ use Rattle.g1_core.proofs.RefinedLemmas.{refined_none}
 use Rattle.g1_core.proofs.TurnLemmas.{front_apart, rest_distinct}
 use Rattle.g1_core.proofs.StoreLemmas.{none_refinable}
 use Rattle.g1_core.proofs.LeastSlotLemmas.{read_table}
+use Rattle.g1_core.proofs.ChangeLemmas.{read_core}
 use Rattle.g1_core.proofs.SoundLemmas.{core_sound, core_later, same_later, step_later}
 
 -- distinct cards that are recorded for a region are no more than its pairs
@@ -99,20 +100,8 @@ module _ (heap : Cells) (sets : Pairs) (ring : Ring) (pending : ℕ) (settings :
     recorded : (card : ℕ) → IsRecorded t card region → Contains (list_at sets.lists region) card
     recorded card r = (tied.members card region).1 r
 
-    with_cells : (pairs : PairSet) → IsCovered (table_from now pairs) → AreOutside (table_from now pairs) → AreParts now pairs ring pending
-    with_cells pairs cover outside = subst (λ (h : Cells). IsCovered (table_from h pairs) → AreOutside (table_from h pairs) → AreParts h pairs ring pending) (sym read.cells) (λ covered apart. record {
-      cells = record { shape = core.parts.cells.shape; slots = core.parts.cells.slots; places = core.parts.cells.places; cards = core.parts.cells.cards };
-      counts = core.parts.counts;
-      some = core.parts.some;
-      distinct = core.parts.distinct;
-      held = core.parts.held;
-      known = core.parts.known;
-      cover = covered;
-      outside = apart;
-    }) cover outside
-
-    layout_is : now.layout ≡ heap.layout
-    layout_is = ap (λ (h : Cells). h.layout) read.cells
+    kept : IsCore now sets ring pending
+    kept = read_core heap now sets ring pending _ core read
 
     same_table : table_from now sets.pairs ≡ t
     same_table = read_table heap now _ sets.pairs read
@@ -122,7 +111,7 @@ module _ (heap : Cells) (sets : Pairs) (ring : Ring) (pending : ℕ) (settings :
     refused_entered slot least =
         let same : state_from now sets.pairs ring ≡ m.state = ap (λ (h : Cells). state_from h sets.pairs ring) read.cells in
         record {
-          core = record { layouts = core.layouts ∙ sym layout_is; parts = with_cells sets.pairs (subst IsCovered (sym same_table) core.parts.cover) (subst AreOutside (sym same_table) core.parts.outside) };
+          core = kept;
           did = record { refused = λ _. record { state = same; settings = refl; reads = read.grown }; ring = refl; unread = contradicted; reads = few_reads };
           step = λ caller. clear_step caller t (table_from now sets.pairs) region (clear_reply.StillReferenced slot) within (λ after. (refl, empty, first_enters t region (list_at sets.lists region) empty core.parts.cover recorded slot least)) same_table;
           later = same_later m (machine_from now sets.pairs ring settings) same refl (core_sound heap sets ring pending core) read.grown;
@@ -138,11 +127,10 @@ module _ (heap : Cells) (sets : Pairs) (ring : Ring) (pending : ℕ) (settings :
 
       cleared_core : IsCore now sets' ring pending
       cleared_core =
-          let step : IsStep t (clear_entry 0 region clear_reply.Cleared) (table_from now sets'.pairs) = cleared_step 0 in
-          record {
-            layouts = layout ∙ core.layouts ∙ sym layout_is;
-            parts = with_cells sets'.pairs (subst IsCovered (sym step.after) (step_covered t (clear_entry 0 region clear_reply.Cleared) (has_slots heap.layout core.parts.cells.shape) step.allowed core.parts.cover)) (subst AreOutside (sym cleared_table) (cleared_outside t region core.parts.outside));
-          }
+          let cover : IsCovered (table_from now sets'.pairs) = subst IsCovered (sym (cleared_step 0).after) (step_covered t (clear_entry 0 region clear_reply.Cleared) (has_slots heap.layout core.parts.cells.shape) (cleared_step 0).allowed core.parts.cover) in
+          let outside : AreOutside (table_from now sets'.pairs) = subst AreOutside (sym cleared_table) (cleared_outside t region core.parts.outside) in
+          let parts : AreParts now sets.pairs ring pending = kept.parts in
+          record { layouts = layout ∙ kept.layouts; parts = search (parts, cover, outside) }
 
       pub granted : IsClearedTo m region clear_reply.Cleared now sets' ring pending settings
       granted = record {

@@ -8,7 +8,7 @@ use Rattle.g1_core.specs.Machine.{Machine}
 use Rattle.g1_core.proofs.SetLemmas.{same_cards}
 use Rattle.g1_core.proofs.TableLemmas.{refined_pending}
 use Rattle.g1_core.proofs.TurnLemmas.{to_dirty}
-use Rattle.g1_core.proofs.DrainLoopLemmas.{drains_both, none_below, and_true}
+use Rattle.g1_core.proofs.DrainLoopLemmas.{drains_both, and_true}
 
 -- the dirty cards are the same once the ring is drained
 module _ (a b : Machine) (xs : List ℕ) (n : ℕ) (h : IsRingDrained a xs n b) (left : b.state.ring.cards ≡ []) where
@@ -53,16 +53,7 @@ module _ (a b : Machine) (xs : List ℕ) (n : ℕ) (h : IsRingDrained a xs n b) 
             (λ q p. absurd (true≢false (sym p ∙ set.contains-empty nat_cmp q)));
       }
 
--- a drain that stops in the ring is short, and so is a whole one after which the set's list is refused
-pub short_ring : (old new : Machine) (cards : List ℕ) → IsRingDrained old cards (length cards + 1) new → IsShortDrain old cards new
-short_ring old new cards h = record {
-  order = record { held = cards; dirty = []; bound = 0; parts = sym (append-nil cards); ring = h.order; below = none_below old.state; turn = inr refl };
-  tried = length cards + 1;
-  each = omega arith;
-  most = omega arith;
-  drains = h.drains;
-}
-
+-- a whole drain is short where the set's list is refused after it
 pub drained_short : (old mid : Machine) (cards : List ℕ) → IsAllDrained old cards mid → IsShortDrain old cards mid
 drained_short old mid cards all = record { order = subst (IsDrainOrder old.state cards) (sym all.left) all.order; tried = length cards; each = omega arith; most = omega arith; drains = all.drains }
 

@@ -1,7 +1,8 @@
 -- The parts of a core and the state that they stand for.
 use Rattle.std.specs.Prelude.{◌≡◌, ◌≢◌, ◌<◌, ◌+◌, ◌∷◌, ◌++◌, ◌↔◌}
-use Rattle.g1_core.specs.{inl, inr, ℕ, zero, suc, true, false, cond, List, [], length, get_or, drop, Option, Some, None, refl, sym, ap, ◌∙◌, subst, arith, Contains, nat_eq, slice_get, IsDistinct, cases_eq, false_from_ne_true, length-set, Contains-push, Contains-append_left, Contains-push_cases, card_count, PairSet, Mark, Clean, Dirty, Held, Cells, with_mark, with_reads, Offer, Ring, answer, popped, IsCovered, IsPending, refined, State, IsPlaced, AreParts, pending_of, table_from, state_from, gained, is_dirty, offer_to}
+use Rattle.g1_core.specs.{inl, inr, ℕ, suc, true, false, cond, List, [], length, get_or, drop, Option, Some, None, refl, sym, ap, ◌∙◌, subst, arith, Contains, nat_eq, slice_get, IsDistinct, cases_eq, false_from_ne_true, length-set, Contains-push, Contains-append_left, Contains-push_cases, card_count, PairSet, Mark, Clean, Dirty, Held, Cells, with_mark, with_reads, Offer, Ring, answer, popped, IsCovered, IsPending, refined, State, IsPlaced, AreParts, pending_of, table_from, state_from, gained, is_dirty, offer_to}
 use Rattle.std.proofs.Common.{set as list_set}
+use Rattle.std.proofs.lemmas.Map.Made.{Contains-tail}
 use Rattle.std.specs.FinSet as set
 use Rattle.g1_core.proofs.SetLemmas.{All_by_member}
 use Rattle.g1_core.proofs.TableLemmas.{refined_covered}
@@ -9,10 +10,6 @@ use Rattle.g1_core.proofs.OutsideLemmas.{refined_outside}
 use Rattle.g1_core.proofs.MarkLemmas.{held_clean, dirty_clean, dirty_held, marked_cases, from_pending, to_pending, is_card, pending_cleaned, pending_kept, mark_here, mark_there, one_less}
 use Rattle.g1_core.proofs.RefinedLemmas.{push_distinct}
 use Rattle.g1_core.proofs.TurnLemmas.{front_apart, rest_distinct, IsDirty, dirty_from, to_dirty}
-
-pub in_rest : (x : ℕ) (xs : List ℕ) (q : ℕ) → q ≢ x → Contains (x ∷ xs) q → Contains xs q
-in_rest x xs q ne (zero, lt, e) = absurd (ne (sym e))
-in_rest x xs q ne (suc k, lt, e) = (k, omega arith, e)
 
 module _ (heap : Cells) (pairs : PairSet) (ring : Ring) (pending : ℕ) (parts : AreParts heap pairs ring pending) where
   abbrev pub now : State
@@ -135,9 +132,6 @@ module _ (heap : Cells) (pairs : PairSet) (ring : Ring) (pending : ℕ) (parts :
     pub oldest_mark : mark_of oldest ≡ Held
     oldest_mark = (parts.held oldest).0 (subst (λ xs. Contains xs oldest) (sym cards) (0, omega arith, refl))
 
-    pub oldest_within : oldest < card_count heap.layout
-    oldest_within = let inside : oldest < length heap.marks = is_card heap.marks oldest (held_clean (mark_of oldest) oldest_mark) in omega (arith, inside, parts.cells.cards)
-
     pub left_is : (popped ring).cards ≡ rest
     left_is = ap (λ (xs : List ℕ). drop 1 xs) cards
 
@@ -147,7 +141,7 @@ module _ (heap : Cells) (pairs : PairSet) (ring : Ring) (pending : ℕ) (parts :
     others : (q : ℕ) → Contains rest q ↔ (Contains (oldest ∷ rest) q × (q ≢ oldest))
     others q = (
       λ c. ((suc c.0, omega (arith, c.1), c.2), λ e. front_apart oldest rest whole (subst (Contains rest) e c)),
-      λ c. in_rest oldest rest q c.1 c.0,
+      λ c. Contains-tail oldest rest q (λ e. c.1 (sym e)) c.0,
     )
 
     pub left_stands : (q : ℕ) → Contains (popped ring).cards q ↔ (Contains ring.cards q × (q ≢ oldest))

@@ -151,15 +151,8 @@ module _ (old : Machine) (from to : ℕ) (low : from < old.state.table.layout.re
   short_drained_step h caller = subst (λ (cs : List ℕ). IsStep old.state.table (redirect_entry caller from to (answers.Short cs)) new.state.table) (sym same) (short_redirect_step caller from to old new cards low high apart h.drains.refines h.drains.table)
 
   module _ (mid : Machine) (drained : IsAllDrained old cards mid) where
-    pub regions_after : (region : ℕ) → region < old.state.table.layout.regions → region < mid.state.table.layout.regions
-    regions_after region within = subst (λ (t : Table). region < t.layout.regions) (sym drained.drains.table) within
-
     pub short_read_at : AreMembersRead mid from new → IsShortRedirect old from listed new
     short_read_at read = subst (λ (cs : List ℕ). IsShortRedirect old from cs new) (sym same) (short_read old mid new from cards drained read)
-
-    pub short_read_step : AreMembersRead mid from new → (caller : ℕ) → IsStep old.state.table (redirect_entry caller from to (answers.Short listed)) new.state.table
-    short_read_step read caller = subst (λ (cs : List ℕ). IsStep old.state.table (redirect_entry caller from to (answers.Short cs)) new.state.table) (sym same)
-        (short_redirect_step caller from to old new cards low high apart drained.drains.refines (short_read old mid new from cards drained read).table)
 
     module _ (last : Machine) (slots : ℕ) (moves : IsMoved mid from to slots last) (after : new ≡ reset_machine last) where
       pub whole_at : IsWholeRedirect old from to listed new

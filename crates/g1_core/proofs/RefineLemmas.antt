@@ -6,7 +6,7 @@ use Rattle.g1_core.specs.Machine.{Machine}
 use Rattle.g1_core.proofs.MarkLemmas.{held_clean, dirty_clean, to_pending, is_card, mark_there, some_member}
 use Rattle.g1_core.proofs.TurnLemmas.{answer_cases}
 use Rattle.g1_core.proofs.RefinedLemmas.{refined_none}
-use Rattle.g1_core.proofs.PartLemmas.{dirty_mark, offer_dirty, offer_none, cleaned_state, cleaned_parts, held_state, held_parts, apart_stands, oldest_mark, oldest_within, left_distinct, left_stands, differs, IsFront}
+use Rattle.g1_core.proofs.PartLemmas.{dirty_mark, offer_dirty, offer_none, cleaned_state, cleaned_parts, held_state, held_parts, apart_stands, oldest_mark, left_distinct, left_stands, differs, IsFront}
 
 -- the oldest card, where the ring answers that it leaves
 pub is_out : (r : Ring) (card d : ℕ) → 1 ≤ r.capacity → answer r card ≡ Out d → IsFront r.cards d
@@ -122,10 +122,6 @@ module _ (heap : Cells) (sets : Pairs) (ring : Ring) (pending : ℕ) (settings :
 
       pub turned_out : (more d : ℕ) → offer ≡ Out d → heap' ≡ with_mark (with_mark (with_reads heap more) d Clean) card Held → sets'.pairs ≡ gained heap sets.pairs d → sets'.layout ≡ sets.layout → pending' + 1 ≡ pending → IsTurnedTo m card (Some offer) heap' sets' ring' pending'
       turned_out more d is eh ep el less = put (Out d) (with_mark (with_mark (with_reads heap more) d Clean) card Held) (gained heap sets.pairs d) is refl eh ep el (out_turn heap sets.pairs ring pending core.parts card dirty more pending' d less (sym answers ∙ is))
-
-    -- the card that is pushed out is one of the heap
-    pub out_within : (d : ℕ) → answer ring card ≡ Out d → d < card_count heap.layout
-    out_within d is = let o : IsFront ring.cards d = is_out ring card d core.parts.some is in oldest_within heap sets.pairs ring pending core.parts d o.rest o.cards
 
 -- the round that a tally tells
 abbrev pub round_at : State → List ℕ → ℕ → ℕ → Round

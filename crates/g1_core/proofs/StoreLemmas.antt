@@ -1,6 +1,6 @@
 -- The barrier.
-use Rattle.std.specs.Prelude.{◌≡◌, ◌≢◌, ◌⊎◌, ◌<◌, ◌≤◌, ◌+◌}
-use Rattle.g1_core.specs.{inl, inr, ℕ, Bool, true, false, cond, eqb, List, [], length, get_or, Option, Some, None, refl, sym, ap, ◌∙◌, subst, arith, IfSome, IsDistinct, cases_eq, true≢false, false_from_ne_true, length-set, All-set, Shape, slot_count, card_count, card_of, region_of, CardSet, PairSet, card_count_limit, Kind, SameRegion, AlreadyDirty, Logged, Mark, Clean, Dirty, Held, Cells, AreCells, with_ref, with_mark, Pairs, Ring, IsCovered, AreRefinable, refined, State, IsCore, AreParts, pending_of, table_from, state_from, machine_from, Store, IsStep, IsCallOf, kind_of, stored, pending_after, StoreReply, store_entry, stored_machine}
+use Rattle.std.specs.Prelude.{◌≡◌, ◌≢◌, ◌⊎◌, ◌<◌, ◌≤◌, ◌+◌, ◌↔◌}
+use Rattle.g1_core.specs.{inl, inr, ℕ, Bool, true, false, cond, eqb, List, [], length, get_or, Option, Some, None, refl, sym, ap, ◌∙◌, subst, arith, IfSome, IsDistinct, cases_eq, true≢false, false_from_ne_true, length-set, All-set, Shape, slot_count, card_count, card_of, region_of, CardSet, PairSet, card_count_limit, Kind, SameRegion, AlreadyDirty, Logged, Mark, Clean, Dirty, Held, Cells, AreCells, with_ref, with_mark, Pairs, Ring, IsCovered, AreRefinable, refined, State, IsCore, AreParts, pending_of, table_from, state_from, machine_from, Store, IsStep, IsCallOf, kind_of, stored, pending_after, StoreReply, store_entry, stored_machine, Contains}
 use Rattle.std.proofs.Common.{set as list_set}
 use Rattle.std.specs.FinSet as set
 use Rattle.g1_core.specs.Table.{Table}
@@ -71,23 +71,15 @@ module _ (heap : Cells) (pairs : PairSet) (ring : Ring) (pending : ℕ) (parts :
         λ i. record { table = record { layout = heap.layout; refs = list_set heap.refs slot target; pending = dirty i; recorded = pairs }; ring = ring }
 
     pub logged_parts : AreParts (with_mark (with_ref heap slot target) card Dirty) pairs ring pending'
-    logged_parts = record {
-      cells = record { shape = written_cells.shape; slots = written_cells.slots; places = written_cells.places; cards = length-set heap.marks card Dirty ∙ written_cells.cards };
-      counts = parts.counts;
-      some = parts.some;
-      distinct = parts.distinct;
-      held = λ q. (
-        λ c. let held : get_or heap.marks q Clean ≡ Held = (parts.held q).0 c in
-            mark_there heap.marks card Dirty inside q (λ e. not_held (ap (λ (k : ℕ). get_or heap.marks k Clean) (sym e) ∙ held)) ∙ held,
-        λ held. elim (cases_eq q card) [
-          | inl is ↦ absurd (dirty_held _ (ap (λ (k : ℕ). get_or (list_set heap.marks card Dirty) k Clean) is ∙ mark_here heap.marks card Dirty inside) held)
-          | inr ne ↦ (parts.held q).1 (sym (mark_there heap.marks card Dirty inside q ne) ∙ held)
-        ],
-      );
-      known = more ∙ ap (λ n. n + 1) parts.known ∙ sym (one_more (pending_of heap.marks) card new_card) ∙ ap set.len (sym marked);
-      cover = subst IsCovered (sym (ap (λ (s : State). s.table) logged_state)) (stored_covered t slot target parts.cover);
-      outside = parts.outside;
-    }
+    logged_parts =
+        let cells : AreCells (with_mark (with_ref heap slot target) card Dirty) = record { shape = written_cells.shape; slots = written_cells.slots; places = written_cells.places; cards = length-set heap.marks card Dirty ∙ written_cells.cards } in
+        let held : (q : ℕ) → Contains ring.cards q ↔ (get_or (list_set heap.marks card Dirty) q Clean ≡ Held) = λ q. elim (cases_eq q card) [
+          | inl is ↦ (λ c. absurd (not_held (ap (λ (k : ℕ). get_or heap.marks k Clean) (sym is) ∙ (parts.held q).0 c)), λ h. absurd (dirty_held _ (ap (λ (k : ℕ). get_or (list_set heap.marks card Dirty) k Clean) is ∙ mark_here heap.marks card Dirty inside) h))
+          | inr ne ↦ rw (mark_there heap.marks card Dirty inside q ne) (parts.held q)
+        ] in
+        let known : pending' ≡ set.len (pending_of (list_set heap.marks card Dirty)) = more ∙ ap (λ n. n + 1) parts.known ∙ sym (one_more (pending_of heap.marks) card new_card) ∙ ap set.len (sym marked) in
+        let cover : IsCovered (table_from (with_mark (with_ref heap slot target) card Dirty) pairs) = subst IsCovered (sym (ap (λ (s : State). s.table) logged_state)) (stored_covered t slot target parts.cover) in
+        search (cells, held, known, cover)
 
 pub none_refinable : (t : Table) → AreRefinable t []
 unfolding IsDistinct
