@@ -1,9 +1,19 @@
 -- A range of slots that is copied, slot by slot.
-use Rattle.std.specs.Prelude.{◌≡◌, ◌≢◌, ◌⊎◌, ◌+◌, ◌-◌, ◌<◌, ◌≤◌}
-use Rattle.g1_core.specs.{ℕ, zero, suc, Bool, cond, true, false, Option, None, refl, sym, ap, ◌∙◌, subst, inl, inr, arith, get_or-set_other, target_of, stored, copied, IsLater}
+use Rattle.std.specs.Prelude.{◌≡◌, ◌≢◌, ◌⊎◌, ◌+◌, ◌-◌, ◌<◌, ◌≤◌, ◌||◌}
+use Rattle.g1_core.specs.{ℕ, zero, suc, Bool, cond, true, false, Option, None, refl, sym, ap, ◌∙◌, subst, inl, inr, arith, get_or-set_other, target_of, stored, copied, IsLater, nat_cmp_total, exact_unsigned, set_comm}
+use Rattle.std.specs.FinSet as set
 use Rattle.g1_core.specs.Table.{Table}
 use Rattle.g1_core.specs.Machine.{Machine}
-use Rattle.g1_core.proofs.StoresApart.{stores_apart}
+use Rattle.g1_core.proofs.TableLemmas.{stored_pending}
+
+swapped : (a b c : Bool) → ((a || b) || c) ≡ ((a || c) || b)
+swapped a b c = grind arith
+
+-- two stores into different slots may change places
+stores_apart : (t : Table) (a b : ℕ) (x y : Option ℕ) → a ≢ b → stored (stored t a x) b y ≡ stored (stored t b y) a x
+stores_apart t a b x y ne =
+    let pending : (stored (stored t a x) b y).pending ≡ (stored (stored t b y) a x).pending = set.same_set nat_cmp_total exact_unsigned _ _ (λ c. rw (stored_pending (stored t a x) b y c, stored_pending t a x c, stored_pending (stored t b y) a x c, stored_pending t b y c) (search swapped)) in
+    λ i. record { layout = t.layout; refs = set_comm t.refs a b x y ne i; pending = pending i; recorded = t.recorded }
 
 -- the first slot may be copied last
 copied_first : (from to count : ℕ) (t : Table) → copied from to (suc count) t ≡ stored (copied (suc from) (suc to) count t) to (target_of t from)

@@ -33,7 +33,6 @@ pub mod RefinedLemmas
 pub mod LengthLemmas
 pub mod ReadLemmas
 pub mod VerifyLemmas
-pub mod StoresApart
 pub mod CopyLemmas
 use AdoptingLemmas.*
 use LeastSlotLemmas.*

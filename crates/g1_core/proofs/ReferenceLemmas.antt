@@ -3,11 +3,11 @@ use Rattle.std.specs.Prelude.{◌≡◌, ◌≢◌, ◌<◌, ◌*◌, ◌&&◌}
 use Rattle.g1_core.specs.{inl, inr, ℕ, true, cond, eqb, List, length, get_or, Option, Some, None, refl, sym, ap, ◌∙◌, subst, arith, map, Result, Ok, Err, Contains, All, not, count_by, OnErr, filter_map, enumerate_from, eqb-true, eqb-false, ne_eqb, and_parts, and_from, true≢false, not-true, length-map, length-enumerate_from, Contains-get_or, Shape, IsShape, slot_count, card_of, region_of, region_of_card, same_offset, same_offset_below, Change, IsCore, pending_of, table_from, state_from, Holds, IsCovered, IsRecorded, enters, moved_target, moved_pair, moved, change_at, changes_of, slots_of, slots_on, changed, AreGaining, Cells, PairSet, pair_cmp, Ring, Pairs, AreTied, list_at, of_region, without, AreRead, AreCells, AreOutside}
 use Rattle.std.specs.FinSet as set
 use Rattle.g1_core.specs.Table.{Table}
-use Rattle.g1_core.proofs.SetLemmas.{same_pairs, in_pairs, to_pairs, from_kept, to_kept, All_by_member}
-use Rattle.g1_core.proofs.TableLemmas.{region_of_slot, is_slot, slot_at, slot_of}
+use Rattle.g1_core.proofs.SetLemmas.{same_pairs, in_pairs, to_pairs, from_kept, to_kept, All_by_member, from_places, to_places}
+use Rattle.g1_core.proofs.TableLemmas.{region_of_slot, is_slot}
 use Rattle.g1_core.proofs.RunLemmas.{has_slots}
 use Rattle.g1_core.proofs.ClearLemmas.{met}
-use Rattle.g1_core.proofs.MovedLemmas.{moved_covered, moved_known, pair_if}
+use Rattle.g1_core.proofs.MovedLemmas.{moved_covered, moved_known, pair_from, to_pair}
 use Rattle.g1_core.proofs.OutsideLemmas.{holds_outside}
 use Rattle.g1_core.proofs.ChangeLemmas.{change_cases, all_moved, changed_places, of_region_from, of_region_to}
 use Rattle.g1_core.proofs.WalkLemmas.{on_card, its_slot, to_slots, distinct_slots}
@@ -78,31 +78,24 @@ module _ (heap : Cells) (sets : Pairs) (ring : Ring) (pending : ℕ) (core : IsC
         elim (change_cases l from to k.1 (get_or heap.refs k.1 None)) [
           | inl left ↦ let none : None ≡ Some x = sym left.none ∙ k.4 in cc
           | inr d ↦
-              let enter : enters l from (k.1, Some d.old) ≡ true = sym (ap (λ (o : Option ℕ). enters l from (k.1, o)) d.refers) ∙ d.enters in
               let outside : region_of l k.1 ≢ to = λ e. g.2 (sym (ap (region_of_card l) on) ∙ region_of_slot l k.1 ∙ e) in
-              let few : length (enumerate_from 0 heap.refs) ≡ length heap.refs = length-enumerate_from 0 heap.refs in
-              let below : k.1 < length heap.refs = is_slot heap.refs k.1 d.old d.refers in
-              let makes : moved_pair l from to (k.1, Some d.old) ≡ Some (card_of l k.1, to) = ap (λ b. cond {A = Option (ℕ × ℕ)} b (Some (card_of l k.1, to)) None) (and_from _ _ enter (ap not (ne_eqb _ _ outside))) in
               let is : ◌≡◌ {A = ℕ × ℕ} (card_of l k.1, to) p = λ i. (on i, sym q.0 i) in
               to_pairs (filter_map (moved_pair l from to) (enumerate_from 0 heap.refs)) p
-              (to_kept (moved_pair l from to) (enumerate_from 0 heap.refs) k.1 (k.1, Some d.old) p (omega arith) (slot_at heap.refs k.1 d.old (k.1, Some d.old) d.refers) (makes ∙ ap Some is))
+              (to_places (moved_pair l from to) heap.refs None k.1 p (is_slot heap.refs k.1 d.old d.refers) (to_pair l from to k.1 (get_or heap.refs k.1 None) d.enters outside ∙ ap Some is))
         ]
 
     made_gains : (p : ℕ × ℕ) → set.contains (set.from_list {R = pair_cmp} (filter_map (moved_pair l from to) (enumerate_from 0 heap.refs))) p ≡ true → set.contains (of_region gaining to) p ≡ true
     made_gains p h =
-        let k = from_kept (moved_pair l from to) (enumerate_from 0 heap.refs) p (in_pairs _ p h) in
-        let is : moved_pair l from to (k.0, get_or heap.refs k.0 None) ≡ Some p = ap (moved_pair l from to) (slot_of heap.refs k.0 k.1 k.2 k.3) ∙ k.4 in
-        let q = pair_if (card_of l k.0) to p (enters l from (k.0, get_or heap.refs k.0 None) && not (eqb (region_of l k.0) to)) is in
-        let b = and_parts _ _ q.0 in
-        let outside : region_of_card l (card_of l k.0) ≢ to = λ e. eqb-false _ _ (not-true _ b.1) (sym (region_of_slot l k.0) ∙ e) in
+        let k = from_places (moved_pair l from to) heap.refs None p (in_pairs _ p h) in
+        let m = pair_from l from to k.0 (get_or heap.refs k.0 None) p k.2 in
         elim (change_cases l from to k.0 (get_or heap.refs k.0 None)) [
-          | inl left ↦ absurd (true≢false (sym b.0 ∙ left.away))
+          | inl left ↦ absurd (true≢false (sym m.0 ∙ left.away))
           | inr d ↦
               let s = its_slot l shape (card_of l k.0) k.0 refl in
               let listed : Contains (changes_of l heap.refs from to (slots_of l (card_of l k.0))) (record { slot = k.0; place = same_offset l d.old to }) =
               to_kept (λ slot. change_at l from to slot (get_or heap.refs slot None)) (slots_of l (card_of l k.0)) s.0 k.0 (record { slot = k.0; place = same_offset l d.old to }) s.1 s.2 d.change in
-              let gain : Contains gaining (card_of l k.0) = (gains (card_of l k.0)).1 (entering k.0 b.0, omega (arith, listed.1), outside) in
-              to_pairs (map (λ (c : ℕ). (c, to)) gaining) p (subst (λ (p : ℕ × ℕ). Contains (map (λ (c : ℕ). (c, to)) gaining) p) q.1 (of_region_to gaining to (card_of l k.0) gain))
+              let gain : Contains gaining (card_of l k.0) = (gains (card_of l k.0)).1 (entering k.0 m.0, omega (arith, listed.1), λ e. m.1 (sym (region_of_slot l k.0) ∙ e)) in
+              to_pairs (map (λ (c : ℕ). (c, to)) gaining) p (subst (λ (p : ℕ × ℕ). Contains (map (λ (c : ℕ). (c, to)) gaining) p) m.2 (of_region_to gaining to (card_of l k.0) gain))
         ]
 
     pub gained_pairs : of_region gaining to ≡ set.from_list {R = pair_cmp} (filter_map (moved_pair l from to) (enumerate_from 0 heap.refs))

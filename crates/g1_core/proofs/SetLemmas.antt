@@ -1,6 +1,6 @@
 -- Membership in sets of cards and of pairs.
-use Rattle.std.specs.Prelude.{◌≡◌, ◌<◌, ◌∷◌}
-use Rattle.g1_core.specs.{ℕ, zero, suc, true, List, [], length, get_or, Option, Some, None, refl, sym, ap, ◌∙◌, subst, arith, Contains, All, Contains-get_or, filter_map, cons_option, nat_cmp_total, exact_unsigned, set_of}
+use Rattle.std.specs.Prelude.{◌≡◌, ◌<◌, ◌∷◌, ◌+◌}
+use Rattle.g1_core.specs.{ℕ, zero, suc, true, List, [], length, get_or, Option, Some, None, refl, sym, ap, ◌∙◌, subst, arith, Contains, All, Contains-get_or, filter_map, cons_option, nat_cmp_total, exact_unsigned, set_of, enumerate_from, get_or_default, get_or-enumerate_from, length-enumerate_from}
 use Rattle.std.specs.FinSet as set
 pub use Rattle.g1_layout.proofs.SetLemmas.{pair_total, pair_exact, same_bools, same_pairs, same_cards, listed, unlisted, in_pairs, to_pairs, of_card_from, of_card_to}
 
@@ -41,3 +41,19 @@ module _ {X Y : Type 0} (h : X → Option Y) where
   to_kept [] k x q l e is = absurd (omega arith)
   to_kept (y ∷ xs) zero x q l e is = subst (λ o. Contains (cons_option o (filter_map h xs)) q) (sym (ap h e ∙ is)) (0, omega arith, refl)
   to_kept (y ∷ xs) (suc k) x q l e is = kept_later (h y) (filter_map h xs) q (to_kept xs k x q (omega arith) e is)
+
+-- what it keeps of a list with its places
+module _ {X Y : Type 0} (h : ℕ × X → Option Y) (xs : List X) (d : X) where
+  pub at_its_place : (k : ℕ) (p : ℕ × X) → k < length xs → get_or (enumerate_from 0 xs) k p ≡ (k, get_or xs k d)
+  at_its_place k p below =
+      let from : 0 + k ≡ k = omega arith in
+      get_or-enumerate_from 0 xs k p below ∙ (λ i. (from i, get_or_default xs k p.1 d below i))
+
+  pub from_places : (q : Y) → Contains (filter_map h (enumerate_from 0 xs)) q → (k : ℕ) × (k < length xs) × (h (k, get_or xs k d) ≡ Some q)
+  from_places q c =
+      let k = from_kept h (enumerate_from 0 xs) q c in
+      let below : k.0 < length xs = omega (arith, k.2, length-enumerate_from 0 xs) in
+      (k.0, below, ap h (sym (at_its_place k.0 k.1 below) ∙ k.3) ∙ k.4)
+
+  pub to_places : (k : ℕ) (q : Y) → k < length xs → h (k, get_or xs k d) ≡ Some q → Contains (filter_map h (enumerate_from 0 xs)) q
+  to_places k q below is = to_kept h (enumerate_from 0 xs) k (k, get_or xs k d) q (omega (arith, length-enumerate_from 0 xs)) (at_its_place k (k, get_or xs k d) below) is
