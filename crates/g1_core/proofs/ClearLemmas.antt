@@ -7,36 +7,18 @@ use Rattle.g1_core.specs.declared.config.Settings.{Settings}
 use Rattle.g1_core.specs.Machine.{Machine}
 use Rattle.g1_core.specs.declared.entry.Reply.TheVariants as reply
 use Rattle.g1_core.specs.declared.reply.ClearReply.TheVariants as clear_reply
-use Rattle.g1_core.proofs.SetLemmas.{pair_total, pair_exact}
+use Rattle.g1_core.proofs.SetLemmas.{pair_total, pair_exact, few_distinct}
 use Rattle.g1_core.proofs.RunLemmas.{has_slots, step_covered}
 use Rattle.g1_core.proofs.OutsideLemmas.{cleared_outside}
 use Rattle.g1_core.proofs.MarkLemmas.{none_of}
 use Rattle.g1_core.proofs.RefinedLemmas.{refined_none}
-use Rattle.g1_core.proofs.TurnLemmas.{front_apart, rest_distinct}
 use Rattle.g1_core.proofs.StoreLemmas.{none_refinable}
 use Rattle.g1_core.proofs.LeastSlotLemmas.{read_table}
 use Rattle.g1_core.proofs.ChangeLemmas.{read_core}
 use Rattle.g1_core.proofs.SoundLemmas.{core_sound, core_later, same_later, step_later}
 
--- distinct cards that are recorded for a region are no more than its pairs
-module _ (region : ℕ) where
-  pub few_recorded : (cards : List ℕ) (pairs : PairSet) → IsDistinct nat_eq cards → ((card : ℕ) → Contains cards card → set.contains pairs (card, region) ≡ true) → length cards ≤ set.len pairs
-  few_recorded [] pairs distinct each = omega arith
-  few_recorded (card ∷ cards) pairs distinct each =
-      let here : set.contains pairs (card, region) ≡ true = each card (0, omega arith, refl) in
-      let less : set.len (set.remove pairs (card, region)) ≡ set.len pairs - 1 = set.len-remove pair_total pairs (card, region) ∙ ap (λ b. cond b (set.len pairs - 1) (set.len pairs)) here in
-      let some : 1 ≤ set.len pairs = elim (cases_lt 0 (set.len pairs)) [
-        | inl some ↦ omega arith
-        | inr none ↦ absurd (true≢false (sym here ∙ ap (λ (s : PairSet). set.contains s (card, region)) (set.empty_of_len pairs (omega arith)) ∙ set.contains-empty pair_cmp (card, region)))
-      ] in
-      let rest : length cards ≤ set.len (set.remove pairs (card, region)) = few_recorded cards (set.remove pairs (card, region)) (rest_distinct card cards distinct) (λ c in_cards.
-      set.contains-remove pair_total pairs (card, region) (c, region) ∙ and_from _ _
-      (ap not (false_from_ne_true _ (λ same. front_apart card cards distinct (subst (λ (k : ℕ). Contains cards k) (ap (λ (p : ℕ × ℕ). p.0) (pair_exact (c, region) (card, region) ((Equal-is (pair_cmp (c, region) (card, region))).0 same))) in_cards))))
-      (each c (suc in_cards.0, omega (arith, in_cards.1), in_cards.2))) in
-      omega arith
-
 pub few_members : (sets : Pairs) (heap : Cells) (region : ℕ) → AreTied sets → length (list_at sets.lists region) ≤ member_count (table_from heap sets.pairs) region
-few_members sets heap region tied = few_recorded region (list_at sets.lists region) (set.retain sets.pairs (λ pair. eqb pair.1 region)) (tied.lists.distinct region) (λ card c.
+few_members sets heap region tied = few_distinct pair_total pair_exact (λ (card : ℕ). (card, region)) (λ a b. ap (λ (p : ℕ × ℕ). p.0)) (list_at sets.lists region) (set.retain sets.pairs (λ pair. eqb pair.1 region)) (tied.lists.distinct region) (λ card c.
     set.contains-retain sets.pairs (λ pair. eqb pair.1 region) (card, region) (λ x e. ap (λ (q : ℕ × ℕ). eqb q.1 region) (sym (pair_exact (card, region) x e)))
     ∙ and_from _ _ ((tied.members card region).0 c) (eq-eqb region region refl))
 

@@ -1,20 +1,15 @@
 -- How long the lists of a reply can be.
 use Rattle.std.specs.Prelude.{◌≡◌, if◌then◌else◌, ◌≤◌, ◌+◌, ◌*◌, ◌∷◌}
-use Rattle.g1_core.specs.{Bool, true, false, ℕ, List, [], length, take, Option, Some, None, refl, ap, arith, length-append, reads_after, Offer, Kept, RefineReply, AreRefinable, refined, State, Round, refined_by, hot_by, skipped_by, offer_to, turn, turns, start, IsTurned, IsIdle, AreCardsRead, DoesRefine}
+use Rattle.g1_core.specs.{Bool, true, false, ℕ, List, [], length, take, Option, Some, None, refl, ap, arith, length-append, reads_after, Offer, Kept, RefineReply, AreRefinable, refined, State, Round, refined_by, hot_by, skipped_by, offer_to, turn, turns, start, IsTurned, IsIdle, AreCardsRead, DoesRefine, nat_cmp_total, exact_unsigned, All-contains, IsPending}
 use Rattle.std.proofs.lemmas.List.{length-take}
 use Rattle.std.specs.FinSet as set
 use Rattle.g1_core.specs.Table.{Table}
 use Rattle.g1_core.specs.Machine.{Machine}
-use Rattle.g1_core.proofs.MarkLemmas.{one_less}
-use Rattle.g1_core.proofs.TurnLemmas.{rest_refinable}
+use Rattle.g1_core.proofs.SetLemmas.{few_distinct}
 
 -- no more cards are refined than are pending
 pub refined_few : (t : Table) (cards : List ℕ) → AreRefinable t cards → length cards ≤ set.len t.pending
-refined_few t [] h = omega arith
-refined_few t (x ∷ xs) h =
-    let fewer = one_less t.pending x (h.pending 0 x (omega arith)) in
-    let few = refined_few (refined (x ∷ []) t) xs (rest_refinable t x xs h) in
-    omega arith
+refined_few t cards h = few_distinct nat_cmp_total exact_unsigned (λ k. k) (λ a b e. e) cards t.pending h.distinct (λ card c. All-contains (IsPending t) cards card h.pending c)
 
 -- a turn refines one card at most, a card that it skips is not refined, and it counts one hot card at most
 one_at_most : (card : ℕ) (o : Option Offer) → (length (refined_by card o) + skipped_by o ≤ 1) × (hot_by o ≤ 1)

@@ -3,7 +3,7 @@ use Rattle.std.specs.Prelude.{◌≡◌, ◌≢◌, ◌⊎◌, ◌<◌, ◌≤�
 use Rattle.g1_core.specs.{inl, inr, ℕ, zero, suc, Bool, true, false, cond, List, [], length, get_or, Some, refl, sym, ap, ◌∙◌, arith, Contains, not, enumerate_from, filter_map, nat_cmp, eq_by_cmp, Equal-is, nat_cmp_total, eq_by_cmp_equiv, exact_unsigned, cases_lt, cases_eq, or_cases, or_left, or_right, and_parts, and_from, not-true, true≢false, false_from_ne_true, get_or-set_same, get_or-set_other, get_or_past, get_or_default, get_or-enumerate_from, length-enumerate_from, Mark, Clean, Dirty, Held, pending_of, marked_card, CardSet, set_of}
 use Rattle.std.proofs.Common.{set as list_set}
 use Rattle.std.specs.FinSet as set
-use Rattle.g1_core.proofs.SetLemmas.{same_cards, in_list, in_set, from_places, to_places}
+use Rattle.g1_core.proofs.SetLemmas.{same_cards, in_list, in_set, from_places, to_places, one_fewer}
 
 pub held_clean : (mark : Mark) → mark ≡ Held → mark ≢ Clean
 held_clean mark h c = let both : Held ≡ Clean = sym h ∙ c in cc
@@ -115,21 +115,9 @@ few_pending marks =
     let all : length (enumerate_from 0 marks) ≡ length marks = length-enumerate_from 0 marks in
     omega arith
 
--- a set with a member has some
-pub some_member : (cards : CardSet) (card : ℕ) → set.contains cards card ≡ true → 1 ≤ set.len cards
-some_member cards card h = elim (cases_lt 0 (set.len cards)) [
-  | inl some ↦ omega arith
-  | inr none ↦
-      let empty : cards ≡ set.empty = set.empty_of_len cards (omega arith) in
-      absurd (true≢false (sym h ∙ ap (λ (s : CardSet). set.contains s card) empty ∙ set.contains-empty nat_cmp card))
-]
-
 -- a member leaves
 pub one_less : (cards : CardSet) (card : ℕ) → set.contains cards card ≡ true → set.len (set.difference cards (set_of (card ∷ []))) + 1 ≡ set.len cards
-one_less cards card h =
-    let some = some_member cards card h in
-    let len : set.len (set.difference cards (set_of (card ∷ []))) ≡ set.len cards - 1 = ap set.len (without_one cards card) ∙ set.len-remove nat_cmp_total cards card ∙ ap (λ b. cond b (set.len cards - 1) (set.len cards)) h in
-    omega arith
+one_less cards card h = ap (λ (s : CardSet). set.len s + 1) (without_one cards card) ∙ one_fewer nat_cmp_total exact_unsigned cards card h
 
 -- a new member joins
 pub one_more : (cards : CardSet) (card : ℕ) → set.contains cards card ≡ false → set.len (set.insert cards card) ≡ set.len cards + 1

@@ -26,7 +26,7 @@ module _ (from to : ℕ) (t : Table) where
   target_at : (slot : ℕ) → slot < length t.refs → get_or (map (moved_target t.layout from to) (enumerate_from 0 t.refs)) slot None ≡ moved_target t.layout from to (slot, get_or t.refs slot None)
   target_at slot below =
       get_or-map (moved_target t.layout from to) (enumerate_from 0 t.refs) slot (0, None) None (omega (arith, length-enumerate_from 0 t.refs))
-      ∙ ap (moved_target t.layout from to) (at_its_place (moved_pair t.layout from to) t.refs None slot (0, None) below)
+      ∙ ap (moved_target t.layout from to) (at_its_place t.refs None slot (0, None) below)
 
   target_from : (slot place : ℕ) → target_of (moved from to t) slot ≡ Some place → moved_target t.layout from to (slot, get_or t.refs slot None) ≡ Some place
   target_from slot place e =

@@ -4,12 +4,12 @@ use Rattle.g1_core.specs.{inl, inr, ℕ, suc, true, false, cond, List, [], lengt
 use Rattle.std.proofs.Common.{set as list_set}
 use Rattle.std.proofs.lemmas.Map.Made.{Contains-tail}
 use Rattle.std.specs.FinSet as set
-use Rattle.g1_core.proofs.SetLemmas.{All_by_member}
+use Rattle.g1_core.proofs.SetLemmas.{All_by_member, front_apart, rest_distinct}
 use Rattle.g1_core.proofs.TableLemmas.{refined_covered}
 use Rattle.g1_core.proofs.OutsideLemmas.{refined_outside}
 use Rattle.g1_core.proofs.MarkLemmas.{held_clean, dirty_clean, dirty_held, marked_cases, from_pending, to_pending, is_card, pending_cleaned, pending_kept, mark_here, mark_there, one_less}
 use Rattle.g1_core.proofs.RefinedLemmas.{push_distinct}
-use Rattle.g1_core.proofs.TurnLemmas.{front_apart, rest_distinct, IsDirty, dirty_from, to_dirty}
+use Rattle.g1_core.proofs.TurnLemmas.{IsDirty, dirty_from, to_dirty}
 
 module _ (heap : Cells) (pairs : PairSet) (ring : Ring) (pending : ℕ) (parts : AreParts heap pairs ring pending) where
   abbrev pub now : State

@@ -67,6 +67,9 @@ one_member = record {
   ];
 }
 
+still_waits : (refined [] after).pending ≡ set.empty → ⊥
+still_waits none = true≢false (sym waits ∙ ap (λ (t : Table). set.contains t.pending 0) (sym (refined_none after)) ∙ ap (λ (s : CardSet). set.contains s 0) none ∙ nobody 0)
+
 pub drain_lists_the_card_that_holds : IsAllowed after (drained 0 1 (0 ∷ []) (0 ∷ []))
 drain_lists_the_card_that_holds = record { numbers = omega arith; refines = refinable; answers = (nothing_waits, one_member) }
 
@@ -80,8 +83,7 @@ drain_lists_no_card_too_few h =
     let c : Contains [] 0 = h.answers.1.all 0 (one_member.recorded 0 (itself 0 0 refl)) in absurd (omega (arith, c.1))
 
 pub drain_refines_all_that_waits : IsAllowed after (drained 0 1 [] []) → ⊥
-drain_refines_all_that_waits h =
-    true≢false (sym waits ∙ ap (λ (t : Table). set.contains t.pending 0) (sym (refined_none after)) ∙ ap (λ (s : CardSet). set.contains s 0) h.answers.0 ∙ nobody 0)
+drain_refines_all_that_waits h = still_waits h.answers.0
 
 -- once that drain was made, card 0 is recorded for region 1
 abbrev paused : Table
@@ -91,13 +93,10 @@ pub members_lists_the_recorded_card : IsAllowed paused (members_entry 0 1 (0 ∷
 members_lists_the_recorded_card = record { numbers = omega arith; refines = none_refinable _; answers = (refl, one_member) }
 
 pub members_lists_no_card_too_many : IsAllowed paused (members_entry 0 1 (0 ∷ 5 ∷ [])) → ⊥
-members_lists_no_card_too_many h =
-    let c : Contains (0 ∷ []) 5 = one_member.all 5 (h.answers.1.recorded 5 (1, omega arith, refl)) in
-    let five : 5 ≡ 0 = one_of 5 0 c in absurd (omega (arith, five))
+members_lists_no_card_too_many h = drain_lists_no_card_too_many (record { numbers = omega arith; refines = refinable; answers = (nothing_waits, h.answers.1) })
 
 pub members_lists_no_card_too_few : IsAllowed paused (members_entry 0 1 []) → ⊥
-members_lists_no_card_too_few h =
-    let c : Contains [] 0 = h.answers.1.all 0 (one_member.recorded 0 (itself 0 0 refl)) in absurd (omega (arith, c.1))
+members_lists_no_card_too_few h = drain_lists_no_card_too_few (record { numbers = omega arith; refines = refinable; answers = (nothing_waits, h.answers.1) })
 
 -- a redirect from region 1 to region 2, after the first store
 abbrev redirects : ℕ → List ℕ → Entry
@@ -113,5 +112,4 @@ pub redirect_counts_no_slot_too_few : IsAllowed after (redirects 0 (0 ∷ [])) �
 redirect_counts_no_slot_too_few h = let no : 0 ≡ 1 = h.answers.1 in absurd (omega arith)
 
 pub redirect_refines_all_that_waits : IsAllowed after (redirects 1 []) → ⊥
-redirect_refines_all_that_waits h =
-    true≢false (sym waits ∙ ap (λ (t : Table). set.contains t.pending 0) (sym (refined_none after)) ∙ ap (λ (s : CardSet). set.contains s 0) h.answers.0 ∙ nobody 0)
+redirect_refines_all_that_waits h = still_waits h.answers.0

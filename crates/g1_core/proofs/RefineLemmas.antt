@@ -1,9 +1,10 @@
 -- The turns of cards over the parts of a core.
 use Rattle.std.specs.Prelude.{◌≡◌, ◌≢◌, ◌<◌, ◌≤◌, ◌+◌, ◌∷◌, ◌++◌, ◌↔◌}
-use Rattle.g1_core.specs.{inl, inr, ℕ, List, [], length, get_or, take, Option, Some, None, refl, sym, ap, ◌∙◌, subst, arith, Contains, nat_eq, IsDistinct, length-set, fold_more, card_count, Clean, Dirty, Held, Cells, with_mark, with_reads, Pairs, Offer, Cold, Kept, Out, Ring, answer, offered, cards_after, popped, PairSet, refined, State, IsCore, AreParts, pending_of, table_from, state_from, machine_from, gained, Round, turn_by, turn, turns, start, offer_to, state_after, refined_by, hot_by, skipped_by}
+use Rattle.g1_core.specs.{inl, inr, ℕ, List, [], length, get_or, take, Option, Some, None, refl, sym, ap, ◌∙◌, subst, arith, Contains, nat_eq, IsDistinct, length-set, fold_more, card_count, Clean, Dirty, Held, Cells, with_mark, with_reads, Pairs, Offer, Cold, Kept, Out, Ring, answer, offered, cards_after, popped, PairSet, refined, State, IsCore, AreParts, pending_of, table_from, state_from, machine_from, gained, Round, turn_by, turn, turns, start, offer_to, state_after, refined_by, hot_by, skipped_by, nat_cmp_total, exact_unsigned}
 use Rattle.g1_core.specs.declared.config.Settings.{Settings}
 use Rattle.g1_core.specs.Machine.{Machine}
-use Rattle.g1_core.proofs.MarkLemmas.{held_clean, dirty_clean, to_pending, is_card, mark_there, some_member}
+use Rattle.g1_core.proofs.SetLemmas.{some_member}
+use Rattle.g1_core.proofs.MarkLemmas.{held_clean, dirty_clean, to_pending, is_card, mark_there}
 use Rattle.g1_core.proofs.TurnLemmas.{answer_cases}
 use Rattle.g1_core.proofs.RefinedLemmas.{refined_none}
 use Rattle.g1_core.proofs.PartLemmas.{dirty_mark, offer_dirty, offer_none, cleaned_state, cleaned_parts, held_state, held_parts, apart_stands, oldest_mark, left_distinct, left_stands, differs, IsFront}
@@ -91,7 +92,7 @@ module _ (heap : Cells) (sets : Pairs) (ring : Ring) (pending : ℕ) (settings :
   -- a marked card is one that is pending
   pub some_pending : (q : ℕ) → get_or heap.marks q Clean ≢ Clean → 1 ≤ pending
   some_pending q marked =
-      let some : 1 ≤ _ = some_member (pending_of heap.marks) q (to_pending heap.marks q marked) in
+      let some : 1 ≤ _ = some_member nat_cmp_total exact_unsigned (pending_of heap.marks) q (to_pending heap.marks q marked) in
       omega (arith, some, core.parts.known)
 
   module _ (dirty : get_or heap.marks card Clean ≡ Dirty) where

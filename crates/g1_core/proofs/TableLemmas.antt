@@ -49,7 +49,7 @@ held_from_Holds t card region h =
     subst (λ (p : ℕ × ℕ). set.contains (held t) p ≡ true) (ap (λ (c : ℕ). (c, region_of t.layout h.place)) h.on_card ∙ ap (λ (r : ℕ). (card, r)) h.into) (crossing_held t h.slot h.place (record { refers = h.refers; across = across }))
 
 pub slot_of : (xs : List (Option ℕ)) (k : ℕ) (p : ℕ × Option ℕ) → k < length (enumerate_from 0 xs) → get_or (enumerate_from 0 xs) k p ≡ p → ◌≡◌ {A = ℕ × Option ℕ} (k, get_or xs k None) p
-slot_of xs k p l e = sym (at_its_place (λ (q : ℕ × Option ℕ). q.1) xs None k p (omega (arith, length-enumerate_from 0 xs))) ∙ e
+slot_of xs k p l e = sym (at_its_place xs None k p (omega (arith, length-enumerate_from 0 xs))) ∙ e
 
 -- what is held holds
 pub Holds_from_held : (t : Table) (card region : ℕ) → set.contains (held t) (card, region) ≡ true → Holds t card region

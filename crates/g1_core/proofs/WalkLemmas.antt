@@ -2,8 +2,8 @@
 use Rattle.std.specs.Prelude.{◌≡◌, ◌≢◌, ◌<◌, ◌≤◌, ◌+◌, ◌-◌, ◌*◌, ◌∷◌, ◌++◌}
 use Rattle.g1_core.specs.{inl, inr, ℕ, zero, suc, Bool, true, false, eqb, List, [], length, get_or, Option, Some, None, refl, sym, ap, ◌∙◌, subst, arith, take, Contains, nat_eq, not, slice_get, IsDistinct, cons_option, range_with_len, cases_eq, eqb-false, ne_eqb, true≢false, not-true, append-nil, append_assoc, length-append, take_more, get_or-range_with_len, length-range_with_len, flat_map-append, filter_map-append, Contains-append_cases, Contains-append_left, Contains-append_right, Shape, IsShape, card_count, card_of, region_of_card, slot_at, Change, change_at, changes_of, slots_of, slots_on, AreGaining, get_or_from_slice_get, slice_get_within, Cells, Pairs, AreTied, list_at, AreRead, IsInRow, row_of_card, card_of-in_row}
 use Rattle.std.proofs.lemmas.List.Concat.{flat_map-cons}
+use Rattle.g1_core.proofs.SetLemmas.{front_apart, rest_distinct}
 use Rattle.g1_core.proofs.MarkLemmas.{one_of, itself}
-use Rattle.g1_core.proofs.TurnLemmas.{front_apart, rest_distinct}
 use Rattle.g1_core.proofs.RefinedLemmas.{push_distinct}
 
 pub take_next : (cards : List ℕ) (index card : ℕ) → slice_get cards index ≡ Some card → take (index + 1) cards ≡ take index cards ++ card ∷ []
