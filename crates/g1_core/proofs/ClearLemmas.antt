@@ -51,25 +51,32 @@ pub record IsClearedTo (m : Machine) (region : ℕ) (answer : ClearReply) (heap 
   pub step : (caller : ℕ) → IsStep m.state.table (clear_entry caller region answer) (table_from heap sets.pairs)
   pub later : IsLater m (machine_from heap sets.pairs ring settings)
 
-module _ (heap : Cells) (sets : Pairs) (ring : Ring) (pending : ℕ) (settings : Settings) (core : IsCore heap sets ring pending) (region : ℕ) (within : region < heap.layout.regions) where
+-- of the machine that a core stands for
+module _ (heap : Cells) (sets : Pairs) (ring : Ring) (pending : ℕ) (settings : Settings) (machine : Machine) (core : IsCore heap sets ring pending) (view : machine_from heap sets.pairs ring settings ≡ machine) (region : ℕ) (within : region < machine.state.table.layout.regions) where
   abbrev t : Table
   t = table_from heap sets.pairs
 
   abbrev m : Machine
   m = machine_from heap sets.pairs ring settings
 
+  inside : region < heap.layout.regions
+  inside = rw (← view) at within
+
+  seen : (answer : ClearReply) (heap' : Cells) (sets' : Pairs) → IsClearedTo m region answer heap' sets' ring pending settings → IsClearedTo machine region answer heap' sets' ring pending settings
+  seen answer heap' sets' = subst (λ (m : Machine). IsClearedTo m region answer heap' sets' ring pending settings) view
+
   -- some cards are pending
-  pub refused_pending : 0 < pending → IsClearedTo m region (clear_reply.Pending pending) heap sets ring pending settings
-  refused_pending some = record {
+  pub pending_at : 0 < pending → IsClearedTo machine region (clear_reply.Pending pending) heap sets ring pending settings
+  pending_at some = seen (clear_reply.Pending pending) heap sets (record {
     core = core;
     did = record { refused = λ _. record { state = refl; settings = refl; reads = omega arith }; ring = refl; unread = λ _. refl; reads = omega arith };
-    step = λ caller. clear_step caller t t region (clear_reply.Pending pending) within (λ after. (refl, core.parts.known, omega arith)) refl;
+    step = λ caller. clear_step caller t t region (clear_reply.Pending pending) inside (λ after. (refl, core.parts.known, omega arith)) refl;
     later = core_later heap sets ring pending core settings m refl refl refl;
-  }
+  })
 
-  module _ (now : Cells) (zero_pending : pending ≡ 0) (tied : AreTied sets) (read : AreRead heap now (length (list_at sets.lists region) * heap.layout.slots)) where
+  module _ (now : Cells) (nothing : pending ≤ 0) (tied : AreTied sets) (read : AreRead heap now (length (list_at sets.lists region) * heap.layout.slots)) where
     empty : pending_of heap.marks ≡ set.empty
-    empty = none_of (pending_of heap.marks) (sym core.parts.known ∙ zero_pending)
+    empty = none_of (pending_of heap.marks) (omega (arith, core.parts.known))
 
     few_reads : now.reads ≤ heap.reads + member_count t region * heap.layout.slots
     few_reads =
@@ -89,15 +96,15 @@ module _ (heap : Cells) (sets : Pairs) (ring : Ring) (pending : ℕ) (settings :
     same_table = read_table heap now _ sets.pairs read
 
     -- a slot still enters the region
-    pub refused_entered : (slot : ℕ) → IsLeastOn t (list_at sets.lists region) region (Some slot) → IsClearedTo m region (clear_reply.StillReferenced slot) now sets ring pending settings
-    refused_entered slot least =
+    pub entered_at : (slot : ℕ) → IsLeastOn t (list_at sets.lists region) region (Some slot) → IsClearedTo machine region (clear_reply.StillReferenced slot) now sets ring pending settings
+    entered_at slot least =
         let same : state_from now sets.pairs ring ≡ m.state = ap (λ (h : Cells). state_from h sets.pairs ring) read.cells in
-        record {
+        seen (clear_reply.StillReferenced slot) now sets (record {
           core = kept;
           did = record { refused = λ _. record { state = same; settings = refl; reads = read.grown }; ring = refl; unread = contradicted; reads = few_reads };
-          step = λ caller. clear_step caller t (table_from now sets.pairs) region (clear_reply.StillReferenced slot) within (λ after. (refl, empty, first_enters t region (list_at sets.lists region) empty core.parts.cover recorded slot least)) same_table;
+          step = λ caller. clear_step caller t (table_from now sets.pairs) region (clear_reply.StillReferenced slot) inside (λ after. (refl, empty, first_enters t region (list_at sets.lists region) empty core.parts.cover recorded slot least)) same_table;
           later = same_later m (machine_from now sets.pairs ring settings) same refl (core_sound heap sets ring pending core) read.grown;
-        }
+        })
 
     -- the region's set is emptied
     module _ (sets' : Pairs) (layout : sets'.layout ≡ sets.layout) (pairs : sets'.pairs ≡ without sets.pairs region) (least : IsLeastOn t (list_at sets.lists region) region None) where
@@ -105,7 +112,7 @@ module _ (heap : Cells) (sets : Pairs) (ring : Ring) (pending : ℕ) (settings :
       cleared_table = read_table heap now _ sets'.pairs read ∙ ap (λ (ps : PairSet). table_from heap ps) pairs
 
       cleared_step : (caller : ℕ) → IsStep t (clear_entry caller region clear_reply.Cleared) (table_from now sets'.pairs)
-      cleared_step caller = clear_step caller t (table_from now sets'.pairs) region clear_reply.Cleared within (λ after. (refl, empty, none_enters t region (list_at sets.lists region) empty core.parts.cover recorded least)) cleared_table
+      cleared_step caller = clear_step caller t (table_from now sets'.pairs) region clear_reply.Cleared inside (λ after. (refl, empty, none_enters t region (list_at sets.lists region) empty core.parts.cover recorded least)) cleared_table
 
       cleared_core : IsCore now sets' ring pending
       cleared_core =
@@ -114,26 +121,10 @@ module _ (heap : Cells) (sets : Pairs) (ring : Ring) (pending : ℕ) (settings :
           let parts : AreParts now sets.pairs ring pending = kept.parts in
           record { layouts = layout ∙ kept.layouts; parts = search (parts, cover, outside) }
 
-      pub granted : IsClearedTo m region clear_reply.Cleared now sets' ring pending settings
-      granted = record {
+      pub granted_at : IsClearedTo machine region clear_reply.Cleared now sets' ring pending settings
+      granted_at = seen clear_reply.Cleared now sets' (record {
         core = cleared_core;
         did = record { refused = λ not. absurd (not refl); ring = refl; unread = contradicted; reads = few_reads };
         step = cleared_step;
         later = step_later m (machine_from now sets'.pairs ring settings) (clear_entry 0 region clear_reply.Cleared) (cleared_step 0) refl (core_sound now sets' ring pending cleared_core) read.grown;
-      }
-
--- the same of the machine that a core stands for
-module _ (heap : Cells) (sets : Pairs) (ring : Ring) (pending : ℕ) (settings : Settings) (machine : Machine) (core : IsCore heap sets ring pending) (view : machine_from heap sets.pairs ring settings ≡ machine) (region : ℕ) (within : region < machine.state.table.layout.regions) where
-  inside : region < heap.layout.regions
-  inside = subst (λ (m : Machine). region < m.state.table.layout.regions) (sym view) within
-
-  pub pending_at : 0 < pending → IsClearedTo machine region (clear_reply.Pending pending) heap sets ring pending settings
-  pending_at some = subst (λ (m : Machine). IsClearedTo m region (clear_reply.Pending pending) heap sets ring pending settings) view (refused_pending heap sets ring pending settings core region inside some)
-
-  pub entered_at : (now : Cells) → pending ≤ 0 → AreTied sets → AreRead heap now (length (list_at sets.lists region) * heap.layout.slots) → (slot : ℕ) → IsLeastOn (table_from heap sets.pairs) (list_at sets.lists region) region (Some slot)
-      → IsClearedTo machine region (clear_reply.StillReferenced slot) now sets ring pending settings
-  entered_at now nothing tied read slot least = subst (λ (m : Machine). IsClearedTo m region (clear_reply.StillReferenced slot) now sets ring pending settings) view (refused_entered heap sets ring pending settings core region inside now (omega arith) tied read slot least)
-
-  pub granted_at : (now : Cells) → pending ≤ 0 → AreTied sets → AreRead heap now (length (list_at sets.lists region) * heap.layout.slots) → (sets' : Pairs) → sets'.layout ≡ sets.layout → sets'.pairs ≡ without sets.pairs region
-      → IsLeastOn (table_from heap sets.pairs) (list_at sets.lists region) region None → IsClearedTo machine region clear_reply.Cleared now sets' ring pending settings
-  granted_at now nothing tied read sets' layout pairs least = subst (λ (m : Machine). IsClearedTo m region clear_reply.Cleared now sets' ring pending settings) view (granted heap sets ring pending settings core region inside now (omega arith) tied read sets' layout pairs least)
+      })

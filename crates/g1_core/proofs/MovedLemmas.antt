@@ -3,7 +3,8 @@ use Rattle.std.specs.Prelude.{◌≡◌, ◌≢◌, ◌⊎◌, ◌<◌, ◌+◌,
 use Rattle.g1_core.specs.{inl, inr, ℕ, Bool, true, false, cond, eqb, length, get_or, Option, Some, None, refl, sym, ap, ◌∙◌, subst, arith, map, not, filter_map, enumerate_from, eqb-false, eq-eqb, ne_eqb, not-true, or_cases, or_left, or_right, and_parts, and_from, true≢false, get_or-map, length-map, get_or-enumerate_from, length-enumerate_from, Shape, card_of, region_of, region_of_card, same_offset, same_offset_region, pair_cmp, target_of, IsRecorded, Holds, IsCovered, enters, moved_target, moved_pair, moved}
 use Rattle.std.specs.FinSet as set
 use Rattle.g1_core.specs.Table.{Table}
-use Rattle.g1_core.proofs.SetLemmas.{pair_total, pair_exact, listed, unlisted, at_its_place, from_places, to_places}
+use Rattle.g1_core.proofs.SetLemmas.{pair_total, pair_exact, listed, unlisted, from_places, to_places}
+use Rattle.g1_core.proofs.PlaceLemmas.{map_at}
 use Rattle.g1_core.proofs.ChangeLemmas.{IsChanged, change_cases}
 use Rattle.g1_core.proofs.TableLemmas.{region_of_slot, is_slot}
 
@@ -23,14 +24,9 @@ module _ (l : Shape) (from to slot : ℕ) (o : Option ℕ) where
   to_pair enter outside = ap (λ b. cond {A = Option (ℕ × ℕ)} b (Some (card_of l slot, to)) None) (and_from _ _ enter (ap not (ne_eqb _ _ outside)))
 
 module _ (from to : ℕ) (t : Table) where
-  target_at : (slot : ℕ) → slot < length t.refs → get_or (map (moved_target t.layout from to) (enumerate_from 0 t.refs)) slot None ≡ moved_target t.layout from to (slot, get_or t.refs slot None)
-  target_at slot below =
-      get_or-map (moved_target t.layout from to) (enumerate_from 0 t.refs) slot (0, None) None (omega (arith, length-enumerate_from 0 t.refs))
-      ∙ ap (moved_target t.layout from to) (at_its_place t.refs None slot (0, None) below)
-
   target_from : (slot place : ℕ) → target_of (moved from to t) slot ≡ Some place → moved_target t.layout from to (slot, get_or t.refs slot None) ≡ Some place
   target_from slot place e =
-      sym (target_at slot (omega (arith, is_slot _ slot place e, length-map (enumerate_from 0 t.refs) (moved_target t.layout from to), length-enumerate_from 0 t.refs))) ∙ e
+      sym (map_at t.refs None (moved_target t.layout from to) None slot (omega (arith, is_slot _ slot place e, length-map (enumerate_from 0 t.refs) (moved_target t.layout from to), length-enumerate_from 0 t.refs))) ∙ e
 
   moved_recorded : (p : ℕ × ℕ) → set.contains (moved from to t).recorded p ≡ ((set.contains t.recorded p || set.contains (set.from_list {R = pair_cmp} (filter_map (moved_pair t.layout from to) (enumerate_from 0 t.refs))) p) && not (eqb p.1 from))
   moved_recorded p =
@@ -81,7 +77,7 @@ module _ (from to : ℕ) (t : Table) where
               slot = k;
               place = same_offset t.layout c.old to;
               on_card = on;
-              refers = target_at k inside ∙ c.moves;
+              refers = map_at t.refs None (moved_target t.layout from to) None k inside ∙ c.moves;
               into = same_offset_region t.layout c.old to some ∙ into;
               outside = λ e. m.1 (sym (region_of_slot t.layout k) ∙ ap (region_of_card t.layout) on ∙ e ∙ sym into);
             }
