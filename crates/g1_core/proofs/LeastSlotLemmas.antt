@@ -124,10 +124,7 @@ module _ (t : Table) (shape : IsShape t.layout) (region : ℕ) where
 module _ (heap now : Cells) (most : ℕ) (read : AreRead heap now most) (pairs : PairSet) (shape : IsShape heap.layout) (region : ℕ) (cards : List ℕ) (index card : ℕ) (at : slice_get cards index ≡ Some card) (past : ℕ) (least : Option ℕ)
     (h : IsLeastFrom (table_from heap pairs) (take index cards) region past least) (past' : ℕ) (least' : Option ℕ) where
   as_next : (p : ℕ) (o : Option ℕ) → past' ≡ p → least' ≡ o → IsLeastFrom (table_from heap pairs) (take index cards ++ card ∷ []) region p o → IsLeastFrom (table_from heap pairs) (take (index + 1) cards) region past' least'
-  as_next p o same same_least found =
-      subst (λ (p : ℕ). IsLeastFrom (table_from heap pairs) (take (index + 1) cards) region p least') (sym same)
-      (subst (λ (o : Option ℕ). IsLeastFrom (table_from heap pairs) (take (index + 1) cards) region p o) (sym same_least)
-      (subst (λ (cs : List ℕ). IsLeastFrom (table_from heap pairs) cs region p o) (sym (take_next cards index card at)) found))
+  as_next p o same same_least found = rw (same, same_least, take_next cards index card at) found
 
   here : (o : Option ℕ) → ((pairs : PairSet) → IsLeastOn (table_from now pairs) (card ∷ []) region o) → IsLeastOn (table_from heap pairs) (card ∷ []) region o
   here o on = subst (λ (t : Table). IsLeastOn t (card ∷ []) region o) (read_table heap now most pairs read) (on pairs)

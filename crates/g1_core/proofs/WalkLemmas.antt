@@ -1,5 +1,5 @@
 -- The walk over the slots of some cards that collects the changes of a redirect.
-use Rattle.std.specs.Prelude.{◌≡◌, ◌≢◌, ◌<◌, ◌≤◌, ◌+◌, ◌-◌, ◌*◌, ◌∷◌, ◌++◌}
+use Rattle.std.specs.Prelude.{◌≡◌, ◌≢◌, ◌<◌, ◌≤◌, ◌+◌, ◌-◌, ◌*◌, ◌∷◌, ◌++◌, ◌↔◌}
 use Rattle.g1_core.specs.{inl, inr, ℕ, zero, suc, Bool, true, false, eqb, List, [], length, get_or, Option, Some, None, refl, sym, ap, ◌∙◌, subst, arith, take, Contains, nat_eq, not, slice_get, IsDistinct, cons_option, range_with_len, cases_eq, eqb-false, ne_eqb, true≢false, not-true, append-nil, append_assoc, length-append, take_more, get_or-range_with_len, length-range_with_len, flat_map-append, filter_map-append, Contains-append_cases, Contains-append_left, Contains-append_right, Shape, IsShape, card_count, card_of, region_of_card, slot_at, Change, change_at, changes_of, slots_of, slots_on, AreGaining, get_or_from_slice_get, slice_get_within, Cells, Pairs, AreTied, list_at, AreRead, IsInRow, row_of_card, card_of-in_row}
 use Rattle.std.proofs.lemmas.List.Concat.{flat_map-cons}
 use Rattle.g1_core.proofs.SetLemmas.{front_apart, rest_distinct}
@@ -90,24 +90,17 @@ module _ (l : Shape) (refs : List (Option ℕ)) (from to : ℕ) where
       ∙ append_assoc before (changes_of l refs from to earlier) (cons_option o [])
       ∙ ap (λ (ys : List Change). before ++ ys) (ap (λ (ys : List Change). changes_of l refs from to earlier ++ ys) (sym (one_change slot o is)) ∙ sym (changes_both earlier (slot ∷ [])) ∙ ap (λ (ks : List ℕ). changes_of l refs from to ks) (sym range))
 
-  pub gaining_push : (cards gaining : List ℕ) (card : ℕ) → AreGaining l refs from to cards gaining → 1 ≤ length (changes_of l refs from to (slots_of l card)) → region_of_card l card ≢ to → AreGaining l refs from to (cards ++ card ∷ []) (gaining ++ card ∷ [])
-  gaining_push cards gaining card h some outside = λ q. (
-    λ c. elim (Contains-append_cases gaining (card ∷ []) q c) [
+  -- one card more, and those that gain of it
+  pub gaining_more : (cards gaining more : List ℕ) (card : ℕ) → AreGaining l refs from to cards gaining → ((q : ℕ) → Contains more q ↔ ((q ≡ card) × (1 ≤ length (changes_of l refs from to (slots_of l q))) × (region_of_card l q ≢ to)))
+      → AreGaining l refs from to (cards ++ card ∷ []) (gaining ++ more)
+  gaining_more cards gaining more card h just q = (
+    λ c. elim (Contains-append_cases gaining more q c) [
       | inl old ↦ let g = (h q).0 old in (Contains-append_left cards (card ∷ []) q g.0, g.1, g.2)
-      | inr new ↦ subst (λ (k : ℕ). Contains (cards ++ card ∷ []) k × (1 ≤ length (changes_of l refs from to (slots_of l k))) × (region_of_card l k ≢ to)) (sym (one_of q card new)) (Contains-append_right cards (card ∷ []) card (itself card card refl), some, outside)
+      | inr new ↦ let g = (just q).0 new in (Contains-append_right cards (card ∷ []) q (itself q card g.0), g.1, g.2)
     ],
     λ g. elim (Contains-append_cases cards (card ∷ []) q g.0) [
-      | inl old ↦ Contains-append_left gaining (card ∷ []) q ((h q).1 (old, g.1, g.2))
-      | inr new ↦ Contains-append_right gaining (card ∷ []) q new
-    ],
-  )
-
-  pub gaining_skip : (cards gaining : List ℕ) (card : ℕ) → AreGaining l refs from to cards gaining → (1 ≤ length (changes_of l refs from to (slots_of l card)) → region_of_card l card ≢ to → ⊥) → AreGaining l refs from to (cards ++ card ∷ []) gaining
-  gaining_skip cards gaining card h never = λ q. (
-    λ c. let g = (h q).0 c in (Contains-append_left cards (card ∷ []) q g.0, g.1, g.2),
-    λ g. elim (Contains-append_cases cards (card ∷ []) q g.0) [
-      | inl old ↦ (h q).1 (old, g.1, g.2)
-      | inr new ↦ let both : (1 ≤ length (changes_of l refs from to (slots_of l card))) × (region_of_card l card ≢ to) = subst (λ (k : ℕ). (1 ≤ length (changes_of l refs from to (slots_of l k))) × (region_of_card l k ≢ to)) (one_of q card new) (g.1, g.2) in absurd (never both.0 both.1)
+      | inl old ↦ Contains-append_left gaining more q ((h q).1 (old, g.1, g.2))
+      | inr new ↦ Contains-append_right gaining more q ((just q).1 (one_of q card new, g.1, g.2))
     ],
   )
 
@@ -133,14 +126,10 @@ card_changes heap now most from to card before after xs xs' read first second mo
 
 module _ (heap : Cells) (from to : ℕ) (cards : List ℕ) (index card : ℕ) (at : slice_get cards index ≡ Some card) (gaining gaining' : List ℕ) (before : AreGaining heap.layout heap.refs from to (take index cards) gaining) where
   pub gains_next : 1 ≤ length (changes_of heap.layout heap.refs from to (slots_of heap.layout card)) → region_of_card heap.layout card ≢ to → gaining' ≡ gaining ++ card ∷ [] → AreGaining heap.layout heap.refs from to (take (index + 1) cards) gaining'
-  gains_next some outside listed =
-      subst (λ (gs : List ℕ). AreGaining heap.layout heap.refs from to (take (index + 1) cards) gs) (sym listed)
-      (subst (λ (cs : List ℕ). AreGaining heap.layout heap.refs from to cs (gaining ++ card ∷ [])) (sym (take_next cards index card at)) (gaining_push heap.layout heap.refs from to (take index cards) gaining card before some outside))
+  gains_next some outside listed = rw (listed, take_next cards index card at) (gaining_more heap.layout heap.refs from to (take index cards) gaining (card ∷ []) card before (λ q. (λ c. (one_of q card c, rw (one_of q card c) some, rw (one_of q card c) outside), λ g. itself q card g.0)))
 
   pub gains_none : (1 ≤ length (changes_of heap.layout heap.refs from to (slots_of heap.layout card)) → region_of_card heap.layout card ≢ to → ⊥) → gaining' ≡ gaining → AreGaining heap.layout heap.refs from to (take (index + 1) cards) gaining'
-  gains_none never listed =
-      subst (λ (gs : List ℕ). AreGaining heap.layout heap.refs from to (take (index + 1) cards) gs) (sym listed)
-      (subst (λ (cs : List ℕ). AreGaining heap.layout heap.refs from to cs gaining) (sym (take_next cards index card at)) (gaining_skip heap.layout heap.refs from to (take index cards) gaining card before never))
+  gains_none never listed = rw (listed, take_next cards index card at, ← append-nil gaining) (gaining_more heap.layout heap.refs from to (take index cards) gaining [] card before (λ q. (λ c. absurd (omega (arith, c.1)), λ g. absurd (never (rw g.0 at g.1) (rw g.0 at g.2)))))
 
 -- where a card lies, by the test of the code, and that it is one of the heap
 pub lies_outside : (l m : Shape) (card own to : ℕ) (test : Bool) → test ≡ not (eqb own to) → test ≡ true → own ≡ region_of_card l card → l ≡ m → region_of_card m card ≢ to
