@@ -1,6 +1,6 @@
 -- The parts of a core and the state that they stand for.
 use Rattle.std.specs.Prelude.{◌≡◌, ◌≢◌, ◌<◌, ◌+◌, ◌∷◌, ◌++◌, ◌↔◌}
-use Rattle.g1_core.specs.{inl, inr, ℕ, suc, true, false, cond, List, [], length, get_or, drop, Option, Some, None, refl, sym, ap, ◌∙◌, subst, arith, Contains, nat_eq, slice_get, IsDistinct, cases_eq, false_from_ne_true, length-set, Contains-push, Contains-append_left, Contains-push_cases, card_count, PairSet, Mark, Clean, Dirty, Held, Cells, with_mark, with_reads, Offer, Ring, answer, popped, IsCovered, IsPending, refined, State, IsPlaced, AreParts, pending_of, table_from, state_from, gained, is_dirty, offer_to}
+use Rattle.g1_core.specs.{inl, inr, ℕ, suc, true, false, cond, List, [], length, get_or, drop, Option, Some, None, refl, sym, ap, ◌∙◌, subst, arith, Contains, nat_eq, slice_get, IsDistinct, cases_eq, false_from_ne_true, length-set, Contains-push, Contains-append_left, Contains-push_cases, card_count, PairSet, Mark, Clean, Dirty, Held, Cells, with_mark, with_reads, Offer, Ring, answer, popped, IsCovered, IsPending, refined, State, IsPlaced, AreParts, pending_of, table_from, state_from, gained, is_dirty, offer_to, AreCells, AreOutside}
 use Rattle.std.proofs.Common.{set as list_set}
 use Rattle.std.proofs.lemmas.Map.Made.{Contains-tail}
 use Rattle.std.specs.FinSet as set
@@ -69,22 +69,14 @@ module _ (heap : Cells) (pairs : PairSet) (ring : Ring) (pending : ℕ) (parts :
     pub cleaned_parts : AreParts (with_mark (with_reads heap more) card Clean) (gained heap pairs card) ring' pending'
     cleaned_parts =
         let fewer : set.len (pending_of (list_set heap.marks card Clean)) + 1 ≡ set.len (pending_of heap.marks) = ap (λ s. set.len s + 1) (pending_cleaned heap.marks card Clean inside refl) ∙ one_less (pending_of heap.marks) card (to_pending heap.marks card marked) in
-        record {
-          cells = record { shape = parts.cells.shape; slots = parts.cells.slots; places = parts.cells.places; cards = length-set heap.marks card Clean ∙ parts.cells.cards };
-          counts = counts ∙ parts.counts;
-          some = omega (arith, capacity, parts.some);
-          distinct = distinct;
-          held = λ q. (
-            λ c. let was = (stands q).0 c in mark_there heap.marks card Clean inside q was.1 ∙ (parts.held q).0 was.0,
-            λ is. elim (cases_eq q card) [
-              | inl same ↦ absurd (held_clean _ is (ap (λ (k : ℕ). get_or (list_set heap.marks card Clean) k Clean) same ∙ mark_here heap.marks card Clean inside))
-              | inr ne ↦ (stands q).1 ((parts.held q).1 (sym (mark_there heap.marks card Clean inside q ne) ∙ is), ne)
-            ],
-          );
-          known = omega (arith, fewer, less, parts.known);
-          cover = subst IsCovered (sym (ap (λ (s : State). s.table) cleaned_state)) (refined_covered (card ∷ []) (table_from heap pairs) parts.cover);
-          outside = refined_outside (table_from heap pairs) parts.cells.shape parts.cells.slots parts.cells.places (card ∷ []) parts.outside;
-        }
+        let cells : AreCells (with_mark (with_reads heap more) card Clean) = record { shape = parts.cells.shape; slots = parts.cells.slots; places = parts.cells.places; cards = length-set heap.marks card Clean ∙ parts.cells.cards } in
+        let held : (q : ℕ) → Contains ring'.cards q ↔ (get_or (list_set heap.marks card Clean) q Clean ≡ Held) = λ q. elim (cases_eq q card) [
+          | inl same ↦ (λ c. absurd (((stands q).0 c).1 same), λ is. absurd (held_clean _ is (rw same (mark_here heap.marks card Clean inside))))
+          | inr ne ↦ rw (mark_there heap.marks card Clean inside q ne) (λ c. (parts.held q).0 ((stands q).0 c).0, λ is. (stands q).1 ((parts.held q).1 is, ne))
+        ] in
+        let cover : IsCovered (table_from (with_mark (with_reads heap more) card Clean) (gained heap pairs card)) = subst IsCovered (sym (ap (λ (s : State). s.table) cleaned_state)) (refined_covered (card ∷ []) (table_from heap pairs) parts.cover) in
+        let outside : AreOutside (table_from (with_mark (with_reads heap more) card Clean) (gained heap pairs card)) = refined_outside (table_from heap pairs) parts.cells.shape parts.cells.slots parts.cells.places (card ∷ []) parts.outside in
+        record { cells = cells; counts = counts ∙ parts.counts; some = omega (arith, capacity, parts.some); distinct = distinct; held = held; known = omega (arith, fewer, less, parts.known); cover = cover; outside = outside }
 
   -- A dirty card goes last into the ring.
   module _ (ring' : Ring) (card : ℕ) (dirty : mark_of card ≡ Dirty) (counts : length ring'.counts ≡ length ring.counts) (capacity : ring'.capacity ≡ ring.capacity) (cards : ring'.cards ≡ ring.cards ++ card ∷ []) where
@@ -100,25 +92,13 @@ module _ (heap : Cells) (pairs : PairSet) (ring : Ring) (pending : ℕ) (parts :
     pub held_parts : AreParts (with_mark heap card Held) pairs ring' pending
     held_parts =
         let fresh : Contains ring.cards card → ⊥ = (dirty_mark card dirty).apart in
-        record {
-          cells = record { shape = parts.cells.shape; slots = parts.cells.slots; places = parts.cells.places; cards = length-set heap.marks card Held ∙ parts.cells.cards };
-          counts = counts ∙ parts.counts;
-          some = omega (arith, capacity, parts.some);
-          distinct = subst (IsDistinct nat_eq) (sym cards) (push_distinct ring.cards card parts.distinct fresh);
-          held = λ q. subst (λ cs. Contains cs q ↔ (get_or (list_set heap.marks card Held) q Clean ≡ Held)) (sym cards) (
-            λ c. elim (cases_eq q card) [
-              | inl is ↦ ap (λ (k : ℕ). get_or (list_set heap.marks card Held) k Clean) is ∙ mark_here heap.marks card Held within
-              | inr ne ↦ mark_there heap.marks card Held within q ne ∙ elim (Contains-push_cases ring.cards card q c) [ inl c' ↦ (parts.held q).0 c' | inr is ↦ absurd (ne (sym is)) ]
-            ],
-            λ held. elim (cases_eq q card) [
-              | inl is ↦ subst (Contains (ring.cards ++ card ∷ [])) (sym is) (Contains-push ring.cards card)
-              | inr ne ↦ Contains-append_left ring.cards (card ∷ []) q ((parts.held q).1 (sym (mark_there heap.marks card Held within q ne) ∙ held))
-            ],
-          );
-          known = parts.known ∙ ap set.len (sym same_pending);
-          cover = subst IsCovered (sym (ap (λ (s : State). s.table) held_state)) parts.cover;
-          outside = parts.outside;
-        }
+        let cells : AreCells (with_mark heap card Held) = record { shape = parts.cells.shape; slots = parts.cells.slots; places = parts.cells.places; cards = length-set heap.marks card Held ∙ parts.cells.cards } in
+        let held : (q : ℕ) → Contains ring'.cards q ↔ (get_or (list_set heap.marks card Held) q Clean ≡ Held) = λ q. rw cards (elim (cases_eq q card) [
+          | inl is ↦ (λ c. rw is (mark_here heap.marks card Held within), λ held. rw is (Contains-push ring.cards card))
+          | inr ne ↦ rw (mark_there heap.marks card Held within q ne) (λ c. elim (Contains-push_cases ring.cards card q c) [ inl c' ↦ (parts.held q).0 c' | inr is ↦ absurd (ne (sym is)) ], λ held. Contains-append_left ring.cards (card ∷ []) q ((parts.held q).1 held))
+        ]) in
+        let cover : IsCovered (table_from (with_mark heap card Held) pairs) = subst IsCovered (sym (ap (λ (s : State). s.table) held_state)) parts.cover in
+        record { cells = cells; counts = counts ∙ parts.counts; some = omega (arith, capacity, parts.some); distinct = rw cards (push_distinct ring.cards card parts.distinct fresh); held = held; known = parts.known ∙ ap set.len (sym same_pending); cover = cover; outside = parts.outside }
 
   -- a dirty card does not stand in the ring
   pub apart_stands : (card : ℕ) → mark_of card ≡ Dirty → (q : ℕ) → Contains ring.cards q ↔ (Contains ring.cards q × (q ≢ card))
@@ -136,7 +116,7 @@ module _ (heap : Cells) (pairs : PairSet) (ring : Ring) (pending : ℕ) (parts :
     left_is = ap (λ (xs : List ℕ). drop 1 xs) cards
 
     pub left_distinct : IsDistinct nat_eq (popped ring).cards
-    left_distinct = subst (IsDistinct nat_eq) (sym left_is) (rest_distinct oldest rest whole)
+    left_distinct = rw left_is (rest_distinct oldest rest whole)
 
     others : (q : ℕ) → Contains rest q ↔ (Contains (oldest ∷ rest) q × (q ≢ oldest))
     others q = (
@@ -145,7 +125,7 @@ module _ (heap : Cells) (pairs : PairSet) (ring : Ring) (pending : ℕ) (parts :
     )
 
     pub left_stands : (q : ℕ) → Contains (popped ring).cards q ↔ (Contains ring.cards q × (q ≢ oldest))
-    left_stands q = subst (λ xs. Contains xs q ↔ (Contains ring.cards q × (q ≢ oldest))) (sym left_is) (subst (λ xs. Contains rest q ↔ (Contains xs q × (q ≢ oldest))) (sym cards) (others q))
+    left_stands q = rw (left_is, cards) (others q)
 
     -- a dirty card is another one
     pub differs : (card : ℕ) → mark_of card ≡ Dirty → card ≢ oldest

@@ -10,13 +10,12 @@ pub take_next : (cards : List ℕ) (index card : ℕ) → slice_get cards index 
 take_next cards index card at = take_more cards index card (slice_get_within cards index card at) ∙ ap (λ (c : ℕ). take index cards ++ c ∷ []) (get_or_from_slice_get cards index card card at)
 
 -- the slots of some cards
-pub range_push : (a n : ℕ) → range_with_len a (n + 1) ≡ range_with_len a n ++ (a + n) ∷ []
-range_push a zero = let first : a ≡ a + 0 = omega arith in ap (λ (k : ℕ). k ∷ []) first
-range_push a (suc n) =
-    let next : a + 1 + n ≡ a + suc n = omega arith in
-    let rest : range_with_len (a + 1) (n + 1) ≡ range_with_len (a + 1) n ++ (a + 1 + n) ∷ [] = range_push (a + 1) n in
-    let longer : suc n + 1 ≡ suc (n + 1) = omega arith in
-    ap (λ (m : ℕ). range_with_len a m) longer ∙ ap (λ (ks : List ℕ). a ∷ ks) (rest ∙ ap (λ (k : ℕ). range_with_len (a + 1) n ++ k ∷ []) next)
+pub range_split : (a m n : ℕ) → range_with_len a (m + n) ≡ range_with_len a m ++ range_with_len (a + m) n
+range_split a zero n = let here : a ≡ a + 0 = omega arith in let none : 0 + n ≡ n = omega arith in λ i. range_with_len (here i) (none i)
+range_split a (suc m) n =
+    let sum : suc m + n ≡ suc (m + n) = omega arith in
+    let next : a + 1 + m ≡ a + suc m = omega arith in
+    ap (λ (k : ℕ). range_with_len a k) sum ∙ ap (λ (ks : List ℕ). a ∷ ks) (range_split (a + 1) m n ∙ ap (λ (k : ℕ). range_with_len (a + 1) m ++ range_with_len k n) next)
 
 pub from_range : (a n s : ℕ) → Contains (range_with_len a n) s → (a ≤ s) × (s < a + n)
 from_range a n s (k, lt, e) =
@@ -50,7 +49,7 @@ module _ (l : Shape) (shape : IsShape l) where
   range_distinct ys a (suc n) distinct fresh =
       let more : suc n ≡ n + 1 = omega arith in
       let listed : ys ++ range_with_len a (suc n) ≡ (ys ++ range_with_len a n) ++ (a + n) ∷ [] =
-      ap (λ (k : ℕ). ys ++ range_with_len a k) more ∙ ap (λ (zs : List ℕ). ys ++ zs) (range_push a n) ∙ sym (append_assoc ys (range_with_len a n) ((a + n) ∷ [])) in
+      ap (λ (k : ℕ). ys ++ range_with_len a k) more ∙ ap (λ (zs : List ℕ). ys ++ zs) (range_split a n 1) ∙ sym (append_assoc ys (range_with_len a n) ((a + n) ∷ [])) in
       subst (λ (zs : List ℕ). IsDistinct nat_eq zs) (sym listed)
       (push_distinct (ys ++ range_with_len a n) (a + n) (range_distinct ys a n distinct (λ s low high c. fresh s low (omega arith) c)) (λ c. elim (Contains-append_cases ys (range_with_len a n) (a + n) c) [
         | inl old ↦ fresh (a + n) (omega arith) (omega arith) old
@@ -85,7 +84,7 @@ module _ (l : Shape) (refs : List (Option ℕ)) (from to : ℕ) where
       → xs ≡ before ++ changes_of l refs from to (range_with_len (card * l.slots) offset) → xs' ≡ xs ++ cons_option o [] → xs' ≡ before ++ changes_of l refs from to (range_with_len (card * l.slots) (offset + 1))
   changes_next card offset slot o before xs xs' at is listed more =
       let earlier : List ℕ = range_with_len (card * l.slots) offset in
-      let range : range_with_len (card * l.slots) (offset + 1) ≡ range_with_len (card * l.slots) offset ++ slot ∷ [] = range_push (card * l.slots) offset ∙ ap (λ (k : ℕ). range_with_len (card * l.slots) offset ++ k ∷ []) (sym at) in
+      let range : range_with_len (card * l.slots) (offset + 1) ≡ range_with_len (card * l.slots) offset ++ slot ∷ [] = range_split (card * l.slots) offset 1 ∙ ap (λ (k : ℕ). range_with_len (card * l.slots) offset ++ k ∷ []) (sym at) in
       more ∙ ap (λ (ys : List Change). ys ++ cons_option o []) listed
       ∙ append_assoc before (changes_of l refs from to earlier) (cons_option o [])
       ∙ ap (λ (ys : List Change). before ++ ys) (ap (λ (ys : List Change). changes_of l refs from to earlier ++ ys) (sym (one_change slot o is)) ∙ sym (changes_both earlier (slot ∷ [])) ∙ ap (λ (ks : List ℕ). changes_of l refs from to ks) (sym range))
