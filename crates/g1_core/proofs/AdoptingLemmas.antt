@@ -1,10 +1,10 @@
 -- References, marks and pairs that are taken over one by one.
-use Rattle.std.specs.Prelude.{◌≡◌, ◌+◌, ◌<◌, ◌∷◌, ◌++◌}
+use Rattle.std.specs.Prelude.{◌≡◌, ◌+◌, ◌<◌, ◌∷◌, ◌++◌, ◌||◌}
 use Rattle.g1_core.specs.{inl, inr, ℕ, zero, suc, Bool, true, false, List, [], length, take, drop, get_or, Contains, refl, sym, ap, ◌∙◌, subst, arith, replicate, or_cases, or_left, or_right, false_from_ne_true, get_or-map, length-map, length-replicate, take_more, Contains-append_left, Contains-append_right, Contains-append_cases, pair_cmp, PairSet, Mark, Clean, Dirty, of_card, pending_of, mark_for, marks_for}
 use Rattle.std.proofs.Common.{set as list_set}
 use Rattle.std.proofs.lemmas.List.{set-get_or}
 use Rattle.std.specs.FinSet as set
-use Rattle.g1_core.proofs.SetLemmas.{pair_total, same_pairs, in_pairs, to_pairs}
+use Rattle.g1_core.proofs.SetLemmas.{pair_total, same_pairs, in_pairs, to_pairs, pair_exact}
 use Rattle.g1_core.proofs.MarkLemmas.{dirty_clean, from_pending, pending_marked, one_more}
 use Rattle.g1_core.proofs.OpeningLemmas.{all_clean}
 
@@ -31,31 +31,16 @@ module _ {X : Type 0} where
   pub keep_next : (xs ys : List X) (i : ℕ) (d : X) → i < length xs → i < length ys → get_or xs i d ≡ get_or ys i d → take i xs ++ drop i ys ≡ take (i + 1) xs ++ drop (i + 1) ys
   keep_next xs ys i d lt lt' e = sym (set-get_or (take i xs ++ drop i ys) i d) ∙ ap (list_set (take i xs ++ drop i ys) i) ((at_place xs ys i d lt lt').0 ∙ sym e) ∙ put_next xs ys i d lt lt'
 
+last : (a b : Bool) → (a || (b || false)) ≡ (b || a)
+last a b = grind arith
+
 -- one more pair is recorded
 module _ (pairs : List (ℕ × ℕ)) (i : ℕ) (p : ℕ × ℕ) (lt : i < length pairs) (is : p ≡ get_or pairs i p) where
-  abbrev one : PairSet
-  one = of_card p.0 (p.1 ∷ [])
-
-  abbrev before : PairSet
-  before = set.from_list (take i pairs)
-
   whole : take (i + 1) pairs ≡ take i pairs ++ p ∷ []
   whole = take_more pairs i p lt ∙ ap (λ (q : ℕ × ℕ). take i pairs ++ q ∷ []) (sym is)
 
-  on : (x : ℕ × ℕ) → set.contains (set.union before one) x ≡ true → set.contains (set.from_list {R = pair_cmp} (take (i + 1) pairs)) x ≡ true
-  on x h = to_pairs (take (i + 1) pairs) x (subst (λ (l : List (ℕ × ℕ)). Contains l x) (sym whole) (elim (or_cases _ _ (sym (set.contains-union pair_total before one x) ∙ h)) [
-    | inl a ↦ Contains-append_left (take i pairs) (p ∷ []) x (in_pairs (take i pairs) x a)
-    | inr b ↦ Contains-append_right (take i pairs) (p ∷ []) x (in_pairs (p ∷ []) x b)
-  ]))
-
-  back : (x : ℕ × ℕ) → set.contains (set.from_list {R = pair_cmp} (take (i + 1) pairs)) x ≡ true → set.contains (set.union before one) x ≡ true
-  back x h = set.contains-union pair_total before one x ∙ elim (Contains-append_cases (take i pairs) (p ∷ []) x (subst (λ (l : List (ℕ × ℕ)). Contains l x) whole (in_pairs (take (i + 1) pairs) x h))) [
-    | inl a ↦ or_left _ _ (to_pairs (take i pairs) x a)
-    | inr b ↦ or_right _ _ (to_pairs (p ∷ []) x b)
-  ]
-
   pub record_next : set.union (set.from_list {R = pair_cmp} (take i pairs)) (of_card p.0 (p.1 ∷ [])) ≡ set.from_list (take (i + 1) pairs)
-  record_next = same_pairs _ _ on back
+  record_next = set.same_set pair_total pair_exact _ _ (λ x. simp (set.contains-union pair_total, set.contains-insert pair_total, set.contains-empty) (search last)) ∙ sym (ap (λ (ps : List (ℕ × ℕ)). set.from_list {R = pair_cmp} ps) whole ∙ set.from_list_push pair_total pair_exact (take i pairs) p)
 
 -- one more card is marked, or is not
 module _ (marked : List Bool) (n i : ℕ) (lt : i < length marked) (count : length marked ≡ n) where

@@ -66,8 +66,7 @@ dirty_inside heap sets ring pending core card h =
 module _ (heap : Cells) (sets : Pairs) (ring : Ring) (pending : ℕ) (settings : Settings) (core : IsCore heap sets ring pending) (heap' : Cells) (sets' : Pairs) (pending' : ℕ)
     (eh : heap' ≡ with_reads heap heap.layout.slots) (es : sets' ≡ sets) (ep : pending' ≡ pending) where
   pub read_core : IsCore heap' sets' ring pending'
-  read_core = subst (λ h. IsCore h sets' ring pending') (sym eh) (subst (λ s. IsCore (with_reads heap heap.layout.slots) s ring pending') (sym es) (subst (λ n. IsCore (with_reads heap heap.layout.slots) sets ring n) (sym ep)
-      (record { layouts = core.layouts; parts = read_parts heap sets.pairs ring pending core.parts heap.layout.slots })))
+  read_core = rw (eh, es, ep) (record { layouts = core.layouts; parts = read_parts heap sets.pairs ring pending core.parts heap.layout.slots })
 
   pub card_read : IsCardRead (machine_from heap sets.pairs ring settings) (machine_from heap' sets'.pairs ring settings)
   card_read = record { state = (λ i. state_from (eh i) (es i).pairs ring); settings = refl; reads = ap (λ (h : Cells). h.reads) eh }

@@ -5,8 +5,8 @@ use Rattle.std.specs.FinSet as set
 use Rattle.g1_layout.specs.declared.region_set.RegionSet.{RegionSet}
 use Rattle.g1_layout.specs.Regions.{HasRegion}
 use Rattle.g1_core.specs.Table.{Table}
-use Rattle.g1_core.proofs.SetLemmas.{same_pairs, in_pairs, to_pairs, of_card_from, of_card_to, pair_total, in_list, in_set}
-use Rattle.g1_core.proofs.TableLemmas.{refined_recorded, held_from_Holds, Holds_from_held}
+use Rattle.g1_core.proofs.SetLemmas.{same_pairs, in_pairs, to_pairs, of_card_from, of_card_to, pair_total, in_list, in_set, pair_exact}
+use Rattle.g1_core.proofs.TableLemmas.{refined_recorded, held_from_Holds, Holds_from_held, or_none}
 use Rattle.g1_core.proofs.MarkLemmas.{one_of, itself}
 
 -- what recording a card's targets adds, but for those that are recorded, is what refining it adds
@@ -35,11 +35,5 @@ module _ (heap : Cells) (pairs : PairSet) (card : ℕ) (known : RegionSet) (row 
 
   -- where there is none it adds nothing
   pub gained_nothing : (targets : List ℕ) → length targets ≡ 0 → ((r : ℕ) → Contains targets r ↔ (HoldsIn heap.layout heap.refs card r × ¬ HasRegion known r)) → pairs ≡ gained heap pairs card
-  gained_nothing targets none h =
-      let same : pairs ≡ set.union pairs (of_card card targets) = same_pairs _ _
-      (λ p c. set.contains-union pair_total pairs (of_card card targets) p ∙ or_left _ _ c)
-      (λ p c. elim (or_cases _ _ (sym (set.contains-union pair_total pairs (of_card card targets) p) ∙ c)) [
-        | inl o ↦ o
-        | inr m ↦ let q = (of_card_from card targets p (in_pairs _ p m)).1 in absurd (omega (arith, none, q.1))
-      ]) in
-      same ∙ gained_is targets h
+  gained_nothing [] none h = set.same_set pair_total pair_exact _ _ (λ p. simp (set.contains-union pair_total, set.contains-empty) (or_none _)) ∙ gained_is [] h
+  gained_nothing (r ∷ rs) none h = absurd (omega (arith, none))

@@ -54,8 +54,7 @@ module _ (l : Shape) (limit capacity : ℕ) (shape : IsShape l) (some : 1 ≤ ca
 module _ (l : Shape) (s : Settings) (limit capacity : ℕ) (heap : Cells) (sets : Pairs) (ring : Ring) (shape : IsShape l) (some : 1 ≤ capacity) (el : limit ≡ s.hot) (ec : capacity ≡ s.ring)
     (eh : heap ≡ new_cells l) (es : sets ≡ new_pairs l) (er : ring ≡ new_ring l limit capacity) where
   pub made_core : IsCore heap sets ring 0
-  made_core = subst (λ h. IsCore h sets ring 0) (sym eh) (subst (λ s. IsCore (new_cells l) s ring 0) (sym es) (subst (λ r. IsCore (new_cells l) (new_pairs l) r 0) (sym er)
-      (record { layouts = refl; parts = new_parts l limit capacity shape some })))
+  made_core = rw (eh, es, er) (record { layouts = refl; parts = new_parts l limit capacity shape some })
 
   pub made_machine : machine_from heap sets.pairs ring s ≡ new_machine l s
   made_machine =

@@ -103,10 +103,7 @@ kind_at heap pairs ring settings m view l slot place from to card target mark b 
       | inr ne ↦ to_pending heap.marks card (λ e. ne (read ∙ e)) ∙ sym (marked ne)
     ] in
     let here : l ≡ m.state.table.layout = same ∙ ap (λ (m : Machine). m.state.table.layout) view in
-    let regions : false ≡ eqb (region_of m.state.table.layout slot) (region_of m.state.table.layout place) = across ∙ (λ i. eqb (first i) (second i)) ∙ ap (λ (l : Shape). eqb (region_of l slot) (region_of l place)) here in
-    ap (kind_of m.state.table slot) some
-    ∙ ap (λ a. cond a SameRegion (cond (set.contains m.state.table.pending (card_of m.state.table.layout slot)) AlreadyDirty Logged)) (sym regions)
-    ∙ ap (λ a. cond a AlreadyDirty Logged) (ap (set.contains m.state.table.pending) (sym (on ∙ ap (λ (l : Shape). card_of l slot) here)) ∙ found)
+    rw (some, ← here, ← first, ← second, ← across, ← on, found) refl
 
 -- What a store leaves.
 pub record IsStored (heap' : Cells) (sets : Pairs) (ring : Ring) (pending' : ℕ) (settings : Settings) (m : Machine) (slot : ℕ) (target : Option ℕ) : Type 0 where

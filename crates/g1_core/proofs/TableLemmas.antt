@@ -6,7 +6,7 @@ use Rattle.std.specs.FinSet as set
 use Rattle.g1_core.specs.Table.{Table}
 use Rattle.g1_core.proofs.SetLemmas.{pair_total, pair_exact, listed, unlisted, same_bools, at_its_place, from_places, to_places}
 
-or_none : (a : Bool) → a ≡ (a || false)
+pub or_none : (a : Bool) → a ≡ (a || false)
 or_none a = grind arith
 
 or_swap : (a b : Bool) → (a || b) ≡ (b || a)

@@ -1,7 +1,9 @@
 -- The walk over the slots of some cards that collects the changes of a redirect.
 use Rattle.std.specs.Prelude.{◌≡◌, ◌≢◌, ◌<◌, ◌≤◌, ◌+◌, ◌-◌, ◌*◌, ◌∷◌, ◌++◌, ◌↔◌}
-use Rattle.g1_core.specs.{inl, inr, ℕ, zero, suc, Bool, true, false, eqb, List, [], length, get_or, Option, Some, None, refl, sym, ap, ◌∙◌, subst, arith, take, Contains, nat_eq, not, slice_get, IsDistinct, cons_option, range_with_len, cases_eq, eqb-false, ne_eqb, true≢false, not-true, append-nil, append_assoc, length-append, take_more, get_or-range_with_len, length-range_with_len, flat_map-append, filter_map-append, Contains-append_cases, Contains-append_left, Contains-append_right, Shape, IsShape, card_count, card_of, region_of_card, slot_at, Change, change_at, changes_of, slots_of, slots_on, AreGaining, get_or_from_slice_get, slice_get_within, Cells, Pairs, AreTied, list_at, AreRead, IsInRow, row_of_card, card_of-in_row}
+use Rattle.g1_core.specs.{inl, inr, ℕ, zero, suc, Bool, true, false, eqb, List, [], length, get_or, Option, Some, None, refl, sym, ap, ◌∙◌, subst, arith, take, Contains, nat_eq, not, slice_get, IsDistinct, cons_option, range_with_len, cases_eq, eqb-false, ne_eqb, true≢false, not-true, append-nil, append_assoc, length-append, take_more, get_or-range_with_len, length-range_with_len, flat_map-append, filter_map-append, Contains-append_cases, Contains-append_left, Contains-append_right, Shape, IsShape, card_count, card_of, region_of_card, slot_at, Change, change_at, changes_of, slots_of, slots_on, AreGaining, get_or_from_slice_get, slice_get_within, Cells, Pairs, AreTied, list_at, AreRead, IsInRow, row_of_card, card_of-in_row, Contains-push_cases}
 use Rattle.std.proofs.lemmas.List.Concat.{flat_map-cons}
+use Rattle.std.proofs.lemmas.Map.Made.{IsDistinct-from_AllPairs}
+use Rattle.std.proofs.lemmas.Bool.Decides.{Decides-eqb}
 use Rattle.g1_core.proofs.SetLemmas.{front_apart, rest_distinct}
 use Rattle.g1_core.proofs.MarkLemmas.{one_of, itself}
 use Rattle.g1_core.proofs.RefinedLemmas.{push_distinct}
@@ -44,50 +46,38 @@ module _ (l : Shape) (shape : IsShape l) where
   to_slots (card ∷ cards) slot (zero, lt, e) = subst (λ (ss : List ℕ). Contains ss slot) (sym (flat_map-cons (slots_of l) card cards)) (Contains-append_left (slots_of l card) (slots_on l cards) slot (its_slot card slot (sym e)))
   to_slots (card ∷ cards) slot (suc k, lt, e) = subst (λ (ss : List ℕ). Contains ss slot) (sym (flat_map-cons (slots_of l) card cards)) (Contains-append_right (slots_of l card) (slots_on l cards) slot (to_slots cards slot (k, omega arith, e)))
 
-  range_distinct : (ys : List ℕ) (a n : ℕ) → IsDistinct nat_eq ys → ((s : ℕ) → a ≤ s → s < a + n → Contains ys s → ⊥) → IsDistinct nat_eq (ys ++ range_with_len a n)
-  range_distinct ys a zero distinct fresh = subst (λ (zs : List ℕ). IsDistinct nat_eq zs) (sym (append-nil ys)) distinct
-  range_distinct ys a (suc n) distinct fresh =
-      let more : suc n ≡ n + 1 = omega arith in
-      let listed : ys ++ range_with_len a (suc n) ≡ (ys ++ range_with_len a n) ++ (a + n) ∷ [] =
-      ap (λ (k : ℕ). ys ++ range_with_len a k) more ∙ ap (λ (zs : List ℕ). ys ++ zs) (range_split a n 1) ∙ sym (append_assoc ys (range_with_len a n) ((a + n) ∷ [])) in
-      subst (λ (zs : List ℕ). IsDistinct nat_eq zs) (sym listed)
-      (push_distinct (ys ++ range_with_len a n) (a + n) (range_distinct ys a n distinct (λ s low high c. fresh s low (omega arith) c)) (λ c. elim (Contains-append_cases ys (range_with_len a n) (a + n) c) [
-        | inl old ↦ fresh (a + n) (omega arith) (omega arith) old
-        | inr new ↦ let r = from_range a n (a + n) new in absurd (omega (arith, r.1))
-      ]))
+  distinct_both : (xs ys : List ℕ) → IsDistinct nat_eq xs → IsDistinct nat_eq ys → ((q : ℕ) → Contains xs q → Contains ys q → ⊥) → IsDistinct nat_eq (xs ++ ys)
+  distinct_both xs [] distinct others apart = rw append-nil distinct
+  distinct_both xs (y ∷ ys) distinct others apart = rw (← append_assoc xs (y ∷ []) ys) (distinct_both (xs ++ y ∷ []) ys (push_distinct xs y distinct (λ c. apart y c (0, omega arith, refl))) (rest_distinct y ys others) (λ q c d. elim (Contains-push_cases xs y q c) [
+    | inl old ↦ apart q old (suc d.0, omega (arith, d.1), d.2)
+    | inr is ↦ front_apart y ys others (subst (Contains ys) (sym is) d)
+  ]))
 
-  distinct_from : (ys cards : List ℕ) → IsDistinct nat_eq ys → IsDistinct nat_eq cards → ((slot : ℕ) → Contains ys slot → Contains cards (card_of l slot) → ⊥) → IsDistinct nat_eq (ys ++ slots_on l cards)
-  distinct_from ys [] distinct cards apart = subst (λ (zs : List ℕ). IsDistinct nat_eq zs) (sym (append-nil ys)) distinct
-  distinct_from ys (card ∷ cards) distinct once apart =
-      let listed : ys ++ slots_on l (card ∷ cards) ≡ (ys ++ slots_of l card) ++ slots_on l cards =
-      ap (λ (zs : List ℕ). ys ++ zs) (flat_map-cons (slots_of l) card cards) ∙ sym (append_assoc ys (slots_of l card) (slots_on l cards)) in
-      let here : IsDistinct nat_eq (ys ++ slots_of l card) = range_distinct ys (card * l.slots) l.slots distinct (λ s low high c. apart s c (0, omega arith, sym (card_of-in_row l card s (record { from = low; below = high })))) in
-      subst (λ (zs : List ℕ). IsDistinct nat_eq zs) (sym listed)
-      (distinct_from (ys ++ slots_of l card) cards here (rest_distinct card cards once) (λ slot c later. elim (Contains-append_cases ys (slots_of l card) slot c) [
-        | inl old ↦ apart slot old (suc later.0, omega (arith, later.1), later.2)
-        | inr new ↦ front_apart card cards once (subst (λ (k : ℕ). Contains cards k) (on_card card slot new) later)
-      ]))
+  range_distinct : (a n : ℕ) → IsDistinct nat_eq (range_with_len a n)
+  range_distinct a n = IsDistinct-from_AllPairs Decides-eqb (range_with_len a n) (λ i j d less below. λ e. absurd (omega (arith, e, less, below, length-range_with_len a n, get_or-range_with_len a n i d, get_or-range_with_len a n j d)))
+
+  from_slots : (cards : List ℕ) (slot : ℕ) → Contains (slots_on l cards) slot → Contains cards (card_of l slot)
+  from_slots [] slot c = absurd (omega (arith, c.1))
+  from_slots (card ∷ cards) slot c = elim (Contains-append_cases (slots_of l card) (slots_on l cards) slot (rw (flat_map-cons (slots_of l) card cards) at c)) [
+    | inl here ↦ (0, omega arith, sym (on_card card slot here))
+    | inr rest ↦ let r = from_slots cards slot rest in (suc r.0, omega (arith, r.1), r.2)
+  ]
 
   pub distinct_slots : (cards : List ℕ) → IsDistinct nat_eq cards → IsDistinct nat_eq (slots_on l cards)
   unfolding IsDistinct
-  distinct_slots cards once = distinct_from [] cards tt once (λ slot c later. absurd (omega (arith, c.1)))
+  distinct_slots [] once = tt
+  distinct_slots (card ∷ cards) once = rw (flat_map-cons (slots_of l) card cards) (distinct_both (slots_of l card) (slots_on l cards) (range_distinct (card * l.slots) l.slots) (distinct_slots cards (rest_distinct card cards once)) (λ slot here there. front_apart card cards once (subst (Contains cards) (on_card card slot here) (from_slots cards slot there))))
 
 -- the next slot of a walk, and the next card
 module _ (l : Shape) (refs : List (Option ℕ)) (from to : ℕ) where
   pub changes_both : (xs ys : List ℕ) → changes_of l refs from to (xs ++ ys) ≡ changes_of l refs from to xs ++ changes_of l refs from to ys
   changes_both xs ys = filter_map-append (λ slot. change_at l from to slot (get_or refs slot None)) xs ys
 
-  one_change : (slot : ℕ) (o : Option Change) → o ≡ change_at l from to slot (get_or refs slot None) → changes_of l refs from to (slot ∷ []) ≡ cons_option o []
-  one_change slot o is = ap (λ (o : Option Change). cons_option o []) (sym is)
-
   pub changes_next : (card offset slot : ℕ) (o : Option Change) (before xs xs' : List Change) → slot ≡ slot_at l card offset → o ≡ change_at l from to slot (get_or refs slot None)
       → xs ≡ before ++ changes_of l refs from to (range_with_len (card * l.slots) offset) → xs' ≡ xs ++ cons_option o [] → xs' ≡ before ++ changes_of l refs from to (range_with_len (card * l.slots) (offset + 1))
   changes_next card offset slot o before xs xs' at is listed more =
-      let earlier : List ℕ = range_with_len (card * l.slots) offset in
       let range : range_with_len (card * l.slots) (offset + 1) ≡ range_with_len (card * l.slots) offset ++ slot ∷ [] = range_split (card * l.slots) offset 1 ∙ ap (λ (k : ℕ). range_with_len (card * l.slots) offset ++ k ∷ []) (sym at) in
-      more ∙ ap (λ (ys : List Change). ys ++ cons_option o []) listed
-      ∙ append_assoc before (changes_of l refs from to earlier) (cons_option o [])
-      ∙ ap (λ (ys : List Change). before ++ ys) (ap (λ (ys : List Change). changes_of l refs from to earlier ++ ys) (sym (one_change slot o is)) ∙ sym (changes_both earlier (slot ∷ [])) ∙ ap (λ (ks : List ℕ). changes_of l refs from to ks) (sym range))
+      rw (more, listed, range, changes_both (range_with_len (card * l.slots) offset) (slot ∷ []), is, append_assoc) refl
 
   -- one card more, and those that gain of it
   pub gaining_more : (cards gaining more : List ℕ) (card : ℕ) → AreGaining l refs from to cards gaining → ((q : ℕ) → Contains more q ↔ ((q ≡ card) × (1 ≤ length (changes_of l refs from to (slots_of l q))) × (region_of_card l q ≢ to)))
@@ -108,12 +98,8 @@ pub references_next : (heap now : Cells) (most from to : ℕ) (cards : List ℕ)
     → xs ≡ changes_of heap.layout heap.refs from to (slots_on heap.layout (take index cards)) → xs' ≡ xs ++ changes_of now.layout now.refs from to (slots_of now.layout card)
     → xs' ≡ changes_of heap.layout heap.refs from to (slots_on heap.layout (take (index + 1) cards))
 references_next heap now most from to cards index card xs xs' shape read at before more =
-    let next : take (index + 1) cards ≡ take index cards ++ card ∷ [] = take_next cards index card at in
     more ∙ ap (λ (h : Cells). xs ++ changes_of h.layout h.refs from to (slots_of h.layout card)) read.cells
-    ∙ ap (λ (ys : List Change). ys ++ changes_of heap.layout heap.refs from to (slots_of heap.layout card)) before
-    ∙ sym (changes_both heap.layout heap.refs from to (slots_on heap.layout (take index cards)) (slots_of heap.layout card))
-    ∙ ap (λ (ks : List ℕ). changes_of heap.layout heap.refs from to ks) (sym (slots_push heap.layout shape (take index cards) card))
-    ∙ ap (λ (cs : List ℕ). changes_of heap.layout heap.refs from to (slots_on heap.layout cs)) (sym next)
+    ∙ rw (take_next cards index card at, slots_push heap.layout shape (take index cards) card, changes_both heap.layout heap.refs from to (slots_on heap.layout (take index cards)) (slots_of heap.layout card), ← before) refl
 
 -- how many changes a card has
 pub card_changes : (heap now : Cells) (most from to card before after : ℕ) (xs xs' : List Change) → AreRead heap now most → before ≡ length xs → after ≡ length xs' → xs' ≡ xs ++ changes_of now.layout now.refs from to (slots_of now.layout card)
