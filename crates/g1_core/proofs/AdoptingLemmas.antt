@@ -1,10 +1,10 @@
 -- References, marks and pairs that are taken over one by one.
 use Rattle.std.specs.Prelude.{◌≡◌, ◌+◌, ◌<◌, ◌∷◌, ◌++◌, ◌||◌}
-use Rattle.g1_core.specs.{inl, inr, ℕ, zero, suc, Bool, true, false, List, [], length, take, drop, get_or, Contains, refl, sym, ap, ◌∙◌, subst, arith, replicate, or_cases, or_left, or_right, false_from_ne_true, get_or-map, length-map, length-replicate, take_more, Contains-append_left, Contains-append_right, Contains-append_cases, pair_cmp, PairSet, Mark, Clean, Dirty, of_card, pending_of, mark_for, marks_for}
+use Rattle.g1_core.specs.{ℕ, zero, suc, Bool, true, false, List, [], length, take, drop, get_or, refl, sym, ap, ◌∙◌, arith, replicate, false_from_ne_true, get_or-map, length-map, length-replicate, take_more, pair_cmp, Mark, Clean, Dirty, of_card, pending_of, mark_for, marks_for}
 use Rattle.std.proofs.Common.{set as list_set}
 use Rattle.std.proofs.lemmas.List.{set-get_or}
 use Rattle.std.specs.FinSet as set
-use Rattle.g1_core.proofs.SetLemmas.{pair_total, same_pairs, in_pairs, to_pairs, pair_exact}
+use Rattle.g1_core.proofs.SetLemmas.{pair_total, pair_exact}
 use Rattle.g1_core.proofs.MarkLemmas.{dirty_clean, from_pending, pending_marked, one_more}
 use Rattle.g1_core.proofs.OpeningLemmas.{all_clean}
 

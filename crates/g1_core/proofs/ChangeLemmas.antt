@@ -1,6 +1,6 @@
 -- The changes of a redirect: what one is, and what it makes of a table.
 use Rattle.std.specs.Prelude.{◌≡◌, ◌≢◌, ◌⊎◌, ◌<◌, ◌+◌, ◌*◌, ◌∷◌}
-use Rattle.g1_core.specs.{inl, inr, ℕ, zero, suc, Bool, true, false, cond, List, [], length, get_or, Option, Some, None, refl, sym, ap, ◌∙◌, subst, arith, map, Contains, All, nat_eq, count_by, IfSome, IsDistinct, cons_option, enumerate_from, cases_lt, eqb-true, and_parts, true≢false, false_from_ne_true, get_or-set_same, get_or-set_other, get_or_past, All-set, Shape, slot_count, same_offset, same_offset_region, Change, IsCore, enters, moved_target, change_at, changes_of, changed, Cells, Ring, Pairs, AreRead, get_or-map, length-map}
+use Rattle.g1_core.specs.{inl, inr, ℕ, suc, Bool, true, false, cond, List, [], length, get_or, Option, Some, None, refl, sym, ap, ◌∙◌, subst, arith, map, Contains, All, nat_eq, count_by, IfSome, IsDistinct, cons_option, enumerate_from, cases_lt, eqb-true, and_parts, true≢false, false_from_ne_true, get_or-set_same, get_or-set_other, get_or_past, All-set, Shape, slot_count, same_offset, same_offset_region, Change, IsCore, enters, moved_target, change_at, changes_of, changed, Cells, Ring, Pairs, AreRead, get_or-map, length-map}
 use Rattle.std.proofs.Common.{set as list_set}
 use Rattle.std.proofs.lemmas.Map.Made.{Contains-tail}
 use Rattle.g1_core.proofs.SetLemmas.{front_apart, rest_distinct}

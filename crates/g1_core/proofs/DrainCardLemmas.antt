@@ -7,7 +7,7 @@ use Rattle.g1_core.specs.Table.{Table}
 use Rattle.g1_core.specs.Machine.{Machine}
 use Rattle.g1_core.proofs.SetLemmas.{some_member}
 use Rattle.g1_core.proofs.MarkLemmas.{held_clean, dirty_clean, is_card, to_pending, one_less}
-use Rattle.g1_core.proofs.PartLemmas.{cleaned_state, cleaned_parts, read_parts, IsFront, front_of, oldest_mark, left_distinct, left_stands, apart_stands, mark_dirty, is_dirty_mark, not_dirty}
+use Rattle.g1_core.proofs.PartLemmas.{IsMade, cleaned, read_parts, IsFront, front_of, oldest_mark, left_distinct, left_stands, apart_stands, mark_dirty, is_dirty_mark, not_dirty}
 
 -- a core after one of its cards was refined: what its parts keep, and what its machine is
 pub record IsDrainedTo (heap : Cells) (sets : Pairs) (ring : Ring) (settings : Settings) (card : ℕ) (heap' : Cells) (sets' : Pairs) (ring' : Ring) (pending' : ℕ) : Type 0 where
@@ -19,16 +19,11 @@ module _ (heap : Cells) (sets : Pairs) (ring : Ring) (pending : ℕ) (settings :
   drained_to : (ring' : Ring) → get_or heap.marks card Clean ≢ Clean → length ring'.counts ≡ length ring.counts → ring'.capacity ≡ ring.capacity → IsDistinct nat_eq ring'.cards
       → ((q : ℕ) → Contains ring'.cards q ↔ (Contains ring.cards q × (q ≢ card))) → IsDrainedTo heap sets ring settings card heap' sets' ring' pending'
   drained_to ring' marked counts capacity distinct stands =
-      let state : state_from (with_mark (with_reads heap heap.layout.slots) card Clean) (gained heap sets.pairs card) ring' ≡ record { table = refined (card ∷ []) (table_from heap sets.pairs); ring = ring' } =
-      cleaned_state heap sets.pairs ring pending core.parts ring' pending' card heap.layout.slots marked less counts capacity distinct stands in
+      let made : IsMade (with_mark (with_reads heap heap.layout.slots) card Clean) (gained heap sets.pairs card) ring' pending' (refined (card ∷ []) (table_from heap sets.pairs)) = cleaned heap sets.pairs ring pending core.parts ring' pending' card heap.layout.slots marked less counts capacity distinct stands in
       let was : IsPending (table_from heap sets.pairs) card = to_pending heap.marks card marked in
-      let table : table_from heap' sets'.pairs ≡ refined (card ∷ []) (table_from heap sets.pairs) = (λ i. table_from (eh i) (ep i)) ∙ ap (λ (s : State). s.table) state in
+      let table : table_from heap' sets'.pairs ≡ refined (card ∷ []) (table_from heap sets.pairs) = (λ i. table_from (eh i) (ep i)) ∙ made.table in
       record {
-        core = record {
-          layouts = el ∙ core.layouts ∙ ap (λ (h : Cells). h.layout) (sym eh);
-          parts = subst (λ h. AreParts h sets'.pairs ring' pending') (sym eh) (subst (λ ps. AreParts (with_mark (with_reads heap heap.layout.slots) card Clean) ps ring' pending') (sym ep)
-              (cleaned_parts heap sets.pairs ring pending core.parts ring' pending' card heap.layout.slots marked less counts capacity distinct stands));
-        };
+        core = record { layouts = el ∙ core.layouts ∙ ap (λ (h : Cells). h.layout) (sym eh); parts = rw (eh, ep) made.parts };
         drained = record {
           pending = was;
           table = table;
@@ -45,8 +40,7 @@ module _ (heap : Cells) (sets : Pairs) (ring : Ring) (pending : ℕ) (settings :
   pub oldest_drained : (ring' : Ring) → ring' ≡ popped ring → Some card ≡ slice_get ring.cards 0 → IsDrainedTo heap sets ring settings card heap' sets' ring' pending'
   oldest_drained ring' er first =
       let front : IsFront ring.cards card = front_of ring.cards card first in
-      subst (λ r. IsDrainedTo heap sets ring settings card heap' sets' r pending') (sym er)
-      (drained_to (popped ring) (held_clean _ (oldest_mark heap sets.pairs ring pending core.parts card front.rest front.cards)) refl refl
+      rw er (drained_to (popped ring) (held_clean _ (oldest_mark heap sets.pairs ring pending core.parts card front.rest front.cards)) refl refl
       (left_distinct heap sets.pairs ring pending core.parts card front.rest front.cards) (left_stands heap sets.pairs ring pending core.parts card front.rest front.cards))
 
 pub oldest_some : (heap : Cells) (sets : Pairs) (ring : Ring) (pending : ℕ) → IsCore heap sets ring pending → (card : ℕ) → Some card ≡ slice_get ring.cards 0 → 1 ≤ pending

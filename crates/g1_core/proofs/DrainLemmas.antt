@@ -1,6 +1,6 @@
 -- A drain, whole and short, is a step of the plain table.
 use Rattle.std.specs.Prelude.{◌≡◌, ◌<◌, ◌+◌, ◌++◌, ◌&&◌}
-use Rattle.g1_core.specs.{inl, inr, ℕ, false, List, [], length, refl, sym, ap, ◌∙◌, subst, arith, Contains, not, nat_cmp, true≢false, append-nil, length-append, set_of, Ring, reset, IsStep, drain_entry, AreMembers, refined, is_dirty, AreDirtyBelow, Drains, IsDirtyDrained, IsDirtyStopped, IsRingDrained, IsDrainOrder, IsDrainOf, IsShortDrain, IsWholeDrain, IsAllDrained, reset_machine, ring_with}
+use Rattle.g1_core.specs.{inl, ℕ, false, List, [], length, refl, sym, ap, ◌∙◌, subst, arith, Contains, not, nat_cmp, true≢false, append-nil, length-append, set_of, Ring, reset, IsStep, drain_entry, AreMembers, refined, is_dirty, AreDirtyBelow, Drains, IsDirtyDrained, IsDirtyStopped, IsRingDrained, IsDrainOrder, IsDrainOf, IsShortDrain, IsWholeDrain, IsAllDrained, reset_machine, ring_with}
 use Rattle.std.specs.FinSet as set
 use Rattle.g1_core.specs.declared.reply.Drained.TheVariants as answers
 use Rattle.g1_core.specs.Table.{Table}

@@ -1,6 +1,6 @@
 -- The slots of a card that enter a region, as a heap answers one after another.
 use Rattle.std.specs.Prelude.{◌≡◌, ◌≢◌, ◌<◌, ◌≤◌, ◌+◌, ◌-◌, ◌*◌, ◌^◌, ◌∷◌, ◌++◌}
-use Rattle.g1_core.specs.{inl, inr, ℕ, zero, suc, true, cond, List, [], get_or, Option, Some, None, refl, sym, ap, ◌∙◌, subst, arith, not, IfSome, range_with_len, eqb-true, eqb-false, eq-eqb, ne_eqb, and_parts, and_from, not-true, append-nil, Shape, IsShape, slot_count, card_of, region_of, region_of_card, slot_at, same_offset, PairSet, card_of-row, region_of-row, Cells, AreCells, with_reads, Change, table_from, enters, IsLeastOn, AreRead, change_at, changes_of, slots_of, length, Contains, cons_option, card_of-in_row, region_of_slot}
+use Rattle.g1_core.specs.{inl, inr, ℕ, suc, true, cond, List, [], get_or, Option, Some, None, refl, sym, ap, ◌∙◌, subst, arith, not, IfSome, range_with_len, eqb-true, eqb-false, eq-eqb, ne_eqb, and_parts, and_from, not-true, append-nil, Shape, IsShape, slot_count, card_of, region_of, region_of_card, slot_at, same_offset, PairSet, card_of-row, region_of-row, Cells, AreCells, with_reads, Change, table_from, enters, IsLeastOn, AreRead, change_at, changes_of, slots_of, length, Contains, cons_option, card_of-in_row, region_of_slot}
 use Rattle.g1_heap.specs.Listing.{RefersInto}
 use Rattle.g1_heap.specs.Entering.{HasNoneInto, IsNextInto}
 use Rattle.g1_core.proofs.ChangeLemmas.{change_cases}

@@ -1,5 +1,5 @@
 -- How long the lists of a reply can be.
-use Rattle.std.specs.Prelude.{◌≡◌, if◌then◌else◌, ◌≤◌, ◌+◌, ◌*◌, ◌∷◌}
+use Rattle.std.specs.Prelude.{◌≡◌, ◌≤◌, ◌+◌, ◌*◌, ◌∷◌, if◌then◌else◌}
 use Rattle.g1_core.specs.{Bool, true, false, ℕ, List, [], length, take, Option, Some, None, refl, ap, arith, length-append, reads_after, Offer, Kept, RefineReply, AreRefinable, refined, State, Round, refined_by, hot_by, skipped_by, offer_to, turn, turns, start, IsTurned, IsIdle, AreCardsRead, DoesRefine, nat_cmp_total, exact_unsigned, All-contains, IsPending}
 use Rattle.std.proofs.lemmas.List.{length-take}
 use Rattle.std.specs.FinSet as set

@@ -1,6 +1,6 @@
 -- A list that is mapped and counted by place, once one place is written.
 use Rattle.std.specs.Prelude.{◌≡◌, ◌<◌, ◌≤◌, ◌+◌, ◌∷◌}
-use Rattle.g1_core.specs.{ℕ, zero, suc, Bool, true, false, cond, List, [], length, get_or, refl, sym, ap, ◌∙◌, subst, arith, map, count_by, sum_by, enumerate_from, get_or-map, length-map, length-enumerate_from, All}
+use Rattle.g1_core.specs.{ℕ, zero, suc, Bool, true, false, cond, List, [], length, get_or, refl, sym, ap, ◌∙◌, arith, map, count_by, sum_by, enumerate_from, get_or-map, length-map, length-enumerate_from, All}
 use Rattle.std.proofs.Common.{set as list_set}
 use Rattle.std.proofs.lemmas.List.{ext_get_or, map-set, set-get_or}
 use Rattle.std.proofs.lemmas.List.Sums.{sum_by-le, sum_by-set}

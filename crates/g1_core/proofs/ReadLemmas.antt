@@ -1,6 +1,6 @@
 -- How many slots turns read.
 use Rattle.std.specs.Prelude.{◌≡◌, ◌<◌, ◌≤◌, ◌+◌, ◌*◌, ◌^◌}
-use Rattle.g1_core.specs.{ℕ, sym, ap, ◌∙◌, arith, reads_after}
+use Rattle.g1_core.specs.{ℕ, arith, reads_after}
 
 -- the count does not fall
 pub reads_grow : (old more new : ℕ) → old < 2 ^ 64 → new ≡ reads_after old more → old ≤ new

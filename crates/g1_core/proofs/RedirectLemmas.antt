@@ -1,6 +1,6 @@
 -- The redirect, whole and short, is a step of the plain table.
-use Rattle.std.specs.Prelude.{◌≡◌, ◌≢◌, ◌<◌, ◌≤◌, ◌+◌, ◌*◌, ◌++◌}
-use Rattle.g1_core.specs.{inl, ℕ, List, length, refl, sym, ap, ◌∙◌, subst, arith, All, count_by, enumerate_from, mul-le-mul, length-enumerate_from, count_by-le-length, slot_count, slot_count_limit, Change, State, IsCore, pending_of, table_from, state_from, machine_from, AreRefinable, refined, enters, moved, moved_count, changes_of, slots_on, changed, AreGaining, IsMoved, AreMembersRead, IsWholeRedirect, IsShortRedirect, Cells, reads_after, PairSet, Ring, reset, Pairs, AreTied, list_at, of_region, without, AreRead, member_count, redirect_entry, IsStep, IsAllDrained, IsShortDrain, reset_machine, ring_with, IsDrainOrder}
+use Rattle.std.specs.Prelude.{◌≡◌, ◌≢◌, ◌<◌, ◌≤◌, ◌+◌, ◌*◌}
+use Rattle.g1_core.specs.{ℕ, List, length, refl, sym, ap, ◌∙◌, subst, arith, All, enumerate_from, mul-le-mul, length-enumerate_from, count_by-le-length, slot_count, slot_count_limit, Change, State, IsCore, pending_of, table_from, state_from, machine_from, refined, enters, moved, moved_count, changes_of, slots_on, changed, AreGaining, IsMoved, AreMembersRead, IsWholeRedirect, IsShortRedirect, Cells, PairSet, Ring, reset, Pairs, AreTied, list_at, of_region, without, AreRead, member_count, redirect_entry, IsStep, IsAllDrained, IsShortDrain, reset_machine, ring_with, IsDrainOrder}
 use Rattle.std.specs.FinSet as set
 use Rattle.g1_core.specs.Machine.{Machine}
 use Rattle.g1_core.specs.Table.{Table}

@@ -1,6 +1,6 @@
 -- The changes of a region's members are all that a redirect has to move.
-use Rattle.std.specs.Prelude.{◌≡◌, ◌≢◌, ◌<◌, ◌*◌, ◌&&◌}
-use Rattle.g1_core.specs.{inl, inr, ℕ, true, cond, eqb, List, length, get_or, Option, Some, None, refl, sym, ap, ◌∙◌, subst, arith, map, Result, Ok, Err, Contains, All, not, count_by, OnErr, filter_map, enumerate_from, eqb-true, eqb-false, ne_eqb, and_parts, and_from, true≢false, not-true, length-map, length-enumerate_from, Contains-get_or, Shape, IsShape, slot_count, card_of, region_of, region_of_card, same_offset, same_offset_below, Change, IsCore, pending_of, table_from, state_from, Holds, IsCovered, IsRecorded, enters, moved_target, moved_pair, moved, change_at, changes_of, slots_of, slots_on, changed, AreGaining, Cells, PairSet, pair_cmp, Ring, Pairs, AreTied, list_at, of_region, without, AreRead, AreCells, AreOutside}
+use Rattle.std.specs.Prelude.{◌≡◌, ◌≢◌, ◌<◌, ◌*◌}
+use Rattle.g1_core.specs.{inl, inr, ℕ, true, List, length, get_or, Option, Some, None, refl, sym, ap, ◌∙◌, subst, arith, map, Result, Ok, Err, Contains, All, count_by, OnErr, filter_map, enumerate_from, eqb-true, eqb-false, and_parts, true≢false, not-true, length-map, length-enumerate_from, Contains-get_or, Shape, IsShape, slot_count, card_of, region_of, region_of_card, same_offset, same_offset_below, Change, IsCore, pending_of, table_from, state_from, Holds, IsCovered, IsRecorded, enters, moved_target, moved_pair, moved, change_at, changes_of, slots_of, slots_on, changed, AreGaining, Cells, PairSet, pair_cmp, Ring, Pairs, AreTied, list_at, of_region, without, AreRead, AreCells, AreOutside}
 use Rattle.std.specs.FinSet as set
 use Rattle.g1_core.specs.Table.{Table}
 use Rattle.g1_core.proofs.SetLemmas.{same_pairs, in_pairs, to_pairs, from_kept, to_kept, All_by_member, from_places, to_places}

@@ -1,13 +1,13 @@
 -- The turns of cards over the parts of a core.
 use Rattle.std.specs.Prelude.{◌≡◌, ◌≢◌, ◌<◌, ◌≤◌, ◌+◌, ◌∷◌, ◌++◌, ◌↔◌}
-use Rattle.g1_core.specs.{inl, inr, ℕ, List, [], length, get_or, take, Option, Some, None, refl, sym, ap, ◌∙◌, subst, arith, Contains, nat_eq, IsDistinct, length-set, fold_more, card_count, Clean, Dirty, Held, Cells, with_mark, with_reads, Pairs, Offer, Cold, Kept, Out, Ring, answer, offered, cards_after, popped, PairSet, refined, State, IsCore, AreParts, pending_of, table_from, state_from, machine_from, gained, Round, turn_by, turn, turns, start, offer_to, state_after, refined_by, hot_by, skipped_by, nat_cmp_total, exact_unsigned}
+use Rattle.g1_core.specs.{inl, inr, ℕ, List, [], length, get_or, take, Option, Some, None, refl, sym, ap, ◌∙◌, subst, arith, Contains, nat_eq, IsDistinct, length-set, fold_more, Clean, Dirty, Held, Cells, with_mark, with_reads, Pairs, Offer, Cold, Kept, Out, Ring, answer, offered, cards_after, popped, PairSet, refined, State, IsCore, AreParts, pending_of, table_from, state_from, machine_from, gained, Round, turn_by, turn, turns, start, offer_to, state_after, refined_by, hot_by, skipped_by, nat_cmp_total, exact_unsigned}
 use Rattle.g1_core.specs.declared.config.Settings.{Settings}
 use Rattle.g1_core.specs.Machine.{Machine}
 use Rattle.g1_core.proofs.SetLemmas.{some_member}
 use Rattle.g1_core.proofs.MarkLemmas.{held_clean, dirty_clean, to_pending, is_card, mark_there}
 use Rattle.g1_core.proofs.TurnLemmas.{answer_cases}
 use Rattle.g1_core.proofs.RefinedLemmas.{refined_none}
-use Rattle.g1_core.proofs.PartLemmas.{dirty_mark, offer_dirty, offer_none, cleaned_state, cleaned_parts, held_state, held_parts, apart_stands, oldest_mark, left_distinct, left_stands, differs, IsFront}
+use Rattle.g1_core.proofs.PartLemmas.{dirty_mark, offer_dirty, offer_none, IsMade, cleaned, held_last, apart_stands, oldest_mark, left_distinct, left_stands, differs, IsFront}
 
 -- the oldest card, where the ring answers that it leaves
 pub is_out : (r : Ring) (card d : ℕ) → 1 ≤ r.capacity → answer r card ≡ Out d → IsFront r.cards d
@@ -26,33 +26,17 @@ pub record IsTurnedTo (m : Machine) (card : ℕ) (o : Option Offer) (heap' : Cel
   pub offer : o ≡ offer_to m.state card
   pub state : state_from heap' sets'.pairs ring' ≡ state_after m.state card o
 
--- the same, before the parts are put in
-record IsTurnedFrom (heap : Cells) (pairs : PairSet) (ring : Ring) (card : ℕ) (o : Offer) (heap' : Cells) (pairs' : PairSet) (ring' : Ring) (pending' : ℕ) : Type 0 where
-  parts : AreParts heap' pairs' ring' pending'
-  state : state_from heap' pairs' ring' ≡ state_after (state_from heap pairs ring) card (Some o)
-
 module _ (heap : Cells) (pairs : PairSet) (ring : Ring) (pending : ℕ) (parts : AreParts heap pairs ring pending) (card : ℕ) (dirty : get_or heap.marks card Clean ≡ Dirty) where
   as_many : length (offered ring card).counts ≡ length ring.counts
   as_many = length-set ring.counts card _
 
-  cold_turn : (more pending' : ℕ) → pending' + 1 ≡ pending → answer ring card ≡ Cold → IsTurnedFrom heap pairs ring card Cold (with_mark (with_reads heap more) card Clean) (gained heap pairs card) (offered ring card) pending'
+  cold_turn : (more pending' : ℕ) → pending' + 1 ≡ pending → answer ring card ≡ Cold → IsMade (with_mark (with_reads heap more) card Clean) (gained heap pairs card) (offered ring card) pending' (refined (card ∷ []) (table_from heap pairs))
   cold_turn more pending' less cold =
       let same : (offered ring card).cards ≡ ring.cards = ap (cards_after ring.cards card) cold in
-      let marked : get_or heap.marks card Clean ≢ Clean = dirty_clean (get_or heap.marks card Clean) dirty in
-      let distinct : IsDistinct nat_eq (offered ring card).cards = subst (IsDistinct nat_eq) (sym same) parts.distinct in
-      let stands : (q : ℕ) → Contains (offered ring card).cards q ↔ (Contains ring.cards q × (q ≢ card)) = λ q. subst (λ xs. Contains xs q ↔ (Contains ring.cards q × (q ≢ card))) (sym same) (apart_stands heap pairs ring pending parts card dirty q) in
-      record {
-        parts = cleaned_parts heap pairs ring pending parts (offered ring card) pending' card more marked less as_many refl distinct stands;
-        state = cleaned_state heap pairs ring pending parts (offered ring card) pending' card more marked less as_many refl distinct stands;
-      }
+      cleaned heap pairs ring pending parts (offered ring card) pending' card more (dirty_clean (get_or heap.marks card Clean) dirty) less as_many refl (rw same parts.distinct) (λ q. rw same (apart_stands heap pairs ring pending parts card dirty q))
 
-  kept_turn : answer ring card ≡ Kept → IsTurnedFrom heap pairs ring card Kept (with_mark heap card Held) pairs (offered ring card) pending
-  kept_turn kept =
-      let cards : (offered ring card).cards ≡ ring.cards ++ card ∷ [] = ap (cards_after ring.cards card) kept in
-      record {
-        parts = held_parts heap pairs ring pending parts (offered ring card) card dirty as_many refl cards;
-        state = held_state heap pairs ring pending parts (offered ring card) card dirty as_many refl cards ∙ (λ i. record { table = sym (refined_none (table_from heap pairs)) i; ring = offered ring card });
-      }
+  kept_turn : answer ring card ≡ Kept → IsMade (with_mark heap card Held) pairs (offered ring card) pending (refined [] (table_from heap pairs))
+  kept_turn kept = subst (IsMade (with_mark heap card Held) pairs (offered ring card) pending) (sym (refined_none (table_from heap pairs))) (held_last heap pairs ring pending parts (offered ring card) card dirty as_many refl (ap (cards_after ring.cards card) kept))
 
   module _ (more pending' d : ℕ) (less : pending' + 1 ≡ pending) (out : answer ring card ≡ Out d) where
     front : IsFront ring.cards d
@@ -64,25 +48,14 @@ module _ (heap : Cells) (pairs : PairSet) (ring : Ring) (pending : ℕ) (parts :
     abbrev between : Cells
     between = with_mark (with_reads heap more) d Clean
 
-    abbrev between_pairs : PairSet
-    between_pairs = gained heap pairs d
-
-    left_parts : AreParts between between_pairs (popped ring) pending'
-    left_parts = cleaned_parts heap pairs ring pending parts (popped ring) pending' d more d_marked less refl refl (left_distinct heap pairs ring pending parts d front.rest front.cards) (left_stands heap pairs ring pending parts d front.rest front.cards)
-
-    left_state : state_from between between_pairs (popped ring) ≡ record { table = refined (d ∷ []) (table_from heap pairs); ring = popped ring }
-    left_state = cleaned_state heap pairs ring pending parts (popped ring) pending' d more d_marked less refl refl (left_distinct heap pairs ring pending parts d front.rest front.cards) (left_stands heap pairs ring pending parts d front.rest front.cards)
+    left : IsMade between (gained heap pairs d) (popped ring) pending' (refined (d ∷ []) (table_from heap pairs))
+    left = cleaned heap pairs ring pending parts (popped ring) pending' d more d_marked less refl refl (left_distinct heap pairs ring pending parts d front.rest front.cards) (left_stands heap pairs ring pending parts d front.rest front.cards)
 
     still_dirty : get_or between.marks card Clean ≡ Dirty
     still_dirty = mark_there heap.marks d Clean (is_card heap.marks d d_marked) card (differs heap pairs ring pending parts d front.rest front.cards card dirty) ∙ dirty
 
-    out_turn : IsTurnedFrom heap pairs ring card (Out d) (with_mark between card Held) between_pairs (offered ring card) pending'
-    out_turn =
-        let cards : (offered ring card).cards ≡ (popped ring).cards ++ card ∷ [] = ap (cards_after ring.cards card) out in
-        record {
-          parts = held_parts between between_pairs (popped ring) pending' left_parts (offered ring card) card still_dirty as_many refl cards;
-          state = held_state between between_pairs (popped ring) pending' left_parts (offered ring card) card still_dirty as_many refl cards ∙ (λ i. record { table = (left_state i).table; ring = offered ring card });
-        }
+    out_turn : IsMade (with_mark between card Held) (gained heap pairs d) (offered ring card) pending' (refined (d ∷ []) (table_from heap pairs))
+    out_turn = subst (IsMade (with_mark between card Held) (gained heap pairs d) (offered ring card) pending') left.table (held_last between (gained heap pairs d) (popped ring) pending' left.parts (offered ring card) card still_dirty as_many refl (ap (cards_after ring.cards card) out))
 
 module _ (heap : Cells) (sets : Pairs) (ring : Ring) (pending : ℕ) (settings : Settings) (m : Machine) (core : IsCore heap sets ring pending) (view : machine_from heap sets.pairs ring settings ≡ m) (card : ℕ) where
   -- a card that is not dirty has no turn
@@ -103,23 +76,22 @@ module _ (heap : Cells) (sets : Pairs) (ring : Ring) (pending : ℕ) (settings :
     dirty_pending = some_pending card (dirty_clean (get_or heap.marks card Clean) dirty)
 
     module _ (offer : Offer) (answers : offer ≡ answer ring card) (heap' : Cells) (sets' : Pairs) (ring' : Ring) (pending' : ℕ) (ring_is : ring' ≡ offered ring card) where
-      put : (o : Offer) (h : Cells) (p : PairSet) → offer ≡ o → h.layout ≡ heap.layout → heap' ≡ h → sets'.pairs ≡ p → sets'.layout ≡ sets.layout → IsTurnedFrom heap sets.pairs ring card o h p (offered ring card) pending'
+      put : (o : Offer) (h : Cells) (p : PairSet) → offer ≡ o → h.layout ≡ heap.layout → heap' ≡ h → sets'.pairs ≡ p → sets'.layout ≡ sets.layout → IsMade h p (offered ring card) pending' (refined (refined_by card (Some o)) (table_from heap sets.pairs))
           → IsTurnedTo m card (Some offer) heap' sets' ring' pending'
       put o h p is same eh ep el t = record {
         core = record {
           layouts = el ∙ core.layouts ∙ sym same ∙ sym (ap (λ (c : Cells). c.layout) eh);
-          parts = subst (λ h. AreParts h sets'.pairs ring' pending') (sym eh) (subst (λ p. AreParts h p ring' pending') (sym ep) (subst (λ r. AreParts h p r pending') (sym ring_is) t.parts));
+          parts = rw (eh, ep, ring_is) t.parts;
         };
         offer = sym (offer_dirty heap sets.pairs ring pending core.parts card offer dirty (sym answers)) ∙ ap (λ (m : Machine). offer_to m.state card) view;
-        state = (λ i. state_from (eh i) (ep i) (ring_is i)) ∙ t.state ∙ (λ i. state_after (view i).state card (Some (sym is i)));
+        state = (λ i. state_from (eh i) (ep i) (ring_is i)) ∙ (λ i. record { table = t.table i; ring = offered ring card }) ∙ (λ i. state_after (view i).state card (Some (sym is i)));
       }
 
       pub turned_cold : (more : ℕ) → offer ≡ Cold → heap' ≡ with_mark (with_reads heap more) card Clean → sets'.pairs ≡ gained heap sets.pairs card → sets'.layout ≡ sets.layout → pending' + 1 ≡ pending → IsTurnedTo m card (Some offer) heap' sets' ring' pending'
       turned_cold more is eh ep el less = put Cold (with_mark (with_reads heap more) card Clean) (gained heap sets.pairs card) is refl eh ep el (cold_turn heap sets.pairs ring pending core.parts card dirty more pending' less (sym answers ∙ is))
 
       pub turned_kept : offer ≡ Kept → heap' ≡ with_mark heap card Held → sets' ≡ sets → pending' ≡ pending → IsTurnedTo m card (Some offer) heap' sets' ring' pending'
-      turned_kept is eh es ep = put Kept (with_mark heap card Held) sets.pairs is refl eh (ap (λ (s : Pairs). s.pairs) es) (ap (λ (s : Pairs). s.layout) es)
-          (subst (λ n. IsTurnedFrom heap sets.pairs ring card Kept (with_mark heap card Held) sets.pairs (offered ring card) n) (sym ep) (kept_turn heap sets.pairs ring pending core.parts card dirty (sym answers ∙ is)))
+      turned_kept is eh es ep = put Kept (with_mark heap card Held) sets.pairs is refl eh (ap (λ (s : Pairs). s.pairs) es) (ap (λ (s : Pairs). s.layout) es) (rw ep (kept_turn heap sets.pairs ring pending core.parts card dirty (sym answers ∙ is)))
 
       pub turned_out : (more d : ℕ) → offer ≡ Out d → heap' ≡ with_mark (with_mark (with_reads heap more) d Clean) card Held → sets'.pairs ≡ gained heap sets.pairs d → sets'.layout ≡ sets.layout → pending' + 1 ≡ pending → IsTurnedTo m card (Some offer) heap' sets' ring' pending'
       turned_out more d is eh ep el less = put (Out d) (with_mark (with_mark (with_reads heap more) d Clean) card Held) (gained heap sets.pairs d) is refl eh ep el (out_turn heap sets.pairs ring pending core.parts card dirty more pending' d less (sym answers ∙ is))

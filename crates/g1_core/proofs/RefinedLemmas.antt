@@ -1,12 +1,12 @@
 -- Refining some cards and then others.
 use Rattle.std.specs.Prelude.{◌≡◌, ◌∷◌, ◌++◌, ◌&&◌, ◌||◌}
-use Rattle.g1_core.specs.{inl, inr, ℕ, List, [], sym, ap, ◌∙◌, Contains, nat_eq, not, IsDistinct, nat_cmp, nat_eq_equiv, IsDistinct-push, eqb-true, or_cases, or_left, or_right, and_parts, and_from, not-true, true≢false, false_from_ne_true, All-push, set_of, IsPending, AreRefinable, refined, Bool, arith, nat_cmp_total, exact_unsigned}
+use Rattle.g1_core.specs.{inl, inr, ℕ, List, [], sym, ap, ◌∙◌, Contains, nat_eq, not, IsDistinct, nat_cmp, nat_eq_equiv, IsDistinct-push, eqb-true, or_cases, or_left, and_parts, and_from, not-true, true≢false, false_from_ne_true, All-push, set_of, IsPending, AreRefinable, refined, Bool, arith, nat_cmp_total, exact_unsigned}
 use Rattle.std.specs.FinSet as set
 use Rattle.std.proofs.lemmas.List.Folds.{list_any-append}
 use Rattle.std.proofs.lemmas.Map.Views.{Contains-from_any}
 use Rattle.g1_core.specs.Table.{Table}
-use Rattle.g1_core.proofs.SetLemmas.{same_cards, same_pairs, in_list, in_set, pair_total, pair_exact}
-use Rattle.g1_core.proofs.TableLemmas.{refined_pending, refined_recorded, still_pending}
+use Rattle.g1_core.proofs.SetLemmas.{same_cards, same_pairs, in_set, pair_total, pair_exact}
+use Rattle.g1_core.proofs.TableLemmas.{refined_pending, refined_recorded}
 
 -- refining nothing changes nothing
 pub refined_none : (t : Table) → refined [] t ≡ t

@@ -1,6 +1,6 @@
 -- Laws of the plain table.
-use Rattle.std.specs.Prelude.{◌≡◌, ◌≢◌, ◌⊎◌, ◌<◌, ◌+◌, ◌/◌, ◌&&◌, ◌||◌}
-use Rattle.g1_core.specs.{inl, inr, ℕ, Bool, true, false, cond, eqb, List, length, get_or, replicate, Option, Some, None, refl, sym, ap, ◌∙◌, subst, arith, not, enumerate_from, div-div-eq-div-mul, mul_comm, eqb-false, ne_eqb, cases_lt, cases_eq, cases_Bool, or_cases, or_left, or_right, and_parts, and_from, nat_cmp_total, eq_by_cmp_equiv, get_or-set_same, get_or-set_other, get_or_past, get_or-replicate, length-replicate, length-set, length-enumerate_from, Kind, SameRegion, Null, AlreadyDirty, Logged, Shape, slot_count, card_of, region_of, region_of_card, CardSet, set_of, opening, IsPending, IsRecorded, Crosses, Holds, IsCovered, pair_of, held, refined, pending_after, stored, HoldsIn, eq_by_cmp, nat_cmp, exact_unsigned, Equal-is}
+use Rattle.std.specs.Prelude.{◌≡◌, ◌≢◌, ◌⊎◌, ◌<◌, ◌/◌, ◌&&◌, ◌||◌}
+use Rattle.g1_core.specs.{inl, inr, ℕ, Bool, true, false, cond, eqb, List, length, get_or, replicate, Option, Some, None, refl, sym, ap, ◌∙◌, subst, arith, not, enumerate_from, div-div-eq-div-mul, mul_comm, eqb-false, ne_eqb, cases_lt, cases_eq, cases_Bool, or_cases, or_left, or_right, and_parts, and_from, nat_cmp_total, eq_by_cmp_equiv, get_or-set_same, get_or-set_other, get_or_past, get_or-replicate, length-replicate, length-set, length-enumerate_from, SameRegion, AlreadyDirty, Logged, Shape, slot_count, card_of, region_of, region_of_card, CardSet, set_of, opening, IsPending, IsRecorded, Crosses, Holds, IsCovered, pair_of, held, refined, pending_after, stored, HoldsIn, eq_by_cmp, nat_cmp, exact_unsigned, Equal-is}
 use Rattle.std.proofs.Common.{set as list_set}
 use Rattle.std.specs.FinSet as set
 use Rattle.g1_core.specs.Table.{Table}
