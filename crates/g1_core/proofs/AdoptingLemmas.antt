@@ -1,8 +1,8 @@
 -- References, marks and pairs that are taken over one by one.
-use Rattle.std.specs.Prelude.{◌≡◌, ◌+◌, ◌<◌, ◌∷◌, ◌++◌, ◌||◌}
-use Rattle.g1_core.specs.{ℕ, zero, suc, Bool, true, false, List, [], length, take, drop, get_or, refl, sym, ap, ◌∙◌, arith, replicate, false_from_ne_true, get_or-map, length-map, length-replicate, take_more, pair_cmp, Mark, Clean, Dirty, of_card, pending_of, mark_for, marks_for}
-use Rattle.std.proofs.Common.{set as list_set}
-use Rattle.std.proofs.lemmas.List.{set-get_or}
+use Rattle.std.specs.Prelude.{◌≡◌, ◌+◌, ◌<◌, ◌∷◌, ◌++◌, ◌||◌, ◌-◌}
+use Rattle.g1_core.specs.{ℕ, Bool, true, false, List, [], length, take, drop, get_or, refl, sym, ap, ◌∙◌, arith, replicate, false_from_ne_true, get_or-map, length-map, length-replicate, take_more, pair_cmp, Mark, Clean, Dirty, of_card, pending_of, mark_for, marks_for, append_assoc, length-append}
+use Rattle.std.proofs.Common.{add-one, drop-cons, set as list_set}
+use Rattle.std.proofs.lemmas.List.{get_or-append_right, get_or-drop, length-drop, length-take, set-append_right, set-get_or}
 use Rattle.std.specs.FinSet as set
 use Rattle.g1_core.proofs.SetLemmas.{pair_total, pair_exact}
 use Rattle.g1_core.proofs.MarkLemmas.{dirty_clean, from_pending, pending_marked, one_more}
@@ -10,23 +10,17 @@ use Rattle.g1_core.proofs.OpeningLemmas.{all_clean}
 
 module _ {X : Type 0} where
   -- the first i items are new, and the others old: one more becomes new
-  put_suc : (xs ys : List X) (i : ℕ) (d : X) → i < length xs → i < length ys → list_set (take i xs ++ drop i ys) i (get_or xs i d) ≡ take (suc i) xs ++ drop (suc i) ys
-  put_suc [] ys i d lt lt' = absurd (omega arith)
-  put_suc (x ∷ xs) [] i d lt lt' = absurd (omega arith)
-  put_suc (x ∷ xs) (y ∷ ys) zero d lt lt' = refl
-  put_suc (x ∷ xs) (y ∷ ys) (suc i) d lt lt' = ap (λ (l : List X). x ∷ l) (put_suc xs ys i d (omega arith) (omega arith))
-
-  next_suc : (i : ℕ) (xs ys : List X) → take (suc i) xs ++ drop (suc i) ys ≡ take (i + 1) xs ++ drop (i + 1) ys
-  next_suc i xs ys = ap (λ (n : ℕ). take n xs ++ drop n ys) (let e : suc i ≡ i + 1 = omega arith in e)
-
   pub put_next : (xs ys : List X) (i : ℕ) (d : X) → i < length xs → i < length ys → list_set (take i xs ++ drop i ys) i (get_or xs i d) ≡ take (i + 1) xs ++ drop (i + 1) ys
-  put_next xs ys i d lt lt' = put_suc xs ys i d lt lt' ∙ next_suc i xs ys
+  put_next xs ys i d lt lt' =
+      let many : length (take i xs) ≡ i = omega (arith, length-take i xs) in
+      let first : i - i ≡ 0 = omega arith in
+      set-append_right (take i xs) (drop i ys) i i (get_or xs i d) many (omega arith) ∙ rw (first, drop-cons ys i d lt', take_more xs i d lt, append_assoc, add-one) refl
 
   pub at_place : (xs ys : List X) (i : ℕ) (d : X) → i < length xs → i < length ys → (get_or (take i xs ++ drop i ys) i d ≡ get_or ys i d) × (i < length (take i xs ++ drop i ys))
-  at_place [] ys i d lt lt' = absurd (omega arith)
-  at_place (x ∷ xs) [] i d lt lt' = absurd (omega arith)
-  at_place (x ∷ xs) (y ∷ ys) zero d lt lt' = (refl, omega arith)
-  at_place (x ∷ xs) (y ∷ ys) (suc i) d lt lt' = let h = at_place xs ys i d (omega arith) (omega arith) in let lt : i < length (take i xs ++ drop i ys) = h.1 in (h.0, omega arith)
+  at_place xs ys i d lt lt' =
+      let many : length (take i xs) ≡ i = omega (arith, length-take i xs) in
+      let same : i + (i - i) ≡ i = omega arith in
+      (get_or-append_right (take i xs) (drop i ys) i i d many (omega arith) ∙ get_or-drop i ys (i - i) d ∙ ap (λ (k : ℕ). get_or ys k d) same, omega (arith, length-append (take i xs) (drop i ys), length-drop i ys))
 
   pub keep_next : (xs ys : List X) (i : ℕ) (d : X) → i < length xs → i < length ys → get_or xs i d ≡ get_or ys i d → take i xs ++ drop i ys ≡ take (i + 1) xs ++ drop (i + 1) ys
   keep_next xs ys i d lt lt' e = sym (set-get_or (take i xs ++ drop i ys) i d) ∙ ap (list_set (take i xs ++ drop i ys) i) ((at_place xs ys i d lt lt').0 ∙ sym e) ∙ put_next xs ys i d lt lt'

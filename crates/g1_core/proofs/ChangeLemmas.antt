@@ -1,6 +1,6 @@
 -- The changes of a redirect: what one is, and what it makes of a table.
 use Rattle.std.specs.Prelude.{◌≡◌, ◌≢◌, ◌⊎◌, ◌<◌, ◌+◌, ◌*◌, ◌∷◌}
-use Rattle.g1_core.specs.{inl, inr, ℕ, suc, Bool, true, false, cond, List, [], length, get_or, Option, Some, None, refl, sym, ap, ◌∙◌, subst, arith, map, Contains, All, nat_eq, count_by, IfSome, IsDistinct, cons_option, enumerate_from, cases_lt, eqb-true, and_parts, true≢false, false_from_ne_true, get_or-set_same, get_or-set_other, get_or_past, All-set, Shape, slot_count, same_offset, same_offset_region, Change, IsCore, enters, moved_target, change_at, changes_of, changed, Cells, Ring, Pairs, AreRead, get_or-map, length-map}
+use Rattle.g1_core.specs.{inl, inr, ℕ, suc, Bool, true, false, List, [], length, get_or, Option, Some, None, refl, sym, ap, ◌∙◌, subst, arith, map, Contains, All, nat_eq, count_by, IfSome, IsDistinct, cons_option, enumerate_from, cases_lt, eqb-true, and_parts, true≢false, false_from_ne_true, get_or-set_same, get_or-set_other, get_or_past, All-set, Shape, slot_count, same_offset, same_offset_region, Change, IsCore, enters, moved_target, change_at, changes_of, changed, Cells, Ring, Pairs, AreRead, get_or-map, length-map}
 use Rattle.std.proofs.Common.{set as list_set}
 use Rattle.std.proofs.lemmas.Map.Made.{Contains-tail}
 use Rattle.g1_core.proofs.SetLemmas.{front_apart, rest_distinct}
@@ -21,18 +21,8 @@ module _ (l : Shape) (from to : ℕ) where
     pub enters : enters l from (slot, o) ≡ true
 
   changed_if : (slot place : ℕ) (b : Bool) → enters l from (slot, Some place) ≡ b → IsLeft slot (Some place) ⊎ IsChanged slot (Some place)
-  changed_if slot place true is = inr (record {
-    old = place;
-    refers = refl;
-    change = ap (λ b. cond {A = Option Change} b (Some (record { slot = slot; place = same_offset l place to })) None) is;
-    moves = ap (λ b. cond b (Some (same_offset l place to)) (Some place)) is;
-    enters = is;
-  })
-  changed_if slot place false is = inl (record {
-    none = ap (λ b. cond {A = Option Change} b (Some (record { slot = slot; place = same_offset l place to })) None) is;
-    stays = ap (λ b. cond b (Some (same_offset l place to)) (Some place)) is;
-    away = is;
-  })
+  changed_if slot place true is = inr (record { old = place; refers = refl; change = rw is refl; moves = rw is refl; enters = is })
+  changed_if slot place false is = inl (record { none = rw is refl; stays = rw is refl; away = is })
 
   pub change_cases : (slot : ℕ) (o : Option ℕ) → IsLeft slot o ⊎ IsChanged slot o
   change_cases slot None = inl (record { none = refl; stays = refl; away = refl })

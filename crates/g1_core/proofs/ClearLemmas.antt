@@ -8,8 +8,7 @@ use Rattle.g1_core.specs.Machine.{Machine}
 use Rattle.g1_core.specs.declared.entry.Reply.TheVariants as reply
 use Rattle.g1_core.specs.declared.reply.ClearReply.TheVariants as clear_reply
 use Rattle.g1_core.proofs.SetLemmas.{pair_total, pair_exact, few_distinct}
-use Rattle.g1_core.proofs.RunLemmas.{has_slots, step_covered}
-use Rattle.g1_core.proofs.OutsideLemmas.{cleared_outside}
+use Rattle.g1_core.proofs.RunLemmas.{has_slots, step_covered, cleared_outside}
 use Rattle.g1_core.proofs.MarkLemmas.{none_of}
 use Rattle.g1_core.proofs.RefinedLemmas.{refined_none}
 use Rattle.g1_core.proofs.StoreLemmas.{none_refinable}

@@ -1,6 +1,6 @@
 -- A drain, whole and short, is a step of the plain table.
-use Rattle.std.specs.Prelude.{◌≡◌, ◌<◌, ◌+◌, ◌++◌, ◌&&◌}
-use Rattle.g1_core.specs.{inl, ℕ, false, List, [], length, refl, sym, ap, ◌∙◌, subst, arith, Contains, not, nat_cmp, true≢false, append-nil, length-append, set_of, Ring, reset, IsStep, drain_entry, AreMembers, refined, is_dirty, AreDirtyBelow, Drains, IsDirtyDrained, IsDirtyStopped, IsRingDrained, IsDrainOrder, IsDrainOf, IsShortDrain, IsWholeDrain, IsAllDrained, reset_machine, ring_with}
+use Rattle.std.specs.Prelude.{◌≡◌, ◌<◌, ◌+◌, ◌++◌}
+use Rattle.g1_core.specs.{inl, ℕ, false, List, [], length, refl, sym, ap, ◌∙◌, subst, arith, Contains, nat_cmp, true≢false, append-nil, length-append, Ring, reset, IsStep, drain_entry, AreMembers, refined, is_dirty, AreDirtyBelow, Drains, IsDirtyDrained, IsDirtyStopped, IsRingDrained, IsDrainOrder, IsDrainOf, IsShortDrain, IsWholeDrain, IsAllDrained, reset_machine, ring_with}
 use Rattle.std.specs.FinSet as set
 use Rattle.g1_core.specs.declared.reply.Drained.TheVariants as answers
 use Rattle.g1_core.specs.Table.{Table}
@@ -16,10 +16,7 @@ module _ (a b : Machine) (xs : List ℕ) (n : ℕ) (h : IsRingDrained a xs n b) 
   whole_ring = h.order ∙ ap (λ (ys : List ℕ). xs ++ ys) left ∙ append-nil xs
 
   dirty_same : (q : ℕ) → is_dirty b.state q ≡ is_dirty a.state q
-  dirty_same q =
-      let nobody : set.contains (set_of b.state.ring.cards) q ≡ false = ap (λ (ys : List ℕ). set.contains (set_of ys) q) left ∙ set.contains-empty nat_cmp q in
-      let pending : set.contains b.state.table.pending q ≡ (set.contains a.state.table.pending q && not (set.contains (set_of xs) q)) = ap (λ (t : Table). set.contains t.pending q) h.drains.table ∙ refined_pending xs a.state.table q in
-      (λ i. pending i && not (nobody i)) ∙ and_true _ ∙ ap (λ (ys : List ℕ). set.contains a.state.table.pending q && not (set.contains (set_of ys) q)) (sym whole_ring)
+  dirty_same q = rw (h.drains.table, refined_pending xs a.state.table q, left, set.contains-empty nat_cmp q, whole_ring, and_true) refl
 
   below_same : (bound : ℕ) (ys : List ℕ) → AreDirtyBelow b.state bound ys → AreDirtyBelow a.state bound ys
   below_same bound ys k = record {

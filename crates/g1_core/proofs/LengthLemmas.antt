@@ -1,6 +1,7 @@
 -- How long the lists of a reply can be.
-use Rattle.std.specs.Prelude.{◌≡◌, ◌≤◌, ◌+◌, ◌*◌, ◌∷◌, if◌then◌else◌}
-use Rattle.g1_core.specs.{Bool, true, false, ℕ, List, [], length, take, Option, Some, None, refl, ap, arith, length-append, reads_after, Offer, Kept, RefineReply, AreRefinable, refined, State, Round, refined_by, hot_by, skipped_by, offer_to, turn, turns, start, IsTurned, IsIdle, AreCardsRead, DoesRefine, nat_cmp_total, exact_unsigned, All-contains, IsPending}
+use Rattle.std.specs.Prelude.{◌≡◌, ◌≤◌, ◌+◌, ◌*◌, ◌∷◌}
+use Rattle.g1_core.specs.{ℕ, List, [], length, take, Option, Some, None, refl, ap, arith, length-append, reads_after, Offer, Kept, RefineReply, AreRefinable, refined, State, Round, refined_by, hot_by, skipped_by, offer_to, turn, turns, start, IsTurned, IsIdle, AreCardsRead, DoesRefine, nat_cmp_total, exact_unsigned, All-contains, IsPending}
+use Rattle.std.proofs.lemmas.Bool.{cases_cond}
 use Rattle.std.proofs.lemmas.List.{length-take}
 use Rattle.std.specs.FinSet as set
 use Rattle.g1_core.specs.Table.{Table}
@@ -28,15 +29,11 @@ turned_few old cards reply new h =
     let skipped : reply.skipped ≡ (turns (start old) (take h.many cards)).skipped = ap (λ (r : Round). r.skipped) h.turned in
     omega (arith, turns_few (take h.many cards) (start old), length-take h.many cards)
 
-none_or_one : (short : Bool) (n : ℕ) → n ≡ (if short then 0 else 1) → n ≤ 1
-none_or_one true n is = omega arith
-none_or_one false n is = omega arith
-
 -- nor are more hot, and at most one buffer is done
 pub turned_counts : (old : State) (cards : List ℕ) (reply : RefineReply) (new : State) → IsTurned old cards reply new → (reply.taken ≤ 1) × (reply.hot ≤ length cards)
 turned_counts old cards reply new h =
     let hot : reply.hot ≡ (turns (start old) (take h.many cards)).hot = ap (λ (r : Round). r.hot) h.turned in
-    (none_or_one reply.short reply.taken h.taken, omega (arith, hot, turns_few (take h.many cards) (start old), length-take h.many cards))
+    (omega (arith, cases_cond reply.short 0 1 reply.taken h.taken), omega (arith, hot, turns_few (take h.many cards) (start old), length-take h.many cards))
 
 -- what a refinement does without a buffer, and with one
 pub idle_does : (m : Machine) (reply : RefineReply) → IsIdle reply → m.reads ≡ reads_after m.reads (0 * m.state.table.layout.slots) → DoesRefine None reply m m

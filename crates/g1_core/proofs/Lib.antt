@@ -3,7 +3,6 @@ pub mod TableLemmas
 pub mod MovedLemmas
 pub mod RunLemmas
 pub mod SinceLemmas
-pub mod OutsideLemmas
 pub mod AdoptingLemmas
 pub mod AdoptedPairLemmas
 pub mod AdoptionLemmas

@@ -2,6 +2,7 @@
 use Rattle.std.specs.Prelude.{◌≡◌, ◌≢◌, ◌⊎◌, ◌<◌, ◌≤◌, ◌+◌, ◌-◌, ◌∷◌, ◌↔◌, ◌&&◌, ◌||◌}
 use Rattle.g1_core.specs.{inl, inr, ℕ, zero, suc, Bool, true, false, cond, List, [], length, get_or, Some, refl, sym, ap, ◌∙◌, arith, Contains, not, enumerate_from, filter_map, nat_cmp, eq_by_cmp, nat_cmp_total, eq_by_cmp_equiv, exact_unsigned, cases_lt, cases_eq, or_left, true≢false, get_or-set_same, get_or-set_other, get_or_past, length-enumerate_from, Mark, Clean, Dirty, Held, pending_of, marked_card, CardSet, set_of}
 use Rattle.std.proofs.Common.{set as list_set}
+use Rattle.std.proofs.lemmas.Bool.{cases_cond}
 use Rattle.std.specs.FinSet as set
 use Rattle.g1_core.proofs.SetLemmas.{same_cards, in_list, in_set, from_places, to_places, one_fewer}
 
@@ -96,11 +97,7 @@ module _ (marks : List Mark) (card : ℕ) (mark : Mark) (inside : card < length 
 -- how many cards are pending
 pub few_listed : (cards : List ℕ) → set.len (set_of cards) ≤ length cards
 few_listed [] = omega (arith, set.len-empty nat_cmp)
-few_listed (card ∷ cards) = few_more (set.contains (set_of cards) card) (set.len-insert nat_cmp_total (set_of cards) card) (few_listed cards)
-  where
-    few_more : (b : Bool) {n m k : ℕ} → n ≡ cond b m (m + 1) → m ≤ k → n ≤ suc k
-    few_more true e h = omega arith
-    few_more false e h = omega arith
+few_listed (card ∷ cards) = omega (arith, few_listed cards, cases_cond (set.contains (set_of cards) card) (set.len (set_of cards)) (set.len (set_of cards) + 1) _ (set.len-insert nat_cmp_total (set_of cards) card))
 
 few_kept : (pairs : List (ℕ × Mark)) → length (filter_map marked_card pairs) ≤ length pairs
 few_kept [] = omega arith
@@ -109,11 +106,7 @@ few_kept ((card, _) ∷ pairs) = omega (arith, few_kept pairs)
 
 -- no more cards are pending than there are
 pub few_pending : (marks : List Mark) → set.len (pending_of marks) ≤ length marks
-few_pending marks =
-    let listed = few_listed (filter_map marked_card (enumerate_from 0 marks)) in
-    let kept = few_kept (enumerate_from 0 marks) in
-    let all : length (enumerate_from 0 marks) ≡ length marks = length-enumerate_from 0 marks in
-    omega arith
+few_pending marks = omega (arith, few_listed (filter_map marked_card (enumerate_from 0 marks)), few_kept (enumerate_from 0 marks), length-enumerate_from 0 marks)
 
 -- a member leaves
 pub one_less : (cards : CardSet) (card : ℕ) → set.contains cards card ≡ true → set.len (set.difference cards (set_of (card ∷ []))) + 1 ≡ set.len cards

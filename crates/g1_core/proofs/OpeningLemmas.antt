@@ -6,7 +6,7 @@ use Rattle.g1_core.specs.Table.{Table}
 use Rattle.g1_core.specs.declared.config.Settings.{Settings}
 use Rattle.g1_core.proofs.SetLemmas.{same_cards}
 use Rattle.g1_core.proofs.TableLemmas.{opening_covered}
-use Rattle.g1_core.proofs.OutsideLemmas.{opening_outside}
+use Rattle.g1_core.proofs.RunLemmas.{opening_outside}
 use Rattle.g1_core.proofs.MarkLemmas.{held_clean, from_pending}
 use Rattle.g1_core.proofs.RefinedLemmas.{refined_none}
 use Rattle.g1_core.proofs.StoreLemmas.{none_refinable}

@@ -1,13 +1,13 @@
 -- The parts of a core and the state that they stand for.
-use Rattle.std.specs.Prelude.{◌≡◌, ◌≢◌, ◌<◌, ◌+◌, ◌∷◌, ◌++◌, ◌↔◌}
-use Rattle.g1_core.specs.{inl, inr, ℕ, suc, true, false, cond, List, [], length, get_or, drop, Option, Some, None, refl, sym, ap, ◌∙◌, subst, arith, Contains, nat_eq, slice_get, IsDistinct, cases_eq, false_from_ne_true, length-set, Contains-push, Contains-append_left, Contains-push_cases, PairSet, Mark, Clean, Dirty, Held, Cells, with_mark, with_reads, Offer, Ring, answer, popped, IsCovered, IsPending, refined, State, IsPlaced, AreParts, pending_of, table_from, state_from, gained, is_dirty, offer_to, AreCells, AreOutside}
+use Rattle.std.specs.Prelude.{◌≡◌, ◌≢◌, ◌<◌, ◌+◌, ◌∷◌, ◌++◌, ◌↔◌, ◌≤◌}
+use Rattle.g1_core.specs.{inl, inr, ℕ, suc, true, false, cond, List, [], length, get_or, drop, Option, Some, None, refl, sym, ap, ◌∙◌, subst, arith, Contains, nat_eq, slice_get, IsDistinct, cases_eq, false_from_ne_true, length-set, Contains-push, Contains-append_left, Contains-push_cases, PairSet, Mark, Clean, Dirty, Held, Cells, with_mark, with_reads, Offer, Ring, answer, popped, IsCovered, IsPending, refined, State, IsPlaced, AreParts, pending_of, table_from, state_from, gained, is_dirty, offer_to, AreCells, AreOutside, nat_cmp_total, exact_unsigned}
 use Rattle.std.proofs.Common.{set as list_set}
 use Rattle.std.proofs.lemmas.Map.Made.{Contains-tail}
 use Rattle.std.specs.FinSet as set
 use Rattle.g1_core.specs.Table.{Table}
-use Rattle.g1_core.proofs.SetLemmas.{All_by_member, front_apart, rest_distinct}
+use Rattle.g1_core.proofs.SetLemmas.{All_by_member, front_apart, rest_distinct, some_member}
 use Rattle.g1_core.proofs.TableLemmas.{refined_covered}
-use Rattle.g1_core.proofs.OutsideLemmas.{refined_outside}
+use Rattle.g1_core.proofs.RunLemmas.{refined_outside}
 use Rattle.g1_core.proofs.MarkLemmas.{held_clean, dirty_clean, dirty_held, marked_cases, from_pending, to_pending, is_card, pending_cleaned, pending_kept, mark_here, mark_there, one_less}
 use Rattle.g1_core.proofs.RefinedLemmas.{push_distinct}
 use Rattle.g1_core.proofs.TurnLemmas.{IsDirty, dirty_from, to_dirty}
@@ -58,9 +58,9 @@ module _ (heap : Cells) (pairs : PairSet) (ring : Ring) (pending : ℕ) (parts :
   pub offer_none : (card : ℕ) → mark_of card ≢ Dirty → offer_to now card ≡ None
   offer_none card ne = ap (λ b. cond {A = Option Offer} b (Some (answer ring card)) None) (not_dirty card ne)
 
-  -- reads change nothing else
-  pub read_parts : (more : ℕ) → AreParts (with_reads heap more) pairs ring pending
-  read_parts more = search
+  -- a marked card is one that is pending
+  pub some_pending : (q : ℕ) → mark_of q ≢ Clean → 1 ≤ pending
+  some_pending q marked = omega (arith, some_member nat_cmp_total exact_unsigned (pending_of heap.marks) q (to_pending heap.marks q marked), parts.known)
 
   -- A pending card is refined and clean afterwards, and the ring holds just the other cards.
   module _ (ring' : Ring) (pending' card more : ℕ) (marked : mark_of card ≢ Clean) (less : pending' + 1 ≡ pending)

@@ -5,10 +5,9 @@ use Rattle.std.specs.FinSet as set
 use Rattle.g1_core.specs.Table.{Table}
 use Rattle.g1_core.proofs.SetLemmas.{same_pairs, in_pairs, to_pairs, from_kept, to_kept, All_by_member, from_places, to_places}
 use Rattle.g1_core.proofs.TableLemmas.{region_of_slot, is_slot}
-use Rattle.g1_core.proofs.RunLemmas.{has_slots}
+use Rattle.g1_core.proofs.RunLemmas.{has_slots, holds_outside}
 use Rattle.g1_core.proofs.ClearLemmas.{met}
 use Rattle.g1_core.proofs.MovedLemmas.{moved_covered, moved_known, pair_from, to_pair}
-use Rattle.g1_core.proofs.OutsideLemmas.{holds_outside}
 use Rattle.g1_core.proofs.ChangeLemmas.{change_cases, all_moved, changed_places, of_region_from, of_region_to}
 use Rattle.g1_core.proofs.WalkLemmas.{on_card, its_slot, to_slots, distinct_slots}
 

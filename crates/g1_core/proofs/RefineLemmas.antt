@@ -1,13 +1,12 @@
 -- The turns of cards over the parts of a core.
-use Rattle.std.specs.Prelude.{◌≡◌, ◌≢◌, ◌<◌, ◌≤◌, ◌+◌, ◌∷◌, ◌++◌, ◌↔◌}
-use Rattle.g1_core.specs.{inl, inr, ℕ, List, [], length, get_or, take, Option, Some, None, refl, sym, ap, ◌∙◌, subst, arith, Contains, nat_eq, IsDistinct, length-set, fold_more, Clean, Dirty, Held, Cells, with_mark, with_reads, Pairs, Offer, Cold, Kept, Out, Ring, answer, offered, cards_after, popped, PairSet, refined, State, IsCore, AreParts, pending_of, table_from, state_from, machine_from, gained, Round, turn_by, turn, turns, start, offer_to, state_after, refined_by, hot_by, skipped_by, nat_cmp_total, exact_unsigned}
+use Rattle.std.specs.Prelude.{◌≡◌, ◌≢◌, ◌<◌, ◌≤◌, ◌+◌, ◌∷◌, ◌++◌}
+use Rattle.g1_core.specs.{inl, inr, ℕ, List, [], length, get_or, take, Option, Some, None, refl, sym, ap, ◌∙◌, subst, Contains, length-set, fold_more, Clean, Dirty, Held, Cells, with_mark, with_reads, Pairs, Offer, Cold, Kept, Out, Ring, answer, offered, cards_after, popped, PairSet, refined, State, IsCore, AreParts, table_from, state_from, machine_from, gained, Round, turn_by, turn, turns, start, offer_to, state_after, refined_by, hot_by, skipped_by}
 use Rattle.g1_core.specs.declared.config.Settings.{Settings}
 use Rattle.g1_core.specs.Machine.{Machine}
-use Rattle.g1_core.proofs.SetLemmas.{some_member}
-use Rattle.g1_core.proofs.MarkLemmas.{held_clean, dirty_clean, to_pending, is_card, mark_there}
+use Rattle.g1_core.proofs.MarkLemmas.{held_clean, dirty_clean, is_card, mark_there}
 use Rattle.g1_core.proofs.TurnLemmas.{answer_cases}
 use Rattle.g1_core.proofs.RefinedLemmas.{refined_none}
-use Rattle.g1_core.proofs.PartLemmas.{dirty_mark, offer_dirty, offer_none, IsMade, cleaned, held_last, apart_stands, oldest_mark, left_distinct, left_stands, differs, IsFront}
+use Rattle.g1_core.proofs.PartLemmas.{dirty_mark, offer_dirty, offer_none, IsMade, cleaned, held_last, apart_stands, oldest_mark, left_distinct, left_stands, differs, IsFront, some_pending}
 
 -- the oldest card, where the ring answers that it leaves
 pub is_out : (r : Ring) (card d : ℕ) → 1 ≤ r.capacity → answer r card ≡ Out d → IsFront r.cards d
@@ -62,18 +61,12 @@ module _ (heap : Cells) (sets : Pairs) (ring : Ring) (pending : ℕ) (settings :
   pub none_offered : (get_or heap.marks card Clean ≢ Dirty) → None ≡ offer_to m.state card
   none_offered ne = sym (ap (λ (m : Machine). offer_to m.state card) (sym view) ∙ offer_none heap sets.pairs ring pending core.parts card ne)
 
-  -- a marked card is one that is pending
-  pub some_pending : (q : ℕ) → get_or heap.marks q Clean ≢ Clean → 1 ≤ pending
-  some_pending q marked =
-      let some : 1 ≤ _ = some_member nat_cmp_total exact_unsigned (pending_of heap.marks) q (to_pending heap.marks q marked) in
-      omega (arith, some, core.parts.known)
-
   module _ (dirty : get_or heap.marks card Clean ≡ Dirty) where
     pub apart : Contains ring.cards card → ⊥
     apart = (dirty_mark heap sets.pairs ring pending core.parts card dirty).apart
 
     pub dirty_pending : 1 ≤ pending
-    dirty_pending = some_pending card (dirty_clean (get_or heap.marks card Clean) dirty)
+    dirty_pending = some_pending heap sets.pairs ring pending core.parts card (dirty_clean (get_or heap.marks card Clean) dirty)
 
     module _ (offer : Offer) (answers : offer ≡ answer ring card) (heap' : Cells) (sets' : Pairs) (ring' : Ring) (pending' : ℕ) (ring_is : ring' ≡ offered ring card) where
       put : (o : Offer) (h : Cells) (p : PairSet) → offer ≡ o → h.layout ≡ heap.layout → heap' ≡ h → sets'.pairs ≡ p → sets'.layout ≡ sets.layout → IsMade h p (offered ring card) pending' (refined (refined_by card (Some o)) (table_from heap sets.pairs))
@@ -105,6 +98,5 @@ pub turns_more : (s0 : State) (cards : List ℕ) (i card : ℕ) (s s' : State) (
     → xs' ≡ xs ++ refined_by card o → hot' ≡ hot + hot_by o → skipped' ≡ skipped + skipped_by o → round_at s xs hot skipped ≡ turns (start s0) (take i cards) → round_at s' xs' hot' skipped' ≡ turns (start s0) (take (i + 1) cards)
 turns_more s0 cards i card s s' xs xs' hot hot' skipped skipped' o lt read offer state refined hot_is skipped_is h =
     let step : round_at s' xs' hot' skipped' ≡ turn_by (round_at s xs hot skipped) card o = λ i. record { state = state i; refined = refined i; hot = hot_is i; skipped = skipped_is i } in
-    let by : turn_by (round_at s xs hot skipped) card o ≡ turn (round_at s xs hot skipped) card = ap (turn_by (round_at s xs hot skipped) card) offer in
     let all : turns (start s0) (take (i + 1) cards) ≡ turn (turns (start s0) (take i cards)) card = fold_more turn (start s0) cards i card lt ∙ ap (turn (turns (start s0) (take i cards))) (sym read) in
-    step ∙ by ∙ ap (λ (r : Round). turn r card) h ∙ sym all
+    step ∙ ap (turn_by (round_at s xs hot skipped) card) offer ∙ ap (λ (r : Round). turn r card) h ∙ sym all

@@ -1,11 +1,12 @@
 -- Refining some cards and then others.
 use Rattle.std.specs.Prelude.{◌≡◌, ◌∷◌, ◌++◌, ◌&&◌, ◌||◌}
-use Rattle.g1_core.specs.{inl, inr, ℕ, List, [], sym, ap, ◌∙◌, Contains, nat_eq, not, IsDistinct, nat_cmp, nat_eq_equiv, IsDistinct-push, eqb-true, or_cases, or_left, and_parts, and_from, not-true, true≢false, false_from_ne_true, All-push, set_of, IsPending, AreRefinable, refined, Bool, arith, nat_cmp_total, exact_unsigned}
+use Rattle.g1_core.specs.{inl, inr, ℕ, List, [], sym, ap, ◌∙◌, Contains, nat_eq, not, IsDistinct, nat_cmp, nat_eq_equiv, IsDistinct-push, eqb-true, or_cases, or_left, and_parts, and_from, not-true, true≢false, false_from_ne_true, All-push, set_of, IsPending, AreRefinable, refined, Bool, arith, nat_cmp_total, exact_unsigned, suc, true, All-contains, Contains-push_cases, append-nil, append_assoc, subst, refl}
 use Rattle.std.specs.FinSet as set
+use Rattle.std.proofs.lemmas.List.Elements.{All-append}
 use Rattle.std.proofs.lemmas.List.Folds.{list_any-append}
 use Rattle.std.proofs.lemmas.Map.Views.{Contains-from_any}
 use Rattle.g1_core.specs.Table.{Table}
-use Rattle.g1_core.proofs.SetLemmas.{same_cards, same_pairs, in_set, pair_total, pair_exact}
+use Rattle.g1_core.proofs.SetLemmas.{same_cards, same_pairs, in_set, pair_total, pair_exact, All_by_member, front_apart, rest_distinct}
 use Rattle.g1_core.proofs.TableLemmas.{refined_pending, refined_recorded}
 
 -- refining nothing changes nothing
@@ -37,6 +38,22 @@ refined_both xs ys t =
 
 pub push_distinct : (xs : List ℕ) (x : ℕ) → IsDistinct nat_eq xs → (Contains xs x → ⊥) → IsDistinct nat_eq (xs ++ x ∷ [])
 push_distinct xs x distinct fresh = IsDistinct-push nat_eq_equiv xs x distinct (false_from_ne_true _ (λ h. fresh (Contains-from_any (λ x y e. eqb-true x y e) x xs h)))
+
+pub distinct_both : (xs ys : List ℕ) → IsDistinct nat_eq xs → IsDistinct nat_eq ys → ((q : ℕ) → Contains xs q → Contains ys q → ⊥) → IsDistinct nat_eq (xs ++ ys)
+distinct_both xs [] distinct others apart = rw append-nil distinct
+distinct_both xs (y ∷ ys) distinct others apart = rw (← append_assoc xs (y ∷ []) ys) (distinct_both (xs ++ y ∷ []) ys (push_distinct xs y distinct (λ c. apart y c (0, omega arith, refl))) (rest_distinct y ys others) (λ q c d. elim (Contains-push_cases xs y q c) [
+  | inl old ↦ apart q old (suc d.0, omega (arith, d.1), d.2)
+  | inr is ↦ front_apart y ys others (subst (Contains ys) (sym is) d)
+]))
+
+-- cards that may be refined after others may be refined with them
+pub refinable_both : (t : Table) (xs ys : List ℕ) → AreRefinable t xs → AreRefinable (refined xs t) ys → AreRefinable t (xs ++ ys)
+refinable_both t xs ys h k =
+    let before : (q : ℕ) → Contains ys q → (set.contains t.pending q ≡ true) × (not (set.contains (set_of xs) q) ≡ true) = λ q c. and_parts _ _ (sym (refined_pending xs t q) ∙ All-contains (IsPending (refined xs t)) ys q k.pending c) in
+    record {
+      distinct = distinct_both xs ys h.distinct k.distinct (λ q c d. true≢false (sym (in_set xs q c) ∙ not-true _ (before q d).1));
+      pending = All-append (IsPending t) xs ys h.pending (All_by_member (IsPending t) ys (λ q c. (before q c).0));
+    }
 
 -- a further pending card may be refined too
 pub refinable_push : (t : Table) (xs : List ℕ) (x : ℕ) → AreRefinable t xs → IsPending (refined xs t) x → AreRefinable t (xs ++ x ∷ [])

@@ -27,9 +27,6 @@ rest_distinct x xs h = IsDistinct-tail nat_eq x xs h
 
 -- what a filter_map keeps
 module _ {X Y : Type 0} (h : X → Option Y) where
-  pub later : (x : X) (xs : List X) (q : X) → Contains xs q → Contains (x ∷ xs) q
-  later x xs q (k, l, e) = (suc k, omega arith, e)
-
   kept_later : (o : Option Y) (ys : List Y) (q : Y) → Contains ys q → Contains (cons_option o ys) q
   kept_later None ys q c = c
   kept_later (Some y) ys q (k, l, e) = (suc k, omega arith, e)

@@ -139,6 +139,4 @@ module _ (heap : Cells) (sets : Pairs) (ring : Ring) (pending : ℕ) (settings :
 
 -- one more card is pending, and there are few
 pub few_cards : (heap : Cells) (sets : Pairs) (ring : Ring) (pending : ℕ) → IsCore heap sets ring pending → pending ≤ 16777216
-few_cards heap sets ring pending core =
-    let few = few_pending heap.marks in
-    omega (arith, core.parts.known, core.parts.cells.cards, card_count_limit heap.layout core.parts.cells.shape)
+few_cards heap sets ring pending core = omega (arith, few_pending heap.marks, core.parts.known, core.parts.cells.cards, card_count_limit heap.layout core.parts.cells.shape)

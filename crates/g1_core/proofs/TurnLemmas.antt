@@ -1,6 +1,7 @@
 -- A round of turns refines distinct pending cards.
 use Rattle.std.specs.Prelude.{◌≡◌, ◌≢◌, ◌⊎◌, ◌≤◌, ◌∷◌, ◌++◌}
 use Rattle.g1_core.specs.{inl, inr, ℕ, suc, true, cond, List, [], length, get_or, take, drop, Option, Some, None, refl, sym, ap, ◌∙◌, subst, arith, Contains, All, nat_eq, nat_lt, not, IsDistinct, cases_lt, cases_Bool, and_parts, and_from, lt-ltb, le-ltb, not-true, true≢false, false_from_ne_true, append-nil, Contains-push_cases, All-contains, Offer, Cold, Kept, Out, Ring, answer, cards_after, IsPending, AreRefinable, refined, State, IsPlaced, RefineReply, IsStep, IsTurned, round_of, refine_entry, is_dirty, refined_by, state_after, Round, turn_by, turn, turns, start}
+use Rattle.std.proofs.lemmas.Bool.{cases_cond}
 use Rattle.g1_core.specs.Table.{Table}
 use Rattle.g1_core.proofs.SetLemmas.{All_by_member, in_list, in_set, front_apart, rest_distinct}
 use Rattle.g1_core.proofs.TableLemmas.{still_pending}
@@ -16,13 +17,6 @@ pub record IsRound (t : Table) (r : Round) : Type 0 where
 pub pending_but : (t : Table) (x q : ℕ) → IsPending t q → q ≢ x → IsPending (refined (x ∷ []) t) q
 pending_but t x q is ne = still_pending (x ∷ []) t q is (false_from_ne_true _ (λ c. ne (one_of q x (in_list (x ∷ []) q c))))
 
--- what is left of refinable cards after the first of them
-pub rest_refinable : (t : Table) (x : ℕ) (xs : List ℕ) → AreRefinable t (x ∷ xs) → AreRefinable (refined (x ∷ []) t) xs
-rest_refinable t x xs h = record {
-  distinct = rest_distinct x xs h.distinct;
-  pending = All_by_member (IsPending (refined (x ∷ []) t)) xs (λ q c. pending_but t x q (All-contains (IsPending t) (x ∷ xs) q h.pending (suc c.0, omega (arith, c.1), c.2)) (λ e. front_apart x xs h.distinct (subst (Contains xs) e c)));
-}
-
 -- what the ring may answer
 pub record IsOut (r : Ring) (card : ℕ) : Type 0 where
   pub oldest : ℕ
@@ -36,17 +30,14 @@ out_of r card (x ∷ xs) is some e = record { oldest = x; rest = xs; cards = is;
 
 pub answer_cases : (r : Ring) (card : ℕ) → 1 ≤ r.capacity → (answer r card ≡ Cold) ⊎ ((answer r card ≡ Kept) ⊎ IsOut r card)
 answer_cases r card some =
-    let count = get_or r.counts card 0 in
     let full = nat_lt (length r.cards) r.capacity in
     let front = get_or r.cards 0 0 in
-    elim (cases_lt count r.limit) [
-      | inl cold ↦ inl (ap (λ b. cond b Cold (cond full Kept (Out front))) (lt-ltb _ _ cold))
-      | inr hot ↦
-          let is_hot : answer r card ≡ cond full Kept (Out front) = ap (λ b. cond b Cold (cond full Kept (Out front))) (le-ltb _ _ hot) in
-          elim (cases_lt (length r.cards) r.capacity) [
-            | inl room ↦ inr (inl (is_hot ∙ ap (λ b. cond b Kept (Out front)) (lt-ltb _ _ room)))
-            | inr none ↦ inr (inr (out_of r card r.cards refl (omega arith) (is_hot ∙ ap (λ b. cond b Kept (Out front)) (le-ltb _ _ none))))
-          ]
+    elim (cases_cond (nat_lt (get_or r.counts card 0) r.limit) Cold (cond full Kept (Out front)) (answer r card) refl) [
+      | inl cold ↦ inl cold
+      | inr hot ↦ elim (cases_lt (length r.cards) r.capacity) [
+        | inl room ↦ inr (inl (hot ∙ ap (λ b. cond b Kept (Out front)) (lt-ltb _ _ room)))
+        | inr none ↦ inr (inr (out_of r card r.cards refl (omega arith) (hot ∙ ap (λ b. cond b Kept (Out front)) (le-ltb _ _ none))))
+      ]
     ]
 
 -- a dirty card is pending and not in the ring

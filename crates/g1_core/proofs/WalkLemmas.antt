@@ -1,12 +1,12 @@
 -- The walk over the slots of some cards that collects the changes of a redirect.
 use Rattle.std.specs.Prelude.{◌≡◌, ◌≢◌, ◌<◌, ◌≤◌, ◌+◌, ◌-◌, ◌*◌, ◌∷◌, ◌++◌, ◌↔◌}
-use Rattle.g1_core.specs.{inl, inr, ℕ, zero, suc, Bool, true, false, eqb, List, [], length, get_or, Option, Some, None, refl, sym, ap, ◌∙◌, subst, arith, take, Contains, nat_eq, not, slice_get, IsDistinct, cons_option, range_with_len, cases_eq, eqb-false, ne_eqb, true≢false, not-true, append-nil, append_assoc, length-append, take_more, get_or-range_with_len, length-range_with_len, flat_map-append, filter_map-append, Contains-append_cases, Contains-append_left, Contains-append_right, Shape, IsShape, card_count, card_of, region_of_card, slot_at, Change, change_at, changes_of, slots_of, slots_on, AreGaining, get_or_from_slice_get, slice_get_within, Cells, Pairs, AreTied, list_at, AreRead, IsInRow, row_of_card, card_of-in_row, Contains-push_cases}
+use Rattle.g1_core.specs.{inl, inr, ℕ, zero, suc, Bool, true, false, eqb, List, [], length, get_or, Option, Some, None, refl, sym, ap, ◌∙◌, subst, arith, take, Contains, nat_eq, not, slice_get, IsDistinct, cons_option, range_with_len, cases_eq, eqb-false, ne_eqb, true≢false, not-true, append-nil, append_assoc, length-append, take_more, get_or-range_with_len, length-range_with_len, flat_map-append, filter_map-append, Contains-append_cases, Contains-append_left, Contains-append_right, Shape, IsShape, card_count, card_of, region_of_card, slot_at, Change, change_at, changes_of, slots_of, slots_on, AreGaining, get_or_from_slice_get, slice_get_within, Cells, Pairs, AreTied, list_at, AreRead, IsInRow, row_of_card, card_of-in_row}
 use Rattle.std.proofs.lemmas.List.Concat.{flat_map-cons}
 use Rattle.std.proofs.lemmas.Map.Made.{IsDistinct-from_AllPairs}
 use Rattle.std.proofs.lemmas.Bool.Decides.{Decides-eqb}
 use Rattle.g1_core.proofs.SetLemmas.{front_apart, rest_distinct}
 use Rattle.g1_core.proofs.MarkLemmas.{one_of, itself}
-use Rattle.g1_core.proofs.RefinedLemmas.{push_distinct}
+use Rattle.g1_core.proofs.RefinedLemmas.{distinct_both}
 
 pub take_next : (cards : List ℕ) (index card : ℕ) → slice_get cards index ≡ Some card → take (index + 1) cards ≡ take index cards ++ card ∷ []
 take_next cards index card at = take_more cards index card (slice_get_within cards index card at) ∙ ap (λ (c : ℕ). take index cards ++ c ∷ []) (get_or_from_slice_get cards index card card at)
@@ -20,16 +20,10 @@ range_split a (suc m) n =
     ap (λ (k : ℕ). range_with_len a k) sum ∙ ap (λ (ks : List ℕ). a ∷ ks) (range_split (a + 1) m n ∙ ap (λ (k : ℕ). range_with_len (a + 1) m ++ range_with_len k n) next)
 
 pub from_range : (a n s : ℕ) → Contains (range_with_len a n) s → (a ≤ s) × (s < a + n)
-from_range a n s (k, lt, e) =
-    let few : length (range_with_len a n) ≡ n = length-range_with_len a n in
-    let at : get_or (range_with_len a n) k s ≡ a + k = get_or-range_with_len a n k s (omega arith) in
-    (omega arith, omega arith)
+from_range a n s (k, lt, e) = omega (arith, length-range_with_len a n, get_or-range_with_len a n k s (omega (arith, length-range_with_len a n)))
 
 pub to_range : (a n s : ℕ) → a ≤ s → s < a + n → Contains (range_with_len a n) s
-to_range a n s low high =
-    let few : length (range_with_len a n) ≡ n = length-range_with_len a n in
-    let at : get_or (range_with_len a n) (s - a) s ≡ a + (s - a) = get_or-range_with_len a n (s - a) s (omega arith) in
-    (s - a, omega arith, omega arith)
+to_range a n s low high = (s - a, omega (arith, length-range_with_len a n), omega (arith, get_or-range_with_len a n (s - a) s (omega arith)))
 
 module _ (l : Shape) (shape : IsShape l) where
   pub on_card : (card slot : ℕ) → Contains (slots_of l card) slot → card_of l slot ≡ card
@@ -45,13 +39,6 @@ module _ (l : Shape) (shape : IsShape l) where
   to_slots [] slot c = absurd (omega (arith, c.1))
   to_slots (card ∷ cards) slot (zero, lt, e) = subst (λ (ss : List ℕ). Contains ss slot) (sym (flat_map-cons (slots_of l) card cards)) (Contains-append_left (slots_of l card) (slots_on l cards) slot (its_slot card slot (sym e)))
   to_slots (card ∷ cards) slot (suc k, lt, e) = subst (λ (ss : List ℕ). Contains ss slot) (sym (flat_map-cons (slots_of l) card cards)) (Contains-append_right (slots_of l card) (slots_on l cards) slot (to_slots cards slot (k, omega arith, e)))
-
-  distinct_both : (xs ys : List ℕ) → IsDistinct nat_eq xs → IsDistinct nat_eq ys → ((q : ℕ) → Contains xs q → Contains ys q → ⊥) → IsDistinct nat_eq (xs ++ ys)
-  distinct_both xs [] distinct others apart = rw append-nil distinct
-  distinct_both xs (y ∷ ys) distinct others apart = rw (← append_assoc xs (y ∷ []) ys) (distinct_both (xs ++ y ∷ []) ys (push_distinct xs y distinct (λ c. apart y c (0, omega arith, refl))) (rest_distinct y ys others) (λ q c d. elim (Contains-push_cases xs y q c) [
-    | inl old ↦ apart q old (suc d.0, omega (arith, d.1), d.2)
-    | inr is ↦ front_apart y ys others (subst (Contains ys) (sym is) d)
-  ]))
 
   range_distinct : (a n : ℕ) → IsDistinct nat_eq (range_with_len a n)
   range_distinct a n = IsDistinct-from_AllPairs Decides-eqb (range_with_len a n) (λ i j d less below. λ e. absurd (omega (arith, e, less, below, length-range_with_len a n, get_or-range_with_len a n i d, get_or-range_with_len a n j d)))
