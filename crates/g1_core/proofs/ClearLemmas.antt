@@ -1,6 +1,6 @@
 -- A clear is a step of the plain table: the set of a region has each card that enters it.
 use Rattle.std.specs.Prelude.{◌≡◌, ◌<◌, ◌≤◌, ◌+◌, ◌-◌, ◌*◌}
-use Rattle.g1_core.specs.{inl, inr, ℕ, true, eqb, List, [], length, Some, None, refl, sym, ap, ◌∙◌, subst, arith, Contains, not, nat_cmp, mul-le-mul, eq-eqb, and_from, true≢false, card_of, CardSet, PairSet, Cells, Pairs, AreTied, list_at, without, Ring, Enters, IsCovered, IsRecorded, AreOutside, IsCore, IsLater, AreParts, pending_of, table_from, state_from, machine_from, Clear, IsFirstInto, IsStep, Answers, settled, ClearReply, clear_entry, DoesClear, member_count, IsLeastOn, AreRead}
+use Rattle.g1_core.specs.{inl, inr, ℕ, true, eqb, List, [], length, Some, None, refl, sym, ap, ◌∙◌, subst, arith, Contains, not, nat_cmp, mul-le-mul_right, eq-eqb, and_from, true≢false, card_of, CardSet, PairSet, Cells, Pairs, AreTied, list_at, without, Ring, Enters, IsCovered, IsRecorded, AreOutside, IsCore, IsLater, AreParts, pending_of, table_from, state_from, machine_from, Clear, IsFirstInto, IsStep, Answers, settled, ClearReply, clear_entry, DoesClear, member_count, IsLeastOn, AreRead}
 use Rattle.std.specs.FinSet as set
 use Rattle.g1_core.specs.Table.{Table}
 use Rattle.g1_core.specs.declared.config.Settings.{Settings}
@@ -16,10 +16,13 @@ use Rattle.g1_core.proofs.LeastSlotLemmas.{read_table}
 use Rattle.g1_core.proofs.ChangeLemmas.{read_core}
 use Rattle.g1_core.proofs.SoundLemmas.{core_sound, core_later, same_later, step_later}
 
-pub few_members : (sets : Pairs) (heap : Cells) (region : ℕ) → AreTied sets → length (list_at sets.lists region) ≤ member_count (table_from heap sets.pairs) region
-few_members sets heap region tied = few_distinct pair_total pair_exact (λ (card : ℕ). (card, region)) (λ a b. ap (λ (p : ℕ × ℕ). p.0)) (list_at sets.lists region) (set.retain sets.pairs (λ pair. eqb pair.1 region)) (tied.lists.distinct region) (λ card c.
+-- how many slots are read for the members of a region
+pub few_read : (sets : Pairs) (heap now : Cells) (region : ℕ) → AreTied sets → AreRead heap now (length (list_at sets.lists region) * heap.layout.slots) → now.reads ≤ heap.reads + member_count (table_from heap sets.pairs) region * heap.layout.slots
+few_read sets heap now region tied read =
+    let few : length (list_at sets.lists region) ≤ member_count (table_from heap sets.pairs) region = few_distinct pair_total pair_exact (λ (card : ℕ). (card, region)) (λ a b. ap (λ (p : ℕ × ℕ). p.0)) (list_at sets.lists region) (set.retain sets.pairs (λ pair. eqb pair.1 region)) (tied.lists.distinct region) (λ card c.
     set.contains-retain sets.pairs (λ pair. eqb pair.1 region) (card, region) (λ x e. ap (λ (q : ℕ × ℕ). eqb q.1 region) (sym (pair_exact (card, region) x e)))
-    ∙ and_from _ _ ((tied.members card region).0 c) (eq-eqb region region refl))
+    ∙ and_from _ _ ((tied.members card region).0 c) (eq-eqb region region refl)) in
+    omega (arith, read.few, mul-le-mul_right heap.layout.slots few)
 
 -- where nothing is pending, cover has the card of each slot that enters the region recorded
 module _ (t : Table) (region : ℕ) (cards : List ℕ) (none : t.pending ≡ set.empty) (cover : IsCovered t) (recorded : (card : ℕ) → IsRecorded t card region → Contains cards card) where
@@ -77,11 +80,6 @@ module _ (heap : Cells) (sets : Pairs) (ring : Ring) (pending : ℕ) (settings :
     empty : pending_of heap.marks ≡ set.empty
     empty = none_of (pending_of heap.marks) (omega (arith, core.parts.known))
 
-    few_reads : now.reads ≤ heap.reads + member_count t region * heap.layout.slots
-    few_reads =
-        let fits : length (list_at sets.lists region) * heap.layout.slots ≤ member_count t region * heap.layout.slots = mul-le-mul (few_members sets heap region tied) (omega arith) in
-        omega (arith, read.few)
-
     contradicted : 1 ≤ set.len (pending_of heap.marks) → now.reads ≡ heap.reads
     contradicted some = absurd (omega (arith, core.parts.known))
 
@@ -100,7 +98,7 @@ module _ (heap : Cells) (sets : Pairs) (ring : Ring) (pending : ℕ) (settings :
         let same : state_from now sets.pairs ring ≡ m.state = ap (λ (h : Cells). state_from h sets.pairs ring) read.cells in
         seen (clear_reply.StillReferenced slot) now sets (record {
           core = kept;
-          did = record { refused = λ _. record { state = same; settings = refl; reads = read.grown }; ring = refl; unread = contradicted; reads = few_reads };
+          did = record { refused = λ _. record { state = same; settings = refl; reads = read.grown }; ring = refl; unread = contradicted; reads = few_read sets heap now region tied read };
           step = λ caller. clear_step caller t (table_from now sets.pairs) region (clear_reply.StillReferenced slot) inside (λ after. (refl, empty, first_enters t region (list_at sets.lists region) empty core.parts.cover recorded slot least)) same_table;
           later = same_later m (machine_from now sets.pairs ring settings) same refl (core_sound heap sets ring pending core) read.grown;
         })
@@ -123,7 +121,7 @@ module _ (heap : Cells) (sets : Pairs) (ring : Ring) (pending : ℕ) (settings :
       pub granted_at : IsClearedTo machine region clear_reply.Cleared now sets' ring pending settings
       granted_at = seen clear_reply.Cleared now sets' (record {
         core = cleared_core;
-        did = record { refused = λ not. absurd (not refl); ring = refl; unread = contradicted; reads = few_reads };
+        did = record { refused = λ not. absurd (not refl); ring = refl; unread = contradicted; reads = few_read sets heap now region tied read };
         step = cleared_step;
         later = step_later m (machine_from now sets'.pairs ring settings) (clear_entry 0 region clear_reply.Cleared) (cleared_step 0) refl (core_sound now sets' ring pending cleared_core) read.grown;
       })

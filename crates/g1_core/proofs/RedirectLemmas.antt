@@ -4,7 +4,7 @@ use Rattle.g1_core.specs.{ℕ, List, length, refl, sym, ap, ◌∙◌, subst, ar
 use Rattle.std.specs.FinSet as set
 use Rattle.g1_core.specs.Machine.{Machine}
 use Rattle.g1_core.specs.Table.{Table}
-use Rattle.g1_core.proofs.ClearLemmas.{few_members}
+use Rattle.g1_core.proofs.ClearLemmas.{few_read}
 use Rattle.g1_core.specs.declared.config.Settings.{Settings}
 use Rattle.g1_core.specs.declared.reply.Redirected.TheVariants as answers
 use Rattle.g1_core.proofs.ChangeLemmas.{read_core}
@@ -25,15 +25,10 @@ module _ (heap : Cells) (sets : Pairs) (ring : Ring) (pending : ℕ) (settings :
   none_pending : pending_of heap.marks ≡ set.empty
   none_pending = subst (λ (m : Machine). m.state.table.pending ≡ set.empty) (sym view) nothing
 
-  few_read : now.reads ≤ heap.reads + member_count (table_from heap sets.pairs) from * heap.layout.slots
-  few_read =
-      let fits : length (list_at sets.lists from) * heap.layout.slots ≤ member_count (table_from heap sets.pairs) from * heap.layout.slots = mul-le-mul (few_members sets heap from tied) (omega arith) in
-      omega (arith, read.few)
-
   -- they are only read
   pub members_read : (sets' : Pairs) → sets' ≡ sets → AreMembersRead machine from (machine_from now sets'.pairs ring settings)
   members_read sets' same = subst (λ (s : Pairs). AreMembersRead machine from (machine_from now s.pairs ring settings)) (sym same)
-      (subst (λ (m : Machine). AreMembersRead m from (machine_from now sets.pairs ring settings)) view (record { state = ap (λ (h : Cells). state_from h sets.pairs ring) read.cells; settings = refl; grown = read.grown; reads = few_read }))
+      (subst (λ (m : Machine). AreMembersRead m from (machine_from now sets.pairs ring settings)) view (record { state = ap (λ (h : Cells). state_from h sets.pairs ring) read.cells; settings = refl; grown = read.grown; reads = few_read sets heap now from tied read }))
 
   pub members_core : (sets' : Pairs) → sets' ≡ sets → IsCore now sets' ring pending
   members_core sets' same = subst (λ (s : Pairs). IsCore now s ring pending) (sym same) (read_core heap now sets ring pending _ core read)
@@ -72,7 +67,7 @@ module _ (heap : Cells) (sets : Pairs) (ring : Ring) (pending : ℕ) (settings :
             state = moved_state heap sets ring pending core from to apart to_inside none_pending tied gaining gains now heap' sets' _ read (layout ∙ more_layout) ep eh;
             settings = refl;
             grown = omega (arith, reads, read.grown);
-            reads = omega (arith, reads, few_read);
+            reads = omega (arith, reads, few_read sets heap now from tied read);
           };
         })
 

@@ -122,19 +122,14 @@ module _ (t : Table) (slot : ℕ) (target : Option ℕ) where
       let is : target ≡ Some place = sym (get_or-set_same t.refs slot target None inside) ∙ x.refers in
       subst (λ o. IsPending (stored t slot o) (card_of t.layout slot)) (sym is) (store_marks t slot place x.across)
 
-  other_slot : IsCovered t → (other place : ℕ) → other ≢ slot → Crosses (stored t slot target) other place → IsPending (stored t slot target) (card_of t.layout other) ⊎ IsRecorded (stored t slot target) (card_of t.layout other) (region_of t.layout place)
-  other_slot cover other place apart x =
-      let old : Crosses t other place = record { refers = sym (get_or-set_other t.refs slot other target None apart) ∙ x.refers; across = x.across } in
-      elim (cover other place old) [
-        | inl p ↦ inl (stored_pending t slot target (card_of t.layout other) ∙ or_left _ _ p)
-        | inr r ↦ inr r
-      ]
-
   pub stored_covered : IsCovered t → IsCovered (stored t slot target)
   stored_covered cover other place x =
       elim (cases_eq other slot) [
         | inl is ↦ inl (subst (λ s. IsPending (stored t slot target) (card_of t.layout s)) (sym is) (same_slot place (subst (λ s. Crosses (stored t slot target) s place) is x)))
-        | inr apart ↦ other_slot cover other place apart x
+        | inr apart ↦ elim (cover other place (record { refers = sym (get_or-set_other t.refs slot other target None apart) ∙ x.refers; across = x.across })) [
+          | inl p ↦ inl (stored_pending t slot target (card_of t.layout other) ∙ or_left _ _ p)
+          | inr r ↦ inr r
+        ]
       ]
 
 pub nothing_refers : (n slot place : ℕ) → get_or (replicate n None) slot None ≡ Some place → ⊥
