@@ -1,5 +1,5 @@
 -- References, marks and pairs that are taken over one by one.
-use Rattle.std.specs.Prelude.{◌≡◌, ◌+◌, ◌<◌, ◌∷◌, ◌++◌, ◌||◌, ◌-◌}
+use Rattle.std.specs.Prelude.{◌≡◌, ◌+◌, ◌<◌, ◌∷◌, ◌++◌, ◌-◌}
 use Rattle.g1_core.specs.{ℕ, Bool, true, false, List, [], length, take, drop, get_or, refl, sym, ap, ◌∙◌, arith, replicate, false_from_ne_true, get_or-map, length-map, length-replicate, take_more, pair_cmp, Mark, Clean, Dirty, of_card, pending_of, mark_for, marks_for, append_assoc, length-append}
 use Rattle.std.proofs.Common.{add-one, drop-cons, set as list_set}
 use Rattle.std.proofs.lemmas.List.{get_or-append_right, get_or-drop, length-drop, length-take, set-append_right, set-get_or}
@@ -25,16 +25,13 @@ module _ {X : Type 0} where
   pub keep_next : (xs ys : List X) (i : ℕ) (d : X) → i < length xs → i < length ys → get_or xs i d ≡ get_or ys i d → take i xs ++ drop i ys ≡ take (i + 1) xs ++ drop (i + 1) ys
   keep_next xs ys i d lt lt' e = sym (set-get_or (take i xs ++ drop i ys) i d) ∙ ap (list_set (take i xs ++ drop i ys) i) ((at_place xs ys i d lt lt').0 ∙ sym e) ∙ put_next xs ys i d lt lt'
 
-last : (a b : Bool) → (a || (b || false)) ≡ (b || a)
-last a b = grind arith
-
 -- one more pair is recorded
 module _ (pairs : List (ℕ × ℕ)) (i : ℕ) (p : ℕ × ℕ) (lt : i < length pairs) (is : p ≡ get_or pairs i p) where
   whole : take (i + 1) pairs ≡ take i pairs ++ p ∷ []
   whole = take_more pairs i p lt ∙ ap (λ (q : ℕ × ℕ). take i pairs ++ q ∷ []) (sym is)
 
   pub record_next : set.union (set.from_list {R = pair_cmp} (take i pairs)) (of_card p.0 (p.1 ∷ [])) ≡ set.from_list (take (i + 1) pairs)
-  record_next = set.same_set pair_total pair_exact _ _ (λ x. simp (set.contains-union pair_total, set.contains-insert pair_total, set.contains-empty) (search last)) ∙ sym (ap (λ (ps : List (ℕ × ℕ)). set.from_list {R = pair_cmp} ps) whole ∙ set.from_list_push pair_total pair_exact (take i pairs) p)
+  record_next = set.same_set pair_total pair_exact _ _ (λ x. simp (set.contains-union pair_total, set.contains-insert pair_total, set.contains-empty) (grind arith)) ∙ sym (ap (λ (ps : List (ℕ × ℕ)). set.from_list {R = pair_cmp} ps) whole ∙ set.from_list_push pair_total pair_exact (take i pairs) p)
 
 -- one more card is marked, or is not
 module _ (marked : List Bool) (n i : ℕ) (lt : i < length marked) (count : length marked ≡ n) where

@@ -71,12 +71,9 @@ module _ (l : Shape) (from to : ℕ) where
           let kept : map (moved_target l from to) (enumerate_from 0 (list_set refs s v)) ≡ map (moved_target l from to) (enumerate_from 0 refs) = map_set refs None (moved_target l from to) None s v inside (left_stays s v (moved_away s c.old) ∙ sym c.moves) in
           let fewer : count_by (enters l from) (enumerate_from 0 (list_set refs s v)) + 1 ≡ count_by (enters l from) (enumerate_from 0 refs) = count_set refs None (enters l from) s v inside (moved_away s c.old) c.enters in (
             ap (λ (cs : List Change). changed refs cs) all ∙ rest.0 ∙ kept,
-            ap (λ (cs : List Change). length cs) all ∙ one_more_is (length (changes_of l (list_set refs s v) from to slots)) _ _ rest.1 fewer,
+            omega (arith, ap (λ (cs : List Change). length cs) all, rest.1, fewer),
           )
     ]
-      where
-        one_more_is : (n m k : ℕ) → n ≡ m → m + 1 ≡ k → suc n ≡ k
-        one_more_is n m k a b = omega arith
 
 -- places stay within the heap
 pub changed_places : (l : Shape) (changes : List Change) (refs : List (Option ℕ)) → All (λ target. IfSome target (λ place. place < slot_count l)) refs → All (λ change. change.place < slot_count l) changes → All (λ target. IfSome target (λ place. place < slot_count l)) (changed refs changes)

@@ -89,9 +89,6 @@ module _ (heap : Cells) (sets : Pairs) (ring : Ring) (pending : ℕ) (settings :
     kept : IsCore now sets ring pending
     kept = read_core heap now sets ring pending _ core read
 
-    same_table : table_from now sets.pairs ≡ t
-    same_table = read_table heap now _ sets.pairs read
-
     -- a slot still enters the region
     pub entered_at : (slot : ℕ) → IsLeastOn t (list_at sets.lists region) region (Some slot) → IsClearedTo machine region (clear_reply.StillReferenced slot) now sets ring pending settings
     entered_at slot least =
@@ -99,7 +96,7 @@ module _ (heap : Cells) (sets : Pairs) (ring : Ring) (pending : ℕ) (settings :
         seen (clear_reply.StillReferenced slot) now sets (record {
           core = kept;
           did = record { refused = λ _. record { state = same; settings = refl; reads = read.grown }; ring = refl; unread = contradicted; reads = few_read sets heap now region tied read };
-          step = λ caller. clear_step caller t (table_from now sets.pairs) region (clear_reply.StillReferenced slot) inside (λ after. (refl, empty, first_enters t region (list_at sets.lists region) empty core.parts.cover recorded slot least)) same_table;
+          step = λ caller. clear_step caller t (table_from now sets.pairs) region (clear_reply.StillReferenced slot) inside (λ after. (refl, empty, first_enters t region (list_at sets.lists region) empty core.parts.cover recorded slot least)) (read_table heap now _ sets.pairs read);
           later = same_later m (machine_from now sets.pairs ring settings) same refl (core_sound heap sets ring pending core) read.grown;
         })
 

@@ -1,6 +1,6 @@
 -- The card table and the set of pending cards.
 use Rattle.std.specs.Prelude.{◌≡◌, ◌≢◌, ◌⊎◌, ◌<◌, ◌≤◌, ◌+◌, ◌-◌, ◌∷◌, ◌↔◌, ◌&&◌, ◌||◌}
-use Rattle.g1_core.specs.{inl, inr, ℕ, zero, suc, Bool, true, false, cond, List, [], length, get_or, Some, refl, sym, ap, ◌∙◌, arith, Contains, not, enumerate_from, filter_map, nat_cmp, eq_by_cmp, nat_cmp_total, eq_by_cmp_equiv, exact_unsigned, cases_lt, cases_eq, or_left, true≢false, get_or-set_same, get_or-set_other, get_or_past, length-enumerate_from, Mark, Clean, Dirty, Held, pending_of, marked_card, CardSet, set_of}
+use Rattle.g1_core.specs.{inl, inr, ℕ, zero, suc, true, false, cond, List, [], length, get_or, Some, refl, sym, ap, ◌∙◌, arith, Contains, not, enumerate_from, filter_map, nat_cmp, eq_by_cmp, nat_cmp_total, eq_by_cmp_equiv, exact_unsigned, cases_lt, cases_eq, or_left, true≢false, get_or-set_same, get_or-set_other, get_or_past, length-enumerate_from, Mark, Clean, Dirty, Held, pending_of, marked_card, CardSet, set_of}
 use Rattle.std.proofs.Common.{set as list_set}
 use Rattle.std.proofs.lemmas.Bool.{cases_cond}
 use Rattle.std.specs.FinSet as set
@@ -54,11 +54,8 @@ apart q card ne = grind arith
 removed : (cards : CardSet) (card : ℕ) → set.contains (set.remove cards card) card ≡ false
 removed cards card = set.contains-remove nat_cmp_total cards card card ∙ ap (λ b. not b && set.contains cards card) ((eq_by_cmp_equiv nat_cmp_total).refl card)
 
-but_one : (a b : Bool) → (a && not (b || false)) ≡ (not b && a)
-but_one a b = grind arith
-
 without_one : (cards : CardSet) (card : ℕ) → set.difference cards (set_of (card ∷ [])) ≡ set.remove cards card
-without_one cards card = set.same_set nat_cmp_total exact_unsigned _ _ (λ q. simp (set.contains-difference nat_cmp_total, set.contains-remove nat_cmp_total, set.contains-insert nat_cmp_total, set.contains-empty) (search but_one))
+without_one cards card = set.same_set nat_cmp_total exact_unsigned _ _ (λ q. simp (set.contains-difference nat_cmp_total, set.contains-remove nat_cmp_total, set.contains-insert nat_cmp_total, set.contains-empty) (grind arith))
 
 -- one mark is written
 module _ (marks : List Mark) (card : ℕ) (mark : Mark) (inside : card < length marks) where

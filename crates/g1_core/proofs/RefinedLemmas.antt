@@ -1,39 +1,29 @@
 -- Refining some cards and then others.
-use Rattle.std.specs.Prelude.{◌≡◌, ◌∷◌, ◌++◌, ◌&&◌, ◌||◌}
-use Rattle.g1_core.specs.{inl, inr, ℕ, List, [], sym, ap, ◌∙◌, Contains, nat_eq, not, IsDistinct, nat_cmp, nat_eq_equiv, IsDistinct-push, eqb-true, or_cases, or_left, and_parts, and_from, not-true, true≢false, false_from_ne_true, All-push, set_of, IsPending, AreRefinable, refined, Bool, arith, nat_cmp_total, exact_unsigned, suc, true, All-contains, Contains-push_cases, append-nil, append_assoc, subst, refl}
+use Rattle.std.specs.Prelude.{◌≡◌, ◌∷◌, ◌++◌, ◌||◌}
+use Rattle.g1_core.specs.{inl, inr, ℕ, List, [], sym, ◌∙◌, Contains, nat_eq, not, IsDistinct, nat_cmp, nat_eq_equiv, IsDistinct-push, eqb-true, and_parts, not-true, true≢false, false_from_ne_true, All-push, set_of, IsPending, AreRefinable, refined, arith, nat_cmp_total, exact_unsigned, suc, true, All-contains, Contains-push_cases, append-nil, append_assoc, subst, refl}
 use Rattle.std.specs.FinSet as set
 use Rattle.std.proofs.lemmas.List.Elements.{All-append}
 use Rattle.std.proofs.lemmas.List.Folds.{list_any-append}
 use Rattle.std.proofs.lemmas.Map.Views.{Contains-from_any}
 use Rattle.g1_core.specs.Table.{Table}
-use Rattle.g1_core.proofs.SetLemmas.{same_cards, same_pairs, in_set, pair_total, pair_exact, All_by_member, front_apart, rest_distinct}
+use Rattle.g1_core.proofs.SetLemmas.{in_set, pair_total, pair_exact, All_by_member, front_apart, rest_distinct}
 use Rattle.g1_core.proofs.TableLemmas.{refined_pending, refined_recorded}
 
 -- refining nothing changes nothing
 pub refined_none : (t : Table) → refined [] t ≡ t
 refined_none t =
-    let pending : set.difference t.pending (set_of []) ≡ t.pending = same_cards _ _
-    (λ q h. (and_parts _ _ (sym (refined_pending [] t q) ∙ h)).0)
-    (λ q h. refined_pending [] t q ∙ and_from _ _ h (ap not (set.contains-empty nat_cmp q))) in
-    let recorded : (refined [] t).recorded ≡ t.recorded = same_pairs _ _
-    (λ p h. elim (or_cases _ _ (sym (refined_recorded [] t p) ∙ h)) [ inl o ↦ o | inr m ↦ absurd (true≢false (sym (and_parts _ _ m).1 ∙ set.contains-empty nat_cmp p.0)) ])
-    (λ p h. refined_recorded [] t p ∙ or_left _ _ h) in
+    let pending : (refined [] t).pending ≡ t.pending = set.same_set nat_cmp_total exact_unsigned _ _ (λ q. rw (refined_pending [] t q, set.contains-empty nat_cmp q) (grind arith)) in
+    let recorded : (refined [] t).recorded ≡ t.recorded = set.same_set pair_total pair_exact _ _ (λ p. rw (refined_recorded [] t p, set.contains-empty nat_cmp p.0) (grind arith)) in
     λ i. record { layout = t.layout; refs = t.refs; pending = pending i; recorded = recorded i }
 
 set_both : (xs ys : List ℕ) (q : ℕ) → set.contains (set_of (xs ++ ys)) q ≡ (set.contains (set_of xs) q || set.contains (set_of ys) q)
 set_both xs ys q = simp (set.contains-from_list nat_cmp_total, list_any-append)
 
-neither : (a b c : Bool) → ((a && not b) && not c) ≡ (a && not (b || c))
-neither a b c = grind arith
-
-either : (a b c d : Bool) → ((a || (b && c)) || (b && d)) ≡ (a || (b && (c || d)))
-either a b c d = grind arith
-
 -- refining some cards and then others refines them all
 pub refined_both : (xs ys : List ℕ) (t : Table) → refined ys (refined xs t) ≡ refined (xs ++ ys) t
 refined_both xs ys t =
-    let pending : (refined ys (refined xs t)).pending ≡ (refined (xs ++ ys) t).pending = set.same_set nat_cmp_total exact_unsigned _ _ (λ q. simp (refined_pending, set_both) (search neither)) in
-    let recorded : (refined ys (refined xs t)).recorded ≡ (refined (xs ++ ys) t).recorded = set.same_set pair_total pair_exact _ _ (λ p. rw (refined_recorded ys (refined xs t) p, refined_recorded xs t p, refined_recorded (xs ++ ys) t p, set_both xs ys p.0) (search either)) in
+    let pending : (refined ys (refined xs t)).pending ≡ (refined (xs ++ ys) t).pending = set.same_set nat_cmp_total exact_unsigned _ _ (λ q. simp (refined_pending, set_both) (grind arith)) in
+    let recorded : (refined ys (refined xs t)).recorded ≡ (refined (xs ++ ys) t).recorded = set.same_set pair_total pair_exact _ _ (λ p. rw (refined_recorded ys (refined xs t) p, refined_recorded xs t p, refined_recorded (xs ++ ys) t p, set_both xs ys p.0) (grind arith)) in
     λ i. record { layout = t.layout; refs = t.refs; pending = pending i; recorded = recorded i }
 
 pub push_distinct : (xs : List ℕ) (x : ℕ) → IsDistinct nat_eq xs → (Contains xs x → ⊥) → IsDistinct nat_eq (xs ++ x ∷ [])

@@ -33,8 +33,7 @@ module _ (heap : Cells) (pairs : PairSet) (ring : Ring) (pending : ℕ) (parts :
 
   pub plain_state : kind ≢ Logged → state_from (with_ref heap slot target) pairs ring ≡ record { table = stored t slot target; ring = ring }
   plain_state ne =
-      let same : pending_of heap.marks ≡ pending_after (kind_of t slot target) (pending_of heap.marks) (card_of heap.layout slot) =
-      sym (ap (λ k. pending_after k (pending_of heap.marks) (card_of heap.layout slot)) (sym kind_is) ∙ pending_plain kind (pending_of heap.marks) (card_of heap.layout slot) ne) in
+      let same : pending_of heap.marks ≡ pending_after (kind_of t slot target) (pending_of heap.marks) (card_of heap.layout slot) = rw (← kind_is, pending_plain kind (pending_of heap.marks) (card_of heap.layout slot) ne) refl in
       λ i. record { table = record { layout = heap.layout; refs = list_set heap.refs slot target; pending = same i; recorded = pairs }; ring = ring }
 
   written_cells : AreCells (with_ref heap slot target)
@@ -65,9 +64,7 @@ module _ (heap : Cells) (pairs : PairSet) (ring : Ring) (pending : ℕ) (parts :
 
     pub logged_state : state_from (with_mark (with_ref heap slot target) card Dirty) pairs ring ≡ record { table = stored t slot target; ring = ring }
     logged_state =
-        let dirty : pending_of (list_set heap.marks card Dirty) ≡ pending_after (kind_of t slot target) (pending_of heap.marks) (card_of heap.layout slot) =
-        marked ∙ ap (set.insert (pending_of heap.marks)) on_card
-        ∙ ap (λ k. pending_after k (pending_of heap.marks) (card_of heap.layout slot)) (sym logged ∙ kind_is) in
+        let dirty : pending_of (list_set heap.marks card Dirty) ≡ pending_after (kind_of t slot target) (pending_of heap.marks) (card_of heap.layout slot) = rw (marked, on_card, ← kind_is, logged) refl in
         λ i. record { table = record { layout = heap.layout; refs = list_set heap.refs slot target; pending = dirty i; recorded = pairs }; ring = ring }
 
     pub logged_parts : AreParts (with_mark (with_ref heap slot target) card Dirty) pairs ring pending'
