@@ -6,7 +6,7 @@ use Rattle.g1_layout.specs.declared.region_set.RegionSet.{RegionSet}
 use Rattle.g1_layout.specs.Regions.{HasRegion}
 use Rattle.g1_core.specs.Table.{Table}
 use Rattle.g1_core.proofs.SetLemmas.{in_pairs, to_pairs, of_card_from, of_card_to, pair_total, in_list, in_set, pair_exact}
-use Rattle.g1_core.proofs.TableLemmas.{refined_recorded, held_from_Holds, Holds_from_held, or_none}
+use Rattle.g1_core.proofs.TableLemmas.{refined_recorded, held_from_Holds, Holds_from_held}
 use Rattle.g1_core.proofs.MarkLemmas.{one_of, itself}
 
 same_or : (a b c : Bool) → (b ≡ true → c ≡ true) → (a ≡ false → c ≡ true → b ≡ true) → (a || b) ≡ (a || c)
@@ -27,5 +27,5 @@ module _ (heap : Cells) (pairs : PairSet) (card : ℕ) (known : RegionSet) (row 
 
   -- where there is none it adds nothing
   pub gained_nothing : (targets : List ℕ) → length targets ≡ 0 → ((r : ℕ) → Contains targets r ↔ (HoldsIn heap.layout heap.refs card r × ¬ HasRegion known r)) → pairs ≡ gained heap pairs card
-  gained_nothing [] none h = set.same_set pair_total pair_exact _ _ (λ p. simp (set.contains-union pair_total, set.contains-empty) (or_none _)) ∙ gained_is [] h
+  gained_nothing [] none h = set.same_set pair_total pair_exact _ _ (λ p. simp (set.contains-union pair_total, set.contains-empty) (grind arith)) ∙ gained_is [] h
   gained_nothing (r ∷ rs) none h = absurd (omega (arith, none))

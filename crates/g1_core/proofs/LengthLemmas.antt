@@ -1,6 +1,6 @@
 -- How long the lists of a reply can be.
 use Rattle.std.specs.Prelude.{◌≡◌, ◌≤◌, ◌+◌, ◌*◌, ◌∷◌}
-use Rattle.g1_core.specs.{ℕ, List, [], length, take, Option, Some, None, refl, ap, arith, length-append, reads_after, Offer, Kept, RefineReply, AreRefinable, refined, State, Round, refined_by, hot_by, skipped_by, offer_to, turn, turns, start, IsTurned, IsIdle, AreCardsRead, DoesRefine, nat_cmp_total, exact_unsigned, All-contains, IsPending}
+use Rattle.g1_core.specs.{ℕ, List, [], length, take, Option, Some, None, refl, ap, arith, length-append, reads_after, Offer, RefineReply, AreRefinable, refined, State, Round, refined_by, hot_by, skipped_by, offer_to, turn, turns, start, IsTurned, IsIdle, AreCardsRead, DoesRefine, nat_cmp_total, exact_unsigned, All-contains, IsPending}
 use Rattle.std.proofs.lemmas.Bool.{cases_cond}
 use Rattle.std.proofs.lemmas.List.{length-take}
 use Rattle.std.specs.FinSet as set
@@ -14,9 +14,7 @@ refined_few t cards h = few_distinct nat_cmp_total exact_unsigned (λ k. k) (λ 
 
 -- a turn refines one card at most, a card that it skips is not refined, and it counts one hot card at most
 one_at_most : (card : ℕ) (o : Option Offer) → (length (refined_by card o) + skipped_by o ≤ 1) × (hot_by o ≤ 1)
-one_at_most card None = omega arith
-one_at_most card (Some Kept) = omega arith
-one_at_most card (Some _) = omega arith
+one_at_most card o = grind arith
 
 turns_few : (cards : List ℕ) (r : Round) → (length (turns r cards).refined + (turns r cards).skipped ≤ length r.refined + r.skipped + length cards) × ((turns r cards).hot ≤ r.hot + length cards)
 turns_few [] r = omega arith

@@ -1,6 +1,6 @@
 -- The card table and the set of pending cards.
-use Rattle.std.specs.Prelude.{◌≡◌, ◌≢◌, ◌⊎◌, ◌<◌, ◌≤◌, ◌+◌, ◌-◌, ◌∷◌, ◌↔◌, ◌&&◌, ◌||◌}
-use Rattle.g1_core.specs.{inl, inr, ℕ, zero, suc, true, false, cond, List, [], length, get_or, Some, refl, sym, ap, ◌∙◌, arith, Contains, not, enumerate_from, filter_map, nat_cmp, eq_by_cmp, nat_cmp_total, eq_by_cmp_equiv, exact_unsigned, cases_lt, cases_eq, or_left, true≢false, get_or-set_same, get_or-set_other, get_or_past, length-enumerate_from, Mark, Clean, Dirty, Held, pending_of, marked_card, CardSet, set_of}
+use Rattle.std.specs.Prelude.{◌≡◌, ◌≢◌, ◌⊎◌, ◌<◌, ◌≤◌, ◌+◌, ◌-◌, ◌∷◌, ◌↔◌}
+use Rattle.g1_core.specs.{inl, inr, ℕ, zero, suc, true, false, cond, List, [], length, get_or, Some, refl, sym, ap, ◌∙◌, arith, Contains, enumerate_from, filter_map, nat_cmp, nat_cmp_total, eq_by_cmp_equiv, exact_unsigned, cases_lt, cases_eq, or_left, true≢false, get_or-set_same, get_or-set_other, get_or_past, length-enumerate_from, Mark, Clean, Dirty, Held, pending_of, marked_card, CardSet, set_of}
 use Rattle.std.proofs.Common.{set as list_set}
 use Rattle.std.proofs.lemmas.Bool.{cases_cond}
 use Rattle.std.specs.FinSet as set
@@ -48,12 +48,6 @@ one_of q card (suc k, lt, e) = absurd (omega arith)
 pub itself : (q card : ℕ) → q ≡ card → Contains (card ∷ []) q
 itself q card e = (0, omega arith, sym e)
 
-apart : (q card : ℕ) → q ≢ card → eq_by_cmp nat_cmp q card ≡ false
-apart q card ne = grind arith
-
-removed : (cards : CardSet) (card : ℕ) → set.contains (set.remove cards card) card ≡ false
-removed cards card = set.contains-remove nat_cmp_total cards card card ∙ ap (λ b. not b && set.contains cards card) ((eq_by_cmp_equiv nat_cmp_total).refl card)
-
 without_one : (cards : CardSet) (card : ℕ) → set.difference cards (set_of (card ∷ [])) ≡ set.remove cards card
 without_one cards card = set.same_set nat_cmp_total exact_unsigned _ _ (λ q. simp (set.contains-difference nat_cmp_total, set.contains-remove nat_cmp_total, set.contains-insert nat_cmp_total, set.contains-empty) (grind arith))
 
@@ -80,12 +74,12 @@ module _ (marks : List Mark) (card : ℕ) (mark : Mark) (inside : card < length 
   -- a card that is marked becomes pending
   pub pending_marked : mark ≢ Clean → pending_of (list_set marks card mark) ≡ set.insert (pending_of marks) card
   pending_marked some = pending_written _ ((λ _. set.contains-insert nat_cmp_total (pending_of marks) card card ∙ or_left _ _ ((eq_by_cmp_equiv nat_cmp_total).refl card)), λ _. some)
-      (λ q ne. set.contains-insert nat_cmp_total (pending_of marks) card q ∙ ap (λ b. b || set.contains (pending_of marks) q) (apart q card ne))
+      (λ q ne. rw (set.contains-insert nat_cmp_total (pending_of marks) card q) (grind arith))
 
   -- a card that is cleaned is pending no more
   pub pending_cleaned : mark ≡ Clean → pending_of (list_set marks card mark) ≡ set.difference (pending_of marks) (set_of (card ∷ []))
-  pending_cleaned none = pending_written (set.remove (pending_of marks) card) ((λ some. absurd (some none)), λ h. absurd (true≢false (sym h ∙ removed (pending_of marks) card)))
-      (λ q ne. set.contains-remove nat_cmp_total (pending_of marks) card q ∙ ap (λ b. not b && set.contains (pending_of marks) q) (apart q card ne)) ∙ sym (without_one (pending_of marks) card)
+  pending_cleaned none = pending_written (set.remove (pending_of marks) card) ((λ some. absurd (some none)), λ h. absurd (true≢false (sym h ∙ rw (set.contains-remove nat_cmp_total (pending_of marks) card card) (grind arith))))
+      (λ q ne. rw (set.contains-remove nat_cmp_total (pending_of marks) card q) (grind arith)) ∙ sym (without_one (pending_of marks) card)
 
   -- another mark of a pending card leaves it pending
   pub pending_kept : mark ≢ Clean → get_or marks card Clean ≢ Clean → pending_of (list_set marks card mark) ≡ pending_of marks

@@ -1,6 +1,6 @@
 -- Worked pauses on the same heap: what a drain, a question for members and a redirect may answer, before and after the first store.
-use Rattle.std.specs.Prelude.{◌≡◌, ◌∷◌}
-use Rattle.g1_core.specs.{inl, inr, ℕ, cond, true, List, [], Some, refl, sym, ap, ◌∙◌, subst, arith, Contains, nat_cmp, Equal-is, true≢false, and_parts, not-true, or_cases, nat_cmp_total, exact_unsigned, Kind, AlreadyDirty, Logged, CardSet, Entry, AreMembers, AreRefinable, IsPending, IsRecorded, refined, members_entry, IsAllowed, drained, kind_of, pending_after, stored, table_of_history}
+use Rattle.std.specs.Prelude.{◌≡◌, ◌∷◌, ◌||◌}
+use Rattle.g1_core.specs.{inl, inr, ℕ, cond, true, List, [], Some, refl, sym, ap, ◌∙◌, subst, arith, Contains, nat_cmp, true≢false, and_parts, not-true, or_cases, nat_cmp_total, Kind, AlreadyDirty, Logged, CardSet, Entry, AreMembers, AreRefinable, IsPending, IsRecorded, refined, members_entry, IsAllowed, drained, kind_of, pending_after, stored, table_of_history, eq_by_cmp, false}
 use Rattle.std.specs.FinSet as set
 use Rattle.g1_core.specs.declared.entry.Call.TheVariants.{Redirect}
 use Rattle.g1_core.specs.declared.entry.Reply.TheVariants as reply
@@ -43,11 +43,9 @@ only_first : (q : ℕ) → IsPending after q → q ≡ 0
 only_first q p =
     let kind : kind_of start 0 (Some 8) ≡ Logged = ap (λ b. cond b AlreadyDirty Logged) (nobody 0) in
     let pending : after.pending ≡ set.insert set.empty 0 = ap (λ (t : Table). t.pending) is_stored ∙ ap (λ (k : Kind). pending_after k set.empty 0) kind in
-    let there : set.contains (set.insert set.empty 0) q ≡ true = ap (λ (s : CardSet). set.contains s q) (sym pending) ∙ p in
-    elim (or_cases _ _ (sym (set.contains-insert nat_cmp_total set.empty 0 q) ∙ there)) [
-      | inl same ↦ exact_unsigned q 0 ((Equal-is (nat_cmp q 0)).0 same)
-      | inr old ↦ absurd (true≢false (sym old ∙ nobody q))
-    ]
+    let there : (eq_by_cmp nat_cmp q 0 || set.contains start.pending q) ≡ true = sym (set.contains-insert nat_cmp_total set.empty 0 q) ∙ ap (λ (s : CardSet). set.contains s q) (sym pending) ∙ p in
+    let none : set.contains start.pending q ≡ false = nobody q in
+    grind arith
 
 refinable : AreRefinable after (0 ∷ [])
 refinable = refinable_push after [] 0 (none_refinable after) (subst (λ (t : Table). IsPending t 0) (sym (refined_none after)) waits)

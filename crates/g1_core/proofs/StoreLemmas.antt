@@ -19,9 +19,7 @@ pending_plain Logged pending card ne = absurd (ne refl)
 pending_plain _ pending card ne = refl
 
 logged_if : (a b : Bool) → cond a SameRegion (cond b AlreadyDirty Logged) ≡ Logged → b ≡ false
-logged_if true b e = cc
-logged_if false true e = cc
-logged_if false false e = refl
+logged_if a b e = grind arith
 
 logged_new : (t : Table) (slot : ℕ) (target : Option ℕ) → kind_of t slot target ≡ Logged → set.contains t.pending (card_of t.layout slot) ≡ false
 logged_new t slot None e = cc

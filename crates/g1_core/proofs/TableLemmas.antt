@@ -6,12 +6,6 @@ use Rattle.std.specs.FinSet as set
 use Rattle.g1_core.specs.Table.{Table}
 use Rattle.g1_core.proofs.SetLemmas.{pair_total, pair_exact, listed, unlisted, same_bools, at_its_place, from_places, to_places}
 
-pub or_none : (a : Bool) → a ≡ (a || false)
-or_none a = grind arith
-
-or_swap : (a b : Bool) → (a || b) ≡ (b || a)
-or_swap a b = grind arith
-
 -- a slot's region is that of its card
 pub region_of_slot : (l : Shape) (slot : ℕ) → region_of_card l (card_of l slot) ≡ region_of l slot
 region_of_slot l slot = div-div-eq-div-mul slot l.slots l.cards ∙ ap (λ k. slot / k) (mul_comm l.slots l.cards)
@@ -103,12 +97,12 @@ dirties l slot None = false
 dirties l slot (Some place) = not (eqb (region_of l slot) (region_of l place))
 
 stored_if : (pending : CardSet) (card c : ℕ) (a b : Bool) → set.contains pending card ≡ b → set.contains (pending_after (cond a SameRegion (cond b AlreadyDirty Logged)) pending card) c ≡ (set.contains pending c || (not a && eq_by_cmp nat_cmp c card))
-stored_if pending card c true b is = or_none _
-stored_if pending card c false false is = set.contains-insert nat_cmp_total pending card c ∙ or_swap (eq_by_cmp nat_cmp c card) (set.contains pending c)
+stored_if pending card c true b is = grind arith
+stored_if pending card c false false is = rw (set.contains-insert nat_cmp_total pending card c) (grind arith)
 stored_if pending card c false true is = same_bools _ _ (or_left _ _) (λ h. elim (or_cases _ _ h) [ inl old ↦ old | inr same ↦ subst (λ (k : ℕ). set.contains pending k ≡ true) (sym (exact_unsigned c card ((Equal-is (nat_cmp c card)).0 same))) is ])
 
 pub stored_pending : (t : Table) (slot : ℕ) (target : Option ℕ) (c : ℕ) → set.contains (stored t slot target).pending c ≡ (set.contains t.pending c || (dirties t.layout slot target && eq_by_cmp nat_cmp c (card_of t.layout slot)))
-stored_pending t slot None c = or_none _
+stored_pending t slot None c = grind arith
 stored_pending t slot (Some place) c = stored_if t.pending (card_of t.layout slot) c (eqb (region_of t.layout slot) (region_of t.layout place)) (set.contains t.pending (card_of t.layout slot)) refl
 
 pub store_marks : (t : Table) (slot place : ℕ) → region_of t.layout slot ≢ region_of t.layout place → IsPending (stored t slot (Some place)) (card_of t.layout slot)
