@@ -1,6 +1,6 @@
 -- The two loops of a drain, which count nothing: over the ring, and over the dirty cards.
 use Rattle.std.specs.Prelude.{◌≡◌, ◌≢◌, ◌<◌, ◌≤◌, ◌+◌, ◌^◌, ◌∷◌, ◌++◌, ◌&&◌}
-use Rattle.g1_core.specs.{inl, inr, ℕ, Bool, true, false, List, [], length, drop, Some, refl, sym, ap, ◌∙◌, subst, arith, Contains, slice_get, cases_lt, and_parts, not-true, true≢false, false_from_ne_true, append-nil, append_assoc, length_push, Contains-push, Contains-append_left, Contains-push_cases, set_of, Ring, popped, AreRefinable, IsPending, refined, State, is_dirty, ring_with, AreDirtyBelow, Drains, IsCardDrained, IsDirtyDrained, IsRingDrained}
+use Rattle.g1_core.specs.{inl, inr, ℕ, Bool, true, false, List, [], length, drop, Some, refl, sym, ap, ◌∙◌, subst, arith, Contains, slice_get, cases_lt, true≢false, false_from_ne_true, append-nil, append_assoc, length_push, Contains-push, Contains-append_left, Contains-push_cases, set_of, Ring, popped, AreRefinable, IsPending, refined, State, is_dirty, ring_with, AreDirtyBelow, Drains, IsCardDrained, IsDirtyDrained, IsRingDrained}
 use Rattle.std.specs.FinSet as set
 use Rattle.g1_core.specs.Table.{Table}
 use Rattle.g1_core.specs.Machine.{Machine}
@@ -9,7 +9,6 @@ use Rattle.g1_sets.proofs.BitLemmas.{increasing_push}
 use Rattle.g1_core.proofs.TableLemmas.{refined_pending}
 use Rattle.g1_core.proofs.MarkLemmas.{one_of}
 use Rattle.g1_core.proofs.RefinedLemmas.{refined_none, refined_both, refinable_push, refinable_both}
-use Rattle.g1_core.proofs.TurnLemmas.{IsDirty, dirty_from, to_dirty}
 use Rattle.g1_core.proofs.PartLemmas.{IsFront, front_of}
 use Rattle.g1_core.proofs.StoreLemmas.{none_refinable}
 use Rattle.g1_core.proofs.ReadLemmas.{none_read, one_read, more_read}
@@ -108,10 +107,7 @@ dirty_more old mid new before cards after bound card h dirty le first k listed =
 pub dirty_all : (old new : Machine) (before after : List ℕ) (bound : ℕ) → IsDirtyDrained old before after bound new → ((card : ℕ) → bound ≤ card → is_dirty new.state card ≡ false) → (card : ℕ) → is_dirty new.state card ≡ false
 dirty_all old new before after bound h none q = elim (cases_lt q bound) [
   | inr above ↦ none q above
-  | inl low ↦ false_from_ne_true _ (λ dirty.
-      let d : IsDirty new.state q = dirty_from new.state q dirty in
-      let pending : IsPending (refined h.gone old.state.table) q = subst (λ t. IsPending t q) h.drains.table d.pending in
-      let parts = and_parts _ _ (sym (refined_pending h.gone old.state.table q) ∙ pending) in
-      let was : is_dirty old.state q ≡ true = to_dirty old.state q parts.0 (λ c. d.apart (subst (λ (r : Ring). Contains r.cards q) (sym h.ring) c)) in
-      true≢false (sym (in_set h.gone q ((h.below.just q).1 (low, was))) ∙ not-true _ parts.1))
+  | inl low ↦
+      let listed : is_dirty old.state q ≡ true → set.contains (set_of h.gone) q ≡ true = λ was. in_set h.gone q ((h.below.just q).1 (low, was)) in
+      rw (h.drains.table, refined_pending h.gone old.state.table q, h.ring) (grind arith)
 ]

@@ -8,7 +8,7 @@ use Rattle.g1_core.proofs.TableLemmas.{region_of_slot, is_slot}
 use Rattle.g1_core.proofs.RunLemmas.{has_slots, holds_outside}
 use Rattle.g1_core.proofs.ClearLemmas.{met}
 use Rattle.g1_core.proofs.MovedLemmas.{moved_covered, moved_known, pair_from, to_pair}
-use Rattle.g1_core.proofs.ChangeLemmas.{change_cases, all_moved, changed_places, of_region_from, of_region_to}
+use Rattle.g1_core.proofs.ChangeLemmas.{IsChanged, change_cases, all_moved, changed_places, of_region_from, of_region_to}
 use Rattle.g1_core.proofs.WalkLemmas.{on_card, its_slot, to_slots, distinct_slots}
 
 -- The references into a region are moved, where nothing is pending.
@@ -44,19 +44,24 @@ module _ (heap : Cells) (sets : Pairs) (ring : Ring) (pending : ℕ) (core : IsC
   pub every_moved : (changed heap.refs changes ≡ map (moved_target l from to) (enumerate_from 0 heap.refs)) × (length changes ≡ count_by (enters l from) (enumerate_from 0 heap.refs))
   every_moved = all_moved l from to some apart (slots_on l members) heap.refs (distinct_slots l shape members (tied.lists.distinct from)) (λ slot h. to_slots l shape members slot (entering slot h))
 
-  -- each change is of a slot that refers, to a place of the heap
-  change_within : (x : Change) → Contains changes x → (x.slot < slot_count l) × (x.place < slot_count l)
-  change_within x c =
-      let k = from_kept (λ slot. change_at l from to slot (get_or heap.refs slot None)) (slots_on l members) x c in
+  -- each change is of a slot that enters
+  changed_from : (slots : List ℕ) (x : Change) → Contains (changes_of l heap.refs from to slots) x
+      → (slot : ℕ) × Contains slots slot × (d : IsChanged l from to slot (get_or heap.refs slot None)) × (let here : Change = record { slot = slot; place = same_offset l d.old to } in here ≡ x)
+  changed_from slots x c =
+      let k = from_kept (λ slot. change_at l from to slot (get_or heap.refs slot None)) slots x c in
       elim (change_cases l from to k.1 (get_or heap.refs k.1 None)) [
         | inl left ↦ let none : None ≡ Some x = sym left.none ∙ k.4 in cc
         | inr d ↦
             let here : Change = record { slot = k.1; place = same_offset l d.old to } in
             let both : Some here ≡ Some x = sym d.change ∙ k.4 in
             let is : here ≡ x = cc in
-            let below : k.1 < length heap.refs = is_slot heap.refs k.1 d.old d.refers in
-            subst (λ (y : Change). (y.slot < slot_count l) × (y.place < slot_count l)) is (omega (arith, core.parts.cells.slots), same_offset_below l d.old to some within)
+            (k.1, (k.0, k.2, k.3), d, is)
       ]
+
+  change_within : (x : Change) → Contains changes x → (x.slot < slot_count l) × (x.place < slot_count l)
+  change_within x c =
+      let s = changed_from (slots_on l members) x c in
+      subst (λ (y : Change). (y.slot < slot_count l) × (y.place < slot_count l)) s.3 (omega (arith, is_slot heap.refs s.0 s.2.old s.2.refers, core.parts.cells.slots), same_offset_below l s.2.old to some within)
 
   pub slots_within : All (λ change. change.slot < slot_count l) changes
   slots_within = All_by_member (λ change. change.slot < slot_count l) changes (λ x c. (change_within x c).0)
@@ -72,16 +77,12 @@ module _ (heap : Cells) (sets : Pairs) (ring : Ring) (pending : ℕ) (core : IsC
         let g = (gains p.0).0 q.1 in
         let null : Change = record { slot = 0; place = 0 } in
         let x : Change = get_or (changes_of l heap.refs from to (slots_of l p.0)) 0 null in
-        let k = from_kept (λ slot. change_at l from to slot (get_or heap.refs slot None)) (slots_of l p.0) x (Contains-get_or (changes_of l heap.refs from to (slots_of l p.0)) 0 null (omega (arith, g.1))) in
-        let on : card_of l k.1 ≡ p.0 = on_card l shape p.0 k.1 (k.0, k.2, k.3) in
-        elim (change_cases l from to k.1 (get_or heap.refs k.1 None)) [
-          | inl left ↦ let none : None ≡ Some x = sym left.none ∙ k.4 in cc
-          | inr d ↦
-              let outside : region_of l k.1 ≢ to = λ e. g.2 (sym (ap (region_of_card l) on) ∙ region_of_slot l k.1 ∙ e) in
-              let is : ◌≡◌ {A = ℕ × ℕ} (card_of l k.1, to) p = λ i. (on i, sym q.0 i) in
-              to_pairs (filter_map (moved_pair l from to) (enumerate_from 0 heap.refs)) p
-              (to_places (moved_pair l from to) heap.refs None k.1 p (is_slot heap.refs k.1 d.old d.refers) (to_pair l from to k.1 (get_or heap.refs k.1 None) d.enters outside ∙ ap Some is))
-        ]
+        let s = changed_from (slots_of l p.0) x (Contains-get_or (changes_of l heap.refs from to (slots_of l p.0)) 0 null (omega (arith, g.1))) in
+        let on : card_of l s.0 ≡ p.0 = on_card l shape p.0 s.0 s.1 in
+        let outside : region_of l s.0 ≢ to = λ e. g.2 (sym (ap (region_of_card l) on) ∙ region_of_slot l s.0 ∙ e) in
+        let is : ◌≡◌ {A = ℕ × ℕ} (card_of l s.0, to) p = λ i. (on i, sym q.0 i) in
+        to_pairs (filter_map (moved_pair l from to) (enumerate_from 0 heap.refs)) p
+        (to_places (moved_pair l from to) heap.refs None s.0 p (is_slot heap.refs s.0 s.2.old s.2.refers) (to_pair l from to s.0 (get_or heap.refs s.0 None) s.2.enters outside ∙ ap Some is))
 
     made_gains : (p : ℕ × ℕ) → set.contains (set.from_list {R = pair_cmp} (filter_map (moved_pair l from to) (enumerate_from 0 heap.refs))) p ≡ true → set.contains (of_region gaining to) p ≡ true
     made_gains p h =
