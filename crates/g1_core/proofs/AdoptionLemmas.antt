@@ -22,8 +22,7 @@ pending_flag marked card h = true_from_ne_false _ (λ e. from_pending (marks_for
 
 -- no mark is that of a held card
 none_held : (b : Bool) → mark_for b ≡ Held → ⊥
-none_held true e = absurd (cc (e))
-none_held false e = absurd (cc (e))
+none_held b e = grind arith
 
 pub never_held : (marked : List Bool) (card : ℕ) → get_or (marks_for marked) card Clean ≡ Held → ⊥
 never_held marked card e = none_held (get_or marked card false) (sym (mark_at marked card) ∙ e)

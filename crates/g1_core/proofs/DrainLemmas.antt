@@ -8,7 +8,7 @@ use Rattle.g1_core.specs.Machine.{Machine}
 use Rattle.g1_core.proofs.SetLemmas.{same_cards}
 use Rattle.g1_core.proofs.TableLemmas.{refined_pending}
 use Rattle.g1_core.proofs.TurnLemmas.{to_dirty}
-use Rattle.g1_core.proofs.DrainLoopLemmas.{drains_both, and_true}
+use Rattle.g1_core.proofs.DrainLoopLemmas.{drains_both}
 
 -- the dirty cards are the same once the ring is drained
 module _ (a b : Machine) (xs : List ℕ) (n : ℕ) (h : IsRingDrained a xs n b) (left : b.state.ring.cards ≡ []) where
@@ -16,7 +16,7 @@ module _ (a b : Machine) (xs : List ℕ) (n : ℕ) (h : IsRingDrained a xs n b) 
   whole_ring = h.order ∙ ap (λ (ys : List ℕ). xs ++ ys) left ∙ append-nil xs
 
   dirty_same : (q : ℕ) → is_dirty b.state q ≡ is_dirty a.state q
-  dirty_same q = rw (h.drains.table, refined_pending xs a.state.table q, left, set.contains-empty nat_cmp q, whole_ring, and_true) refl
+  dirty_same q = rw (h.drains.table, refined_pending xs a.state.table q, left, set.contains-empty nat_cmp q, whole_ring) (grind arith)
 
   below_same : (bound : ℕ) (ys : List ℕ) → AreDirtyBelow b.state bound ys → AreDirtyBelow a.state bound ys
   below_same bound ys k = record {

@@ -1,6 +1,6 @@
 -- The two loops of a drain, which count nothing: over the ring, and over the dirty cards.
-use Rattle.std.specs.Prelude.{◌≡◌, ◌≢◌, ◌<◌, ◌≤◌, ◌+◌, ◌^◌, ◌∷◌, ◌++◌, ◌&&◌}
-use Rattle.g1_core.specs.{inl, inr, ℕ, Bool, true, false, List, [], length, drop, Some, refl, sym, ap, ◌∙◌, subst, arith, Contains, slice_get, cases_lt, true≢false, false_from_ne_true, append-nil, append_assoc, length_push, Contains-push, Contains-append_left, Contains-push_cases, set_of, Ring, popped, AreRefinable, IsPending, refined, State, is_dirty, ring_with, AreDirtyBelow, Drains, IsCardDrained, IsDirtyDrained, IsRingDrained}
+use Rattle.std.specs.Prelude.{◌≡◌, ◌≢◌, ◌<◌, ◌≤◌, ◌+◌, ◌^◌, ◌∷◌, ◌++◌}
+use Rattle.g1_core.specs.{inl, inr, ℕ, true, false, List, [], length, drop, Some, refl, sym, ap, ◌∙◌, subst, arith, Contains, slice_get, cases_lt, true≢false, false_from_ne_true, append-nil, append_assoc, length_push, Contains-push, Contains-append_left, Contains-push_cases, set_of, Ring, popped, AreRefinable, IsPending, refined, State, is_dirty, ring_with, AreDirtyBelow, Drains, IsCardDrained, IsDirtyDrained, IsRingDrained}
 use Rattle.std.specs.FinSet as set
 use Rattle.g1_core.specs.Table.{Table}
 use Rattle.g1_core.specs.Machine.{Machine}
@@ -67,15 +67,11 @@ dirty_none m cards h = record {
   others = λ q le. refl;
 }
 
-pub and_true : (b : Bool) → (b && true) ≡ b
-and_true true = refl
-and_true false = refl
-
 -- another card stays dirty or not
 other_dirty : (old new : Machine) (card q : ℕ) → IsCardDrained old card old.state.ring new → q ≢ card → is_dirty new.state q ≡ is_dirty old.state q
 other_dirty old new card q k ne =
     let absent : set.contains (set_of (card ∷ [])) q ≡ false = false_from_ne_true _ (λ c. ne (one_of q card (in_list (card ∷ []) q c))) in
-    rw (k.table, k.left, refined_pending (card ∷ []) old.state.table q, absent, and_true) refl
+    rw (k.table, k.left, refined_pending (card ∷ []) old.state.table q, absent) (grind arith)
 
 pub dirty_more : (old mid new : Machine) (before cards after : List ℕ) (bound card : ℕ) → IsDirtyDrained old before cards bound mid → is_dirty mid.state card ≡ true → bound ≤ card
     → ((earlier : ℕ) → bound ≤ earlier → earlier < card → is_dirty mid.state earlier ≡ false) → IsCardDrained mid card mid.state.ring new → after ≡ cards ++ card ∷ [] → IsDirtyDrained old before after (card + 1) new

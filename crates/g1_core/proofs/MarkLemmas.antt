@@ -16,18 +16,13 @@ pub dirty_held : (mark : Mark) → mark ≡ Dirty → mark ≢ Held
 dirty_held mark h c = let both : Dirty ≡ Held = sym h ∙ c in cc
 
 pub marked_cases : (mark : Mark) → mark ≢ Clean → (mark ≡ Dirty) ⊎ (mark ≡ Held)
-marked_cases Clean ne = absurd (ne refl)
-marked_cases Dirty ne = inl refl
-marked_cases Held ne = inr refl
+marked_cases mark ne = grind arith
 
 marked : (card : ℕ) (mark : Mark) (q : ℕ) → marked_card (card, mark) ≡ Some q → (card ≡ q) × (mark ≢ Clean)
-marked card Clean q e = cc
-marked card Dirty q e = (cc, λ c. cc)
-marked card Held q e = (cc, λ c. cc)
+marked card mark q e = grind arith
 
 marks_card : (card : ℕ) (mark : Mark) → mark ≢ Clean → marked_card (card, mark) ≡ Some card
-marks_card card Clean ne = absurd (ne refl)
-marks_card card _ ne = refl
+marks_card card mark ne = grind arith
 
 pub from_pending : (marks : List Mark) (q : ℕ) → set.contains (pending_of marks) q ≡ true → get_or marks q Clean ≢ Clean
 from_pending marks q h e =

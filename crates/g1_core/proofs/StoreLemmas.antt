@@ -15,8 +15,7 @@ pub clean_mark : (marks : List Mark) (card : ℕ) → get_or marks card Clean �
 clean_mark marks card e = false_from_ne_true _ (λ h. from_pending marks card h e)
 
 pending_plain : (kind : Kind) (pending : CardSet) (card : ℕ) → kind ≢ Logged → pending_after kind pending card ≡ pending
-pending_plain Logged pending card ne = absurd (ne refl)
-pending_plain _ pending card ne = refl
+pending_plain kind pending card ne = grind arith
 
 logged_if : (a b : Bool) → cond a SameRegion (cond b AlreadyDirty Logged) ≡ Logged → b ≡ false
 logged_if a b e = grind arith
