@@ -1,6 +1,6 @@
 -- The slots of a card that enter a region, as a heap answers one after another.
 use Rattle.std.specs.Prelude.{◌≡◌, ◌≢◌, ◌<◌, ◌≤◌, ◌+◌, ◌-◌, ◌*◌, ◌^◌, ◌∷◌, ◌++◌}
-use Rattle.g1_core.specs.{inl, inr, ℕ, suc, true, cond, List, [], get_or, Option, Some, None, refl, sym, ap, ◌∙◌, subst, arith, not, IfSome, range_with_len, eqb-true, eqb-false, eq-eqb, ne_eqb, and_parts, and_from, not-true, append-nil, Shape, IsShape, slot_count, card_of, region_of, region_of_card, slot_at, same_offset, PairSet, card_of-row, region_of-row, Cells, AreCells, with_reads, Change, table_from, enters, IsLeastOn, AreRead, change_at, changes_of, slots_of, length, Contains, cons_option, card_of-in_row, region_of_slot}
+use Rattle.g1_core.specs.{inl, inr, ℕ, suc, true, cond, List, [], get_or, Option, Some, None, refl, sym, ap, ◌∙◌, subst, arith, not, range_with_len, eqb-true, eqb-false, eq-eqb, ne_eqb, and_parts, and_from, not-true, append-nil, Shape, IsShape, slot_count, card_of, region_of, region_of_card, slot_at, same_offset, PairSet, card_of-row, region_of-row, Cells, AreCells, with_reads, Change, table_from, enters, IsLeastOn, AreRead, change_at, changes_of, slots_of, length, Contains, cons_option, card_of-in_row, region_of_slot}
 use Rattle.g1_heap.specs.Listing.{RefersInto}
 use Rattle.g1_heap.specs.Entering.{HasNoneInto, IsNextInto}
 use Rattle.g1_core.proofs.ChangeLemmas.{change_cases}
@@ -25,9 +25,7 @@ module _ (heap now new : Cells) (offset : ℕ) (before : AreRead heap now offset
 pub place_within : (heap now : Cells) (most : ℕ) (l : Shape) (card from start found place : ℕ) → AreCells heap → AreRead heap now most → l ≡ heap.layout → IsNextInto now.layout now.refs card from start found place → place < slot_count l
 place_within heap now most l card from start found place cells read same next =
     let n : IsNextInto heap.layout heap.refs card from start found place = subst (λ (h : Cells). IsNextInto h.layout h.refs card from start found place) read.cells next in
-    let slot : ℕ = slot_at heap.layout card found in
-    let kept : IfSome (get_or heap.refs slot None) (λ target. target < slot_count heap.layout) = cells.places slot None (is_slot heap.refs slot place n.refers) in
-    subst (λ (l : Shape). place < slot_count l) (sym same) (subst (λ (o : Option ℕ). IfSome o (λ target. target < slot_count heap.layout)) n.refers kept)
+    rw (n.refers, ← same) at (cells.places (slot_at heap.layout card found) None (is_slot heap.refs (slot_at heap.layout card found) place n.refers))
 
 pub slot_on : (l m : Shape) (card offset slot : ℕ) → offset < m.slots → slot ≡ slot_at l card offset → l ≡ m → card_of m slot ≡ card
 slot_on l m card offset slot within at same = ap (card_of m) (at ∙ ap (λ (l : Shape). slot_at l card offset) same) ∙ card_of-row m card offset within

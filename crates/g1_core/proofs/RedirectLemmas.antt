@@ -1,6 +1,6 @@
 -- The redirect, whole and short, is a step of the plain table.
 use Rattle.std.specs.Prelude.{◌≡◌, ◌≢◌, ◌<◌, ◌≤◌, ◌+◌, ◌*◌}
-use Rattle.g1_core.specs.{ℕ, List, length, refl, sym, ap, ◌∙◌, subst, arith, All, enumerate_from, mul-le-mul, length-enumerate_from, count_by-le-length, slot_count, slot_count_limit, Change, State, IsCore, pending_of, table_from, state_from, machine_from, refined, enters, moved, moved_count, changes_of, slots_on, changed, AreGaining, IsMoved, AreMembersRead, IsWholeRedirect, IsShortRedirect, Cells, PairSet, Ring, reset, Pairs, AreTied, list_at, of_region, without, AreRead, member_count, redirect_entry, IsStep, IsAllDrained, IsShortDrain, reset_machine, ring_with, IsDrainOrder}
+use Rattle.g1_core.specs.{ℕ, List, length, refl, sym, ap, ◌∙◌, subst, arith, All, enumerate_from, mul-le-mul, length-enumerate_from, count_by-le-length, slot_count, slot_count_limit, Change, State, IsCore, pending_of, table_from, state_from, machine_from, refined, enters, moved, moved_count, changes_of, slots_on, changed, AreGaining, IsMoved, AreMembersRead, IsWholeRedirect, IsShortRedirect, Cells, Ring, reset, Pairs, AreTied, list_at, of_region, without, AreRead, member_count, redirect_entry, IsStep, IsAllDrained, IsShortDrain, reset_machine, ring_with, IsDrainOrder}
 use Rattle.std.specs.FinSet as set
 use Rattle.g1_core.specs.Machine.{Machine}
 use Rattle.g1_core.specs.Table.{Table}
@@ -56,9 +56,8 @@ module _ (heap : Cells) (sets : Pairs) (ring : Ring) (pending : ℕ) (settings :
     moved_at gaining listed written heap' more sets' count gains gaining_is more_layout more_pairs layout pairs written_is heap_is count_is =
         let all : List Change = changes_of heap.layout heap.refs from to (slots_on heap.layout (list_at sets.lists from)) in
         let h : Cells = record { layout = now.layout; refs = changed now.refs all; marks = now.marks; reads = now.reads } in
-        let eh : heap' ≡ h = heap_is ∙ ap (λ (cs : List Change). let r : Cells = record { layout = now.layout; refs = changed now.refs cs; marks = now.marks; reads = now.reads } in r) (written_is ∙ are) in
-        let ep : sets'.pairs ≡ without (set.union sets.pairs (of_region gaining to)) from =
-        pairs ∙ ap (λ (ps : PairSet). without ps from) (more_pairs ∙ ap (λ (gs : List ℕ). set.union sets.pairs (of_region gs to)) gaining_is) in
+        let eh : heap' ≡ h = rw (heap_is, written_is, are) refl in
+        let ep : sets'.pairs ≡ without (set.union sets.pairs (of_region gaining to)) from = rw (pairs, more_pairs, gaining_is) refl in
         let reads : heap'.reads ≡ now.reads = moved_reads heap sets ring pending core from to apart to_inside none_pending tied gaining gains now heap' sets' _ read (layout ∙ more_layout) ep eh in
         subst (λ (m : Machine). IsMovedTo m from to count heap' sets' ring pending settings) view (record {
           core = moved_core heap sets ring pending core from to apart to_inside none_pending tied gaining gains now heap' sets' _ read (layout ∙ more_layout) ep eh;

@@ -1,4 +1,4 @@
--- Membership in sets of cards and of pairs.
+-- Membership in sets of cards and of pairs, what a filter keeps, and how many members a set has at least.
 use Rattle.std.specs.Prelude.{◌≡◌, ◌<◌, ◌∷◌, ◌+◌, ◌-◌, ◌≤◌}
 use Rattle.g1_core.specs.{ℕ, zero, suc, true, List, [], length, get_or, Option, Some, None, refl, sym, ap, ◌∙◌, subst, arith, Contains, All, Contains-get_or, filter_map, cons_option, nat_cmp_total, exact_unsigned, set_of, enumerate_from, get_or_default, get_or-enumerate_from, length-enumerate_from, inl, inr, cond, not, nat_eq, IsDistinct, IsDistinct-tail, Equal-is, cases_lt, and_from, true≢false, false_from_ne_true}
 use Rattle.std.specs.declared.cmp.Ordering.{Ordering}

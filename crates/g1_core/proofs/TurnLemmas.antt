@@ -101,17 +101,16 @@ module _ (t : Table) (r : Round) (card : ℕ) (h : IsRound t r) where
   skip_placed : IsPlaced (state_after r.state card None)
   skip_placed = record { some = h.placed.some; distinct = h.placed.distinct; pending = subst (λ t. All (IsPending t) r.state.ring.cards) (sym (refined_none r.state.table)) h.placed.pending }
 
-  offered_round : IsDirty r.state card → (o : Offer) → answer r.state.ring card ≡ o → IsRound t (turn_by r card (Some o))
-  offered_round dirty o is =
-      subst (λ (o : Offer). IsRound t (turn_by r card (Some o))) is (elim (answer_cases r.state.ring card h.placed.some) [
-        | inl cold ↦ subst (λ (o : Offer). IsRound t (turn_by r card (Some o))) (sym cold) (by (Some Cold) (one_more card dirty.pending) (cold_placed r.state card h.placed dirty cold))
-        | inr (inl kept) ↦ subst (λ (o : Offer). IsRound t (turn_by r card (Some o))) (sym kept) (by (Some Kept) no_more (kept_placed r.state card h.placed dirty kept))
-        | inr (inr out) ↦ subst (λ (o : Offer). IsRound t (turn_by r card (Some o))) (sym out.answers) (by (Some (Out out.oldest)) (one_more out.oldest (out_pending r.state card h.placed dirty out)) (out_placed r.state card h.placed dirty out))
-      ])
+  offered_round : IsDirty r.state card → IsRound t (turn_by r card (Some (answer r.state.ring card)))
+  offered_round dirty = elim (answer_cases r.state.ring card h.placed.some) [
+    | inl cold ↦ subst (λ (o : Offer). IsRound t (turn_by r card (Some o))) (sym cold) (by (Some Cold) (one_more card dirty.pending) (cold_placed r.state card h.placed dirty cold))
+    | inr (inl kept) ↦ subst (λ (o : Offer). IsRound t (turn_by r card (Some o))) (sym kept) (by (Some Kept) no_more (kept_placed r.state card h.placed dirty kept))
+    | inr (inr out) ↦ subst (λ (o : Offer). IsRound t (turn_by r card (Some o))) (sym out.answers) (by (Some (Out out.oldest)) (one_more out.oldest (out_pending r.state card h.placed dirty out)) (out_placed r.state card h.placed dirty out))
+  ]
 
   pub turn_round : IsRound t (turn r card)
   turn_round = elim (cases_Bool (is_dirty r.state card)) [
-    | inl has ↦ subst (λ b. IsRound t (turn_by r card (cond b (Some (answer r.state.ring card)) None))) (sym has) (offered_round (dirty_from r.state card has) (answer r.state.ring card) refl)
+    | inl has ↦ subst (λ b. IsRound t (turn_by r card (cond b (Some (answer r.state.ring card)) None))) (sym has) (offered_round (dirty_from r.state card has))
     | inr not_so ↦ subst (λ b. IsRound t (turn_by r card (cond b (Some (answer r.state.ring card)) None))) (sym not_so) (by None no_more skip_placed)
   ]
 
