@@ -60,13 +60,11 @@ module _ (l : Shape) (from to : ℕ) where
           let v : Option ℕ = Some (same_offset l c.old to) in
           let here : Change = record { slot = s; place = same_offset l c.old to } in
           let inside : s < length refs = elim (cases_lt s (length refs)) [ inl lt ↦ lt | inr past ↦ let null : None ≡ Some c.old = sym (get_or_past refs s None past) ∙ c.refers in cc ] in
-          let fresh : Contains slots s → ⊥ = front_apart s slots distinct in
-          let written : get_or (list_set refs s v) s None ≡ v = get_or-set_same refs s v None inside in
-          let gone : enters l from (s, get_or (list_set refs s v) s None) ≡ false = ap (λ (o : Option ℕ). enters l from (s, o)) written ∙ moved_away s c.old in
+          let gone : enters l from (s, get_or (list_set refs s v) s None) ≡ false = ap (λ (o : Option ℕ). enters l from (s, o)) (get_or-set_same refs s v None inside) ∙ moved_away s c.old in
           let rest = all_moved slots (list_set refs s v) (rest_distinct s slots distinct) (λ slot h.
           let other : slot ≢ s = λ e. true≢false (sym h ∙ ap (λ (q : ℕ). enters l from (q, get_or (list_set refs s v) q None)) e ∙ gone) in
           Contains-tail s slots slot (λ e. other (sym e)) (each slot (ap (λ (o : Option ℕ). enters l from (slot, o)) (sym (get_or-set_other refs s slot v None other)) ∙ h))) in
-          let same : changes_of l (list_set refs s v) from to slots ≡ changes_of l refs from to slots = same_changes refs s v slots fresh in
+          let same : changes_of l (list_set refs s v) from to slots ≡ changes_of l refs from to slots = same_changes refs s v slots (front_apart s slots distinct) in
           let all : changes_of l refs from to (s ∷ slots) ≡ here ∷ changes_of l (list_set refs s v) from to slots = ap (λ (o : Option Change). cons_option o (changes_of l refs from to slots)) c.change ∙ ap (λ (cs : List Change). here ∷ cs) (sym same) in
           let kept : map (moved_target l from to) (enumerate_from 0 (list_set refs s v)) ≡ map (moved_target l from to) (enumerate_from 0 refs) = map_set refs None (moved_target l from to) None s v inside (left_stays s v (moved_away s c.old) ∙ sym c.moves) in
           let fewer : count_by (enters l from) (enumerate_from 0 (list_set refs s v)) + 1 ≡ count_by (enters l from) (enumerate_from 0 refs) = count_set refs None (enters l from) s v inside (moved_away s c.old) c.enters in (

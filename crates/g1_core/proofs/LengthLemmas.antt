@@ -23,15 +23,12 @@ turns_few (card ∷ cards) r = omega (arith, length-append r.refined (refined_by
 -- no more cards are refined or skipped than the buffer has
 pub turned_few : (old : State) (cards : List ℕ) (reply : RefineReply) (new : State) → IsTurned old cards reply new → length reply.refined + reply.skipped ≤ length cards
 turned_few old cards reply new h =
-    let is : length reply.refined ≡ length (turns (start old) (take h.many cards)).refined = ap (λ (r : Round). length r.refined) h.turned in
-    let skipped : reply.skipped ≡ (turns (start old) (take h.many cards)).skipped = ap (λ (r : Round). r.skipped) h.turned in
-    omega (arith, turns_few (take h.many cards) (start old), length-take h.many cards)
+    omega (arith, ap (λ (r : Round). length r.refined) h.turned, ap (λ (r : Round). r.skipped) h.turned, turns_few (take h.many cards) (start old), length-take h.many cards)
 
 -- nor are more hot, and at most one buffer is done
 pub turned_counts : (old : State) (cards : List ℕ) (reply : RefineReply) (new : State) → IsTurned old cards reply new → (reply.taken ≤ 1) × (reply.hot ≤ length cards)
 turned_counts old cards reply new h =
-    let hot : reply.hot ≡ (turns (start old) (take h.many cards)).hot = ap (λ (r : Round). r.hot) h.turned in
-    (omega (arith, cases_cond reply.short 0 1 reply.taken h.taken), omega (arith, hot, turns_few (take h.many cards) (start old), length-take h.many cards))
+    (omega (arith, cases_cond reply.short 0 1 reply.taken h.taken), omega (arith, ap (λ (r : Round). r.hot) h.turned, turns_few (take h.many cards) (start old), length-take h.many cards))
 
 -- what a refinement does without a buffer, and with one
 pub idle_does : (m : Machine) (reply : RefineReply) → IsIdle reply → m.reads ≡ reads_after m.reads (0 * m.state.table.layout.slots) → DoesRefine None reply m m

@@ -96,9 +96,7 @@ module _ (t : Table) (shape : IsShape t.layout) (slots : length t.refs ≡ slot_
   holds_outside card region h =
       let inside : h.slot < length t.refs = is_slot t.refs h.slot h.place h.refers in
       let place : h.place < slot_count t.layout = subst (λ (o : Option ℕ). IfSome o (λ p. p < slot_count t.layout)) h.refers (places h.slot None inside) in
-      let on : card_of t.layout h.slot < card_count t.layout = card_of_below t.layout h.slot shape (omega (arith, inside, slots)) in
-      let into : region_of t.layout h.place < t.layout.regions = region_of_below t.layout h.place shape place in
-      (omega (arith, on, h.on_card), omega (arith, into, h.into), h.outside)
+      (omega (arith, card_of_below t.layout h.slot shape (omega (arith, inside, slots)), h.on_card), omega (arith, region_of_below t.layout h.place shape place, h.into), h.outside)
 
   pub refined_outside : (cards : List ℕ) → AreOutside t → AreOutside (refined cards t)
   refined_outside cards outside card region r = elim (recorded_cases cards t card region r) [
