@@ -37,9 +37,7 @@ module _ (l : Shape) (from to : ℕ) where
   same_changes refs s v [] apart = refl
   same_changes refs s v (q ∷ slots) apart =
       let other : q ≢ s = λ e. apart (0, omega arith, e) in
-      let here : change_at l from to q (get_or (list_set refs s v) q None) ≡ change_at l from to q (get_or refs q None) = ap (λ (o : Option ℕ). change_at l from to q o) (get_or-set_other refs s q v None other) in
-      let rest : changes_of l (list_set refs s v) from to slots ≡ changes_of l refs from to slots = same_changes refs s v slots (λ c. apart (suc c.0, omega (arith, c.1), c.2)) in
-      λ i. cons_option (here i) (rest i)
+      λ i. cons_option ((ap (λ (o : Option ℕ). change_at l from to q o) (get_or-set_other refs s q v None other)) i) ((same_changes refs s v slots (λ c. apart (suc c.0, omega (arith, c.1), c.2))) i)
 
   module _ (some : 0 < l.cards * l.slots) (apart : from ≢ to) where
     pub moved_away : (slot old : ℕ) → enters l from (slot, Some (same_offset l old to)) ≡ false
@@ -64,8 +62,7 @@ module _ (l : Shape) (from to : ℕ) where
           let rest = all_moved slots (list_set refs s v) (rest_distinct s slots distinct) (λ slot h.
           let other : slot ≢ s = λ e. true≢false (sym h ∙ ap (λ (q : ℕ). enters l from (q, get_or (list_set refs s v) q None)) e ∙ gone) in
           Contains-tail s slots slot (λ e. other (sym e)) (each slot (ap (λ (o : Option ℕ). enters l from (slot, o)) (sym (get_or-set_other refs s slot v None other)) ∙ h))) in
-          let same : changes_of l (list_set refs s v) from to slots ≡ changes_of l refs from to slots = same_changes refs s v slots (front_apart s slots distinct) in
-          let all : changes_of l refs from to (s ∷ slots) ≡ here ∷ changes_of l (list_set refs s v) from to slots = ap (λ (o : Option Change). cons_option o (changes_of l refs from to slots)) c.change ∙ ap (λ (cs : List Change). here ∷ cs) (sym same) in
+          let all : changes_of l refs from to (s ∷ slots) ≡ here ∷ changes_of l (list_set refs s v) from to slots = ap (λ (o : Option Change). cons_option o (changes_of l refs from to slots)) c.change ∙ ap (λ (cs : List Change). here ∷ cs) (sym (same_changes refs s v slots (front_apart s slots distinct))) in
           let kept : map (moved_target l from to) (enumerate_from 0 (list_set refs s v)) ≡ map (moved_target l from to) (enumerate_from 0 refs) = map_set refs None (moved_target l from to) None s v inside (left_stays s v (moved_away s c.old) ∙ sym c.moves) in
           let fewer : count_by (enters l from) (enumerate_from 0 (list_set refs s v)) + 1 ≡ count_by (enters l from) (enumerate_from 0 refs) = count_set refs None (enters l from) s v inside (moved_away s c.old) c.enters in (
             ap (λ (cs : List Change). changed refs cs) all ∙ rest.0 ∙ kept,

@@ -47,9 +47,8 @@ pub ring_more : (old mid new : Machine) (cards after : List ℕ) (card : ℕ) �
 ring_more old mid new cards after card h first k listed =
     let front : IsFront mid.state.ring.cards card = front_of mid.state.ring.cards card first in
     let left : new.state.ring.cards ≡ front.rest = ap (λ (r : Ring). r.cards) k.left ∙ ap (λ (xs : List ℕ). drop 1 xs) front.cards in
-    let more : length cards + 1 ≡ length (cards ++ card ∷ []) = sym (length_push cards card) in
     subst (λ (cs : List ℕ). IsRingDrained old cs (length cs) new) (sym listed) (record {
-      drains = subst (λ n. Drains old (cards ++ card ∷ []) n new) more (drains_both old mid new cards (card ∷ []) (length cards) 1 h.drains (drains_card mid card (popped mid.state.ring) new refl k));
+      drains = subst (λ n. Drains old (cards ++ card ∷ []) n new) (sym (length_push cards card)) (drains_both old mid new cards (card ∷ []) (length cards) 1 h.drains (drains_card mid card (popped mid.state.ring) new refl k));
       order = h.order ∙ ap (λ (xs : List ℕ). cards ++ xs) front.cards ∙ sym (append_assoc cards (card ∷ []) front.rest) ∙ ap (λ (xs : List ℕ). (cards ++ card ∷ []) ++ xs) (sym left);
     })
 

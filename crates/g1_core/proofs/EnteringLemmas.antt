@@ -89,8 +89,7 @@ module _ (l : Shape) (refs : List (Option ℕ)) (from to card : ℕ) where
   pub change_found : (start offset place slot moved : ℕ) → region_of_card l card ≢ from → IsNextInto l refs card from start offset place → slot ≡ slot_at l card offset → moved ≡ same_offset l place to
       → (let c : Change = record { slot = slot; place = moved } in Some c ≡ change_at l from to slot (get_or refs slot None))
   change_found start offset place slot moved outside next at is =
-      let out : region_of l slot ≢ from = λ e. outside (sym (region_of-row l card offset next.within) ∙ ap (region_of l) (sym at) ∙ e) in
-      let enter : enters l from (slot, Some place) ≡ true = and_from _ _ (ap not (ne_eqb _ _ out)) (eq-eqb _ _ next.into) in
+      let enter : enters l from (slot, Some place) ≡ true = and_from _ _ (ap not (ne_eqb _ _ (λ e. outside (sym (region_of-row l card offset next.within) ∙ ap (region_of l) (sym at) ∙ e)))) (eq-eqb _ _ next.into) in
       let c : Change = record { slot = slot; place = same_offset l place to } in
       ap (λ (k : ℕ). let c : Change = record { slot = slot; place = k } in Some c) is
       ∙ sym (ap (λ b. cond {A = Option Change} b (Some c) None) enter)

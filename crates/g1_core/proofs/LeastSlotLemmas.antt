@@ -78,9 +78,7 @@ module _ (t : Table) (shape : IsShape t.layout) (region : ℕ) where
   least_up : (card slot : ℕ) → card_of t.layout slot ≡ card → IsLeastOn t (card ∷ []) region (Some slot) → (other : ℕ) → card ≤ card_of t.layout other → Enters t other region → slot ≤ other
   least_up card slot on first other from e = elim (cases_lt card (card_of t.layout other)) [
     | inl less ↦
-        let here : IsInRow t.layout card slot = row_of_card t.layout card slot shape on in
-        let there : IsInRow t.layout (card_of t.layout other) other = row_of_slot t.layout other shape in
-        omega (arith, here.below, there.from, row_fits card t.layout.slots (card_of t.layout other) t.layout.slots less (omega arith))
+        omega (arith, (row_of_card t.layout card slot shape on).below, (row_of_slot t.layout other shape).from, row_fits card t.layout.slots (card_of t.layout other) t.layout.slots less (omega arith))
     | inr past ↦ let same : card_of t.layout other ≡ card = omega arith in first.1 other (itself (card_of t.layout other) card same) e
   ]
 

@@ -14,8 +14,7 @@ use Rattle.g1_core.proofs.StoreLemmas.{none_refinable}
 -- a call that refines nothing and changes nothing
 pub idle_step : (caller : ℕ) (t : Table) (reply : RefineReply) → reply.refined ≡ [] → IsStep t (refine_entry caller reply) t
 idle_step caller t reply none =
-    let done : refined reply.refined t ≡ t = ap (λ (ks : List ℕ). refined ks t) none ∙ refined_none t in
-    record { allowed = record { numbers = tt; refines = subst (AreRefinable t) (sym none) (none_refinable t); answers = tt }; after = sym done }
+    record { allowed = record { numbers = tt; refines = subst (AreRefinable t) (sym none) (none_refinable t); answers = tt }; after = sym (ap (λ (ks : List ℕ). refined ks t) none ∙ refined_none t) }
 
 -- a new core
 pub all_clean : (n q : ℕ) → ◌≡◌ {A = Mark} (get_or (replicate n Clean) q Clean) Clean

@@ -93,14 +93,13 @@ module _ (heap : Cells) (pairs : PairSet) (ring : Ring) (pending : ℕ) (parts :
     pub held_last : IsMade (with_mark heap card Held) pairs ring' pending (table_from heap pairs)
     held_last =
         let table : table_from (with_mark heap card Held) pairs ≡ table_from heap pairs = λ i. record { layout = heap.layout; refs = heap.refs; pending = same_pending i; recorded = pairs } in
-        let fresh : Contains ring.cards card → ⊥ = (dirty_mark card dirty).apart in
         let cells : AreCells (with_mark heap card Held) = record { shape = parts.cells.shape; slots = parts.cells.slots; places = parts.cells.places; cards = length-set heap.marks card Held ∙ parts.cells.cards } in
         let held : (q : ℕ) → Contains ring'.cards q ↔ (get_or (list_set heap.marks card Held) q Clean ≡ Held) = λ q. rw cards (elim (cases_eq q card) [
           | inl is ↦ (λ c. rw is (mark_here heap.marks card Held within), λ held. rw is (Contains-push ring.cards card))
           | inr ne ↦ rw (mark_there heap.marks card Held within q ne) (λ c. elim (Contains-push_cases ring.cards card q c) [ inl c' ↦ (parts.held q).0 c' | inr is ↦ absurd (ne (sym is)) ], λ held. Contains-append_left ring.cards (card ∷ []) q ((parts.held q).1 held))
         ]) in
         let cover : IsCovered (table_from (with_mark heap card Held) pairs) = subst IsCovered (sym table) parts.cover in
-        record { parts = record { cells = cells; counts = counts ∙ parts.counts; some = omega (arith, capacity, parts.some); distinct = rw cards (push_distinct ring.cards card parts.distinct fresh); held = held; known = parts.known ∙ ap set.len (sym same_pending); cover = cover; outside = parts.outside }; table = table }
+        record { parts = record { cells = cells; counts = counts ∙ parts.counts; some = omega (arith, capacity, parts.some); distinct = rw cards (push_distinct ring.cards card parts.distinct ((dirty_mark card dirty).apart)); held = held; known = parts.known ∙ ap set.len (sym same_pending); cover = cover; outside = parts.outside }; table = table }
 
   -- a dirty card does not stand in the ring
   pub apart_stands : (card : ℕ) → mark_of card ≡ Dirty → (q : ℕ) → Contains ring.cards q ↔ (Contains ring.cards q × (q ≢ card))

@@ -86,8 +86,7 @@ run_layout t (e ∷ entries) = run_layout (table_after t e) entries ∙ layout_a
 -- a step of the last table makes a longer run
 pub permitted_step : (l : Shape) (entries : List Entry) (e : Entry) (t u : Table) → t ≡ table_of_history l entries → IsPermitted (opening l) entries → IsStep t e u → IsPermitted (opening l) (entries ++ e ∷ []) × (u ≡ table_of_history l (entries ++ e ∷ [])) × (u.layout ≡ t.layout)
 permitted_step l entries e t u last run step =
-    let here : IsAllowed (table_of_history l entries) e = subst (λ t. IsAllowed t e) last step.allowed in
-    (permitted_push (opening l) entries e run here, step.after ∙ ap (λ t. table_after t e) last ∙ sym (table_of_push l entries e), ap (λ t. t.layout) step.after ∙ layout_after t e)
+    (permitted_push (opening l) entries e run (subst (λ t. IsAllowed t e) last step.allowed), step.after ∙ ap (λ t. table_after t e) last ∙ sym (table_of_push l entries e), ap (λ t. t.layout) step.after ∙ layout_after t e)
 
 -- recorded pairs lie outside their region
 module _ (t : Table) (shape : IsShape t.layout) (slots : length t.refs ≡ slot_count t.layout) (places : All (λ target. IfSome target (λ place. place < slot_count t.layout)) t.refs) where

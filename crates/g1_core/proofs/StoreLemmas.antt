@@ -81,10 +81,9 @@ none_refinable t = record { distinct = tt; pending = λ k d lt. absurd (omega ar
 
 pub stored_step : (caller : ℕ) (t new : Table) (slot : ℕ) (target : Option ℕ) (reply : StoreReply) → IsCallOf t.layout (Store slot target) → reply.kind ≡ kind_of t slot target → reply.refined ≡ [] → new ≡ stored t slot target → IsStep t (store_entry caller slot target reply) new
 stored_step caller t new slot target reply numbers kind none after =
-    let done : refined reply.refined (stored t slot target) ≡ stored t slot target = ap (λ (ks : List ℕ). refined ks (stored t slot target)) none ∙ refined_none (stored t slot target) in
     record {
       allowed = record { numbers = numbers; refines = subst (AreRefinable (stored t slot target)) (sym none) (none_refinable (stored t slot target)); answers = (kind, λ _. none) };
-      after = after ∙ sym done;
+      after = after ∙ sym (ap (λ (ks : List ℕ). refined ks (stored t slot target)) none ∙ refined_none (stored t slot target));
     }
 
 -- the kind that the barrier finds

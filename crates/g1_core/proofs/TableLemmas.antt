@@ -112,8 +112,7 @@ store_marks t slot place across = stored_pending t slot (Some place) (card_of t.
 module _ (t : Table) (slot : ℕ) (target : Option ℕ) where
   same_slot : (place : ℕ) → Crosses (stored t slot target) slot place → IsPending (stored t slot target) (card_of t.layout slot)
   same_slot place x =
-      let inside : slot < length t.refs = omega (arith, is_slot (list_set t.refs slot target) slot place x.refers, length-set t.refs slot target) in
-      let is : target ≡ Some place = sym (get_or-set_same t.refs slot target None inside) ∙ x.refers in
+      let is : target ≡ Some place = sym (get_or-set_same t.refs slot target None (omega (arith, is_slot (list_set t.refs slot target) slot place x.refers, length-set t.refs slot target))) ∙ x.refers in
       subst (λ o. IsPending (stored t slot o) (card_of t.layout slot)) (sym is) (store_marks t slot place x.across)
 
   pub stored_covered : IsCovered t → IsCovered (stored t slot target)
@@ -129,8 +128,7 @@ module _ (t : Table) (slot : ℕ) (target : Option ℕ) where
 pub nothing_refers : (n slot place : ℕ) → get_or (replicate n None) slot None ≡ Some place → ⊥
 nothing_refers n slot place e =
     let nulls : List (Option ℕ) = replicate n None in
-    let below : slot < n = omega (arith, is_slot nulls slot place e, length-replicate {A = Option ℕ} n None) in
-    let none : get_or nulls slot None ≡ None = get_or-replicate n slot None None below in
+    let none : get_or nulls slot None ≡ None = get_or-replicate n slot None None (omega (arith, is_slot nulls slot place e, length-replicate {A = Option ℕ} n None)) in
     cc
 
 pub opening_covered : (l : Shape) → IsCovered (opening l)

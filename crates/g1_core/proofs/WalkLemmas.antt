@@ -112,5 +112,4 @@ lies_inside l m card own to test is fails region same = sym (region ∙ ap (λ (
 
 pub member_below : (sets : Pairs) (l : Shape) (region index card : ℕ) → AreTied sets → sets.layout ≡ l → slice_get (list_at sets.lists region) index ≡ Some card → card < card_count l
 member_below sets l region index card tied same at =
-    let here : get_or (list_at sets.lists region) index card ≡ card = get_or_from_slice_get (list_at sets.lists region) index card card at in
-    subst (λ (l : Shape). card < card_count l) same (subst (λ (c : ℕ). c < card_count sets.layout) here (tied.lists.below region index card (slice_get_within (list_at sets.lists region) index card at)))
+    subst (λ (l : Shape). card < card_count l) same (subst (λ (c : ℕ). c < card_count sets.layout) (get_or_from_slice_get (list_at sets.lists region) index card card at) (tied.lists.below region index card (slice_get_within (list_at sets.lists region) index card at)))
