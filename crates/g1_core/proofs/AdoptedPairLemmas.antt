@@ -21,13 +21,7 @@ pairs_more first (cards ∷ lists) (suc n) region is below =
 
 length_from : (first : ℕ) (lists : List (List ℕ)) → length (pairs_from first lists) ≡ sum_by length lists
 length_from first [] = refl
-length_from first (cards ∷ lists) =
-    let row : List (ℕ × ℕ) = map (λ (card : ℕ). (card, first)) cards in
-    let joined = length-append row (pairs_from (first + 1) lists) in
-    let mapped : length row ≡ length cards = length-map cards (λ (card : ℕ). (card, first)) in
-    let rest : length (pairs_from (first + 1) lists) ≡ sum_by length lists = length_from (first + 1) lists in
-    let sum : sum_by length (cards ∷ lists) ≡ length cards + sum_by length lists = sum_by-cons length cards lists in
-    omega (arith, joined, mapped, rest, sum)
+length_from first (cards ∷ lists) = omega (arith, length-append (map (λ (card : ℕ). (card, first)) cards) (pairs_from (first + 1) lists), length-map {B = ℕ × ℕ} cards (λ (card : ℕ). (card, first)), length_from (first + 1) lists, sum_by-cons length cards lists)
 
 module _ (sets : Pairs) (tied : AreTied sets) where
   pub all_recorded : pairs_of sets.lists ≡ sets.pairs

@@ -1,66 +1,37 @@
 -- References, marks and pairs that are taken over one by one.
-use Rattle.std.specs.Prelude.{◌≡◌, ◌+◌, ◌<◌, ◌∷◌, ◌++◌}
-use Rattle.g1_core.specs.{inl, inr, ℕ, zero, suc, Bool, true, false, List, [], length, take, drop, get_or, Contains, refl, sym, ap, ◌∙◌, subst, arith, replicate, or_cases, or_left, or_right, false_from_ne_true, get_or-map, length-map, length-replicate, take_more, Contains-append_left, Contains-append_right, Contains-append_cases, pair_cmp, PairSet, Mark, Clean, Dirty, of_card, pending_of, mark_for, marks_for}
-use Rattle.std.proofs.Common.{set as list_set}
+use Rattle.std.specs.Prelude.{◌≡◌, ◌+◌, ◌<◌, ◌∷◌, ◌++◌, ◌-◌}
+use Rattle.g1_core.specs.{ℕ, Bool, true, false, List, [], length, take, drop, get_or, refl, sym, ap, ◌∙◌, arith, replicate, false_from_ne_true, get_or-map, length-map, length-replicate, take_more, pair_cmp, Mark, Clean, Dirty, of_card, pending_of, mark_for, marks_for, append_assoc, length-append}
+use Rattle.std.proofs.Common.{add-one, drop-cons, set as list_set}
+use Rattle.std.proofs.lemmas.List.{get_or-append_right, get_or-drop, length-drop, length-take, set-append_right, set-get_or}
 use Rattle.std.specs.FinSet as set
-use Rattle.g1_core.proofs.SetLemmas.{pair_total, same_pairs, in_pairs, to_pairs}
+use Rattle.g1_core.proofs.SetLemmas.{pair_total, pair_exact}
 use Rattle.g1_core.proofs.MarkLemmas.{dirty_clean, from_pending, pending_marked, one_more}
 use Rattle.g1_core.proofs.OpeningLemmas.{all_clean}
 
 module _ {X : Type 0} where
   -- the first i items are new, and the others old: one more becomes new
-  put_suc : (xs ys : List X) (i : ℕ) (d : X) → i < length xs → i < length ys → list_set (take i xs ++ drop i ys) i (get_or xs i d) ≡ take (suc i) xs ++ drop (suc i) ys
-  put_suc [] ys i d lt lt' = absurd (omega arith)
-  put_suc (x ∷ xs) [] i d lt lt' = absurd (omega arith)
-  put_suc (x ∷ xs) (y ∷ ys) zero d lt lt' = refl
-  put_suc (x ∷ xs) (y ∷ ys) (suc i) d lt lt' = ap (λ (l : List X). x ∷ l) (put_suc xs ys i d (omega arith) (omega arith))
-
-  keep_suc : (xs ys : List X) (i : ℕ) (d : X) → i < length xs → i < length ys → get_or xs i d ≡ get_or ys i d → take i xs ++ drop i ys ≡ take (suc i) xs ++ drop (suc i) ys
-  keep_suc [] ys i d lt lt' e = absurd (omega arith)
-  keep_suc (x ∷ xs) [] i d lt lt' e = absurd (omega arith)
-  keep_suc (x ∷ xs) (y ∷ ys) zero d lt lt' e = ap (λ (z : X). z ∷ ys) (sym e)
-  keep_suc (x ∷ xs) (y ∷ ys) (suc i) d lt lt' e = ap (λ (l : List X). x ∷ l) (keep_suc xs ys i d (omega arith) (omega arith) e)
-
-  next_suc : (i : ℕ) (xs ys : List X) → take (suc i) xs ++ drop (suc i) ys ≡ take (i + 1) xs ++ drop (i + 1) ys
-  next_suc i xs ys = ap (λ (n : ℕ). take n xs ++ drop n ys) (let e : suc i ≡ i + 1 = omega arith in e)
-
   pub put_next : (xs ys : List X) (i : ℕ) (d : X) → i < length xs → i < length ys → list_set (take i xs ++ drop i ys) i (get_or xs i d) ≡ take (i + 1) xs ++ drop (i + 1) ys
-  put_next xs ys i d lt lt' = put_suc xs ys i d lt lt' ∙ next_suc i xs ys
-
-  pub keep_next : (xs ys : List X) (i : ℕ) (d : X) → i < length xs → i < length ys → get_or xs i d ≡ get_or ys i d → take i xs ++ drop i ys ≡ take (i + 1) xs ++ drop (i + 1) ys
-  keep_next xs ys i d lt lt' e = keep_suc xs ys i d lt lt' e ∙ next_suc i xs ys
+  put_next xs ys i d lt lt' =
+      let many : length (take i xs) ≡ i = omega (arith, length-take i xs) in
+      let first : i - i ≡ 0 = omega arith in
+      set-append_right (take i xs) (drop i ys) i i (get_or xs i d) many (omega arith) ∙ rw (first, drop-cons ys i d lt', take_more xs i d lt, append_assoc, add-one) refl
 
   pub at_place : (xs ys : List X) (i : ℕ) (d : X) → i < length xs → i < length ys → (get_or (take i xs ++ drop i ys) i d ≡ get_or ys i d) × (i < length (take i xs ++ drop i ys))
-  at_place [] ys i d lt lt' = absurd (omega arith)
-  at_place (x ∷ xs) [] i d lt lt' = absurd (omega arith)
-  at_place (x ∷ xs) (y ∷ ys) zero d lt lt' = (refl, omega arith)
-  at_place (x ∷ xs) (y ∷ ys) (suc i) d lt lt' = let h = at_place xs ys i d (omega arith) (omega arith) in let lt : i < length (take i xs ++ drop i ys) = h.1 in (h.0, omega arith)
+  at_place xs ys i d lt lt' =
+      let many : length (take i xs) ≡ i = omega (arith, length-take i xs) in
+      let same : i + (i - i) ≡ i = omega arith in
+      (get_or-append_right (take i xs) (drop i ys) i i d many (omega arith) ∙ get_or-drop i ys (i - i) d ∙ ap (λ (k : ℕ). get_or ys k d) same, omega (arith, length-append (take i xs) (drop i ys), length-drop i ys))
+
+  pub keep_next : (xs ys : List X) (i : ℕ) (d : X) → i < length xs → i < length ys → get_or xs i d ≡ get_or ys i d → take i xs ++ drop i ys ≡ take (i + 1) xs ++ drop (i + 1) ys
+  keep_next xs ys i d lt lt' e = sym (set-get_or (take i xs ++ drop i ys) i d) ∙ ap (list_set (take i xs ++ drop i ys) i) ((at_place xs ys i d lt lt').0 ∙ sym e) ∙ put_next xs ys i d lt lt'
 
 -- one more pair is recorded
 module _ (pairs : List (ℕ × ℕ)) (i : ℕ) (p : ℕ × ℕ) (lt : i < length pairs) (is : p ≡ get_or pairs i p) where
-  abbrev one : PairSet
-  one = of_card p.0 (p.1 ∷ [])
-
-  abbrev before : PairSet
-  before = set.from_list (take i pairs)
-
   whole : take (i + 1) pairs ≡ take i pairs ++ p ∷ []
   whole = take_more pairs i p lt ∙ ap (λ (q : ℕ × ℕ). take i pairs ++ q ∷ []) (sym is)
 
-  on : (x : ℕ × ℕ) → set.contains (set.union before one) x ≡ true → set.contains (set.from_list {R = pair_cmp} (take (i + 1) pairs)) x ≡ true
-  on x h = to_pairs (take (i + 1) pairs) x (subst (λ (l : List (ℕ × ℕ)). Contains l x) (sym whole) (elim (or_cases _ _ (sym (set.contains-union pair_total before one x) ∙ h)) [
-    | inl a ↦ Contains-append_left (take i pairs) (p ∷ []) x (in_pairs (take i pairs) x a)
-    | inr b ↦ Contains-append_right (take i pairs) (p ∷ []) x (in_pairs (p ∷ []) x b)
-  ]))
-
-  back : (x : ℕ × ℕ) → set.contains (set.from_list {R = pair_cmp} (take (i + 1) pairs)) x ≡ true → set.contains (set.union before one) x ≡ true
-  back x h = set.contains-union pair_total before one x ∙ elim (Contains-append_cases (take i pairs) (p ∷ []) x (subst (λ (l : List (ℕ × ℕ)). Contains l x) whole (in_pairs (take (i + 1) pairs) x h))) [
-    | inl a ↦ or_left _ _ (to_pairs (take i pairs) x a)
-    | inr b ↦ or_right _ _ (to_pairs (p ∷ []) x b)
-  ]
-
   pub record_next : set.union (set.from_list {R = pair_cmp} (take i pairs)) (of_card p.0 (p.1 ∷ [])) ≡ set.from_list (take (i + 1) pairs)
-  record_next = same_pairs _ _ on back
+  record_next = set.same_set pair_total pair_exact _ _ (λ x. simp (set.contains-union pair_total, set.contains-insert pair_total, set.contains-empty) (grind arith)) ∙ sym (ap (λ (ps : List (ℕ × ℕ)). set.from_list {R = pair_cmp} ps) whole ∙ set.from_list_push pair_total pair_exact (take i pairs) p)
 
 -- one more card is marked, or is not
 module _ (marked : List Bool) (n i : ℕ) (lt : i < length marked) (count : length marked ≡ n) where

@@ -1,6 +1,7 @@
 -- A core that is made of references, marked cards and pairs.
 use Rattle.std.specs.Prelude.{◌≡◌, ◌≤◌, ◌∷◌}
 use Rattle.g1_core.specs.{ℕ, zero, suc, Bool, true, false, List, [], get_or, Option, refl, sym, ap, ◌∙◌, subst, arith, All, IsDistinct, length-replicate, Shape, card_count, pair_cmp, PairSet, Clean, Dirty, Held, Cells, AreCells, Pairs, Ring, new_ring, IsCovered, AreOutside, IsCore, AreParts, pending_of, table_from, machine_from, IsPairOf, mark_for, marks_for, table_with, adopted_machine}
+use Rattle.std.proofs.lemmas.Bool.{true_from_ne_false}
 use Rattle.std.specs.FinSet as set
 use Rattle.g1_core.specs.Table.{Table}
 use Rattle.g1_core.specs.declared.config.Settings.{Settings}
@@ -17,16 +18,11 @@ pub flag_pending : (marked : List Bool) (card : ℕ) → get_or marked card fals
 flag_pending marked card e = to_pending (marks_for marked) card (λ clean. dirty_clean Dirty refl (sym (mark_at marked card ∙ ap mark_for e) ∙ clean))
 
 pub pending_flag : (marked : List Bool) (card : ℕ) → set.contains (pending_of (marks_for marked)) card ≡ true → get_or marked card false ≡ true
-pending_flag marked card h = pick (get_or marked card false) refl
-  where
-    pick : (b : Bool) → get_or marked card false ≡ b → get_or marked card false ≡ true
-    pick true e = e
-    pick false e = absurd (from_pending (marks_for marked) card h (mark_at marked card ∙ ap mark_for e))
+pending_flag marked card h = true_from_ne_false _ (λ e. from_pending (marks_for marked) card h (mark_at marked card ∙ ap mark_for e))
 
 -- no mark is that of a held card
 none_held : (b : Bool) → mark_for b ≡ Held → ⊥
-none_held true e = absurd (cc (e))
-none_held false e = absurd (cc (e))
+none_held b e = grind arith
 
 pub never_held : (marked : List Bool) (card : ℕ) → get_or (marks_for marked) card Clean ≡ Held → ⊥
 never_held marked card e = none_held (get_or marked card false) (sym (mark_at marked card) ∙ e)

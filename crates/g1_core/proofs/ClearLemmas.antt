@@ -1,43 +1,28 @@
 -- A clear is a step of the plain table: the set of a region has each card that enters it.
-use Rattle.std.specs.Prelude.{◌≡◌, ◌<◌, ◌≤◌, ◌+◌, ◌-◌, ◌*◌, ◌∷◌}
-use Rattle.g1_core.specs.{inl, inr, ℕ, suc, true, cond, eqb, List, [], length, Some, None, refl, sym, ap, ◌∙◌, subst, arith, Contains, nat_eq, not, IsDistinct, nat_cmp, Equal-is, mul-le-mul, cases_lt, eq-eqb, and_from, true≢false, false_from_ne_true, card_of, CardSet, PairSet, pair_cmp, Cells, Pairs, AreTied, list_at, without, Ring, Enters, IsCovered, IsRecorded, AreOutside, IsCore, IsLater, AreParts, pending_of, table_from, state_from, machine_from, Clear, IsFirstInto, IsStep, Answers, settled, ClearReply, clear_entry, DoesClear, member_count, IsLeastOn, AreRead}
+use Rattle.std.specs.Prelude.{◌≡◌, ◌<◌, ◌≤◌, ◌+◌, ◌-◌, ◌*◌}
+use Rattle.g1_core.specs.{inl, inr, ℕ, true, eqb, List, [], length, Some, None, refl, sym, ap, ◌∙◌, subst, arith, Contains, not, nat_cmp, mul-le-mul_right, eq-eqb, and_from, true≢false, card_of, CardSet, PairSet, Cells, Pairs, AreTied, list_at, without, Ring, Enters, IsCovered, IsRecorded, AreOutside, IsCore, IsLater, AreParts, pending_of, table_from, state_from, machine_from, Clear, IsFirstInto, IsStep, Answers, settled, ClearReply, clear_entry, DoesClear, member_count, IsLeastOn, AreRead}
 use Rattle.std.specs.FinSet as set
 use Rattle.g1_core.specs.Table.{Table}
 use Rattle.g1_core.specs.declared.config.Settings.{Settings}
 use Rattle.g1_core.specs.Machine.{Machine}
 use Rattle.g1_core.specs.declared.entry.Reply.TheVariants as reply
 use Rattle.g1_core.specs.declared.reply.ClearReply.TheVariants as clear_reply
-use Rattle.g1_core.proofs.SetLemmas.{pair_total, pair_exact}
-use Rattle.g1_core.proofs.RunLemmas.{has_slots, step_covered}
-use Rattle.g1_core.proofs.OutsideLemmas.{cleared_outside}
+use Rattle.g1_core.proofs.SetLemmas.{pair_total, pair_exact, few_distinct}
+use Rattle.g1_core.proofs.RunLemmas.{has_slots, step_covered, cleared_outside}
 use Rattle.g1_core.proofs.MarkLemmas.{none_of}
 use Rattle.g1_core.proofs.RefinedLemmas.{refined_none}
-use Rattle.g1_core.proofs.TurnLemmas.{front_apart, rest_distinct}
 use Rattle.g1_core.proofs.StoreLemmas.{none_refinable}
 use Rattle.g1_core.proofs.LeastSlotLemmas.{read_table}
+use Rattle.g1_core.proofs.ChangeLemmas.{read_core}
 use Rattle.g1_core.proofs.SoundLemmas.{core_sound, core_later, same_later, step_later}
 
--- distinct cards that are recorded for a region are no more than its pairs
-module _ (region : ℕ) where
-  pub few_recorded : (cards : List ℕ) (pairs : PairSet) → IsDistinct nat_eq cards → ((card : ℕ) → Contains cards card → set.contains pairs (card, region) ≡ true) → length cards ≤ set.len pairs
-  few_recorded [] pairs distinct each = omega arith
-  few_recorded (card ∷ cards) pairs distinct each =
-      let here : set.contains pairs (card, region) ≡ true = each card (0, omega arith, refl) in
-      let less : set.len (set.remove pairs (card, region)) ≡ set.len pairs - 1 = set.len-remove pair_total pairs (card, region) ∙ ap (λ b. cond b (set.len pairs - 1) (set.len pairs)) here in
-      let some : 1 ≤ set.len pairs = elim (cases_lt 0 (set.len pairs)) [
-        | inl some ↦ omega arith
-        | inr none ↦ absurd (true≢false (sym here ∙ ap (λ (s : PairSet). set.contains s (card, region)) (set.empty_of_len pairs (omega arith)) ∙ set.contains-empty pair_cmp (card, region)))
-      ] in
-      let rest : length cards ≤ set.len (set.remove pairs (card, region)) = few_recorded cards (set.remove pairs (card, region)) (rest_distinct card cards distinct) (λ c in_cards.
-      set.contains-remove pair_total pairs (card, region) (c, region) ∙ and_from _ _
-      (ap not (false_from_ne_true _ (λ same. front_apart card cards distinct (subst (λ (k : ℕ). Contains cards k) (ap (λ (p : ℕ × ℕ). p.0) (pair_exact (c, region) (card, region) ((Equal-is (pair_cmp (c, region) (card, region))).0 same))) in_cards))))
-      (each c (suc in_cards.0, omega (arith, in_cards.1), in_cards.2))) in
-      omega arith
-
-pub few_members : (sets : Pairs) (heap : Cells) (region : ℕ) → AreTied sets → length (list_at sets.lists region) ≤ member_count (table_from heap sets.pairs) region
-few_members sets heap region tied = few_recorded region (list_at sets.lists region) (set.retain sets.pairs (λ pair. eqb pair.1 region)) (tied.lists.distinct region) (λ card c.
+-- how many slots are read for the members of a region
+pub few_read : (sets : Pairs) (heap now : Cells) (region : ℕ) → AreTied sets → AreRead heap now (length (list_at sets.lists region) * heap.layout.slots) → now.reads ≤ heap.reads + member_count (table_from heap sets.pairs) region * heap.layout.slots
+few_read sets heap now region tied read =
+    let few : length (list_at sets.lists region) ≤ member_count (table_from heap sets.pairs) region = few_distinct pair_total pair_exact (λ (card : ℕ). (card, region)) (λ a b. ap (λ (p : ℕ × ℕ). p.0)) (list_at sets.lists region) (set.retain sets.pairs (λ pair. eqb pair.1 region)) (tied.lists.distinct region) (λ card c.
     set.contains-retain sets.pairs (λ pair. eqb pair.1 region) (card, region) (λ x e. ap (λ (q : ℕ × ℕ). eqb q.1 region) (sym (pair_exact (card, region) x e)))
-    ∙ and_from _ _ ((tied.members card region).0 c) (eq-eqb region region refl))
+    ∙ and_from _ _ ((tied.members card region).0 c) (eq-eqb region region refl)) in
+    omega (arith, read.few, mul-le-mul_right heap.layout.slots few)
 
 -- where nothing is pending, cover has the card of each slot that enters the region recorded
 module _ (t : Table) (region : ℕ) (cards : List ℕ) (none : t.pending ≡ set.empty) (cover : IsCovered t) (recorded : (card : ℕ) → IsRecorded t card region → Contains cards card) where
@@ -68,30 +53,32 @@ pub record IsClearedTo (m : Machine) (region : ℕ) (answer : ClearReply) (heap 
   pub step : (caller : ℕ) → IsStep m.state.table (clear_entry caller region answer) (table_from heap sets.pairs)
   pub later : IsLater m (machine_from heap sets.pairs ring settings)
 
-module _ (heap : Cells) (sets : Pairs) (ring : Ring) (pending : ℕ) (settings : Settings) (core : IsCore heap sets ring pending) (region : ℕ) (within : region < heap.layout.regions) where
+-- of the machine that a core stands for
+module _ (heap : Cells) (sets : Pairs) (ring : Ring) (pending : ℕ) (settings : Settings) (machine : Machine) (core : IsCore heap sets ring pending) (view : machine_from heap sets.pairs ring settings ≡ machine) (region : ℕ) (within : region < machine.state.table.layout.regions) where
   abbrev t : Table
   t = table_from heap sets.pairs
 
   abbrev m : Machine
   m = machine_from heap sets.pairs ring settings
 
+  inside : region < heap.layout.regions
+  inside = rw (← view) at within
+
+  seen : (answer : ClearReply) (heap' : Cells) (sets' : Pairs) → IsClearedTo m region answer heap' sets' ring pending settings → IsClearedTo machine region answer heap' sets' ring pending settings
+  seen answer heap' sets' = subst (λ (m : Machine). IsClearedTo m region answer heap' sets' ring pending settings) view
+
   -- some cards are pending
-  pub refused_pending : 0 < pending → IsClearedTo m region (clear_reply.Pending pending) heap sets ring pending settings
-  refused_pending some = record {
+  pub pending_at : 0 < pending → IsClearedTo machine region (clear_reply.Pending pending) heap sets ring pending settings
+  pending_at some = seen (clear_reply.Pending pending) heap sets (record {
     core = core;
     did = record { refused = λ _. record { state = refl; settings = refl; reads = omega arith }; ring = refl; unread = λ _. refl; reads = omega arith };
-    step = λ caller. clear_step caller t t region (clear_reply.Pending pending) within (λ after. (refl, core.parts.known, omega arith)) refl;
+    step = λ caller. clear_step caller t t region (clear_reply.Pending pending) inside (λ after. (refl, core.parts.known, omega arith)) refl;
     later = core_later heap sets ring pending core settings m refl refl refl;
-  }
+  })
 
-  module _ (now : Cells) (zero_pending : pending ≡ 0) (tied : AreTied sets) (read : AreRead heap now (length (list_at sets.lists region) * heap.layout.slots)) where
+  module _ (now : Cells) (nothing : pending ≤ 0) (tied : AreTied sets) (read : AreRead heap now (length (list_at sets.lists region) * heap.layout.slots)) where
     empty : pending_of heap.marks ≡ set.empty
-    empty = none_of (pending_of heap.marks) (sym core.parts.known ∙ zero_pending)
-
-    few_reads : now.reads ≤ heap.reads + member_count t region * heap.layout.slots
-    few_reads =
-        let fits : length (list_at sets.lists region) * heap.layout.slots ≤ member_count t region * heap.layout.slots = mul-le-mul (few_members sets heap region tied) (omega arith) in
-        omega (arith, read.few)
+    empty = none_of (pending_of heap.marks) (omega (arith, core.parts.known))
 
     contradicted : 1 ≤ set.len (pending_of heap.marks) → now.reads ≡ heap.reads
     contradicted some = absurd (omega (arith, core.parts.known))
@@ -99,34 +86,19 @@ module _ (heap : Cells) (sets : Pairs) (ring : Ring) (pending : ℕ) (settings :
     recorded : (card : ℕ) → IsRecorded t card region → Contains (list_at sets.lists region) card
     recorded card r = (tied.members card region).1 r
 
-    with_cells : (pairs : PairSet) → IsCovered (table_from now pairs) → AreOutside (table_from now pairs) → AreParts now pairs ring pending
-    with_cells pairs cover outside = subst (λ (h : Cells). IsCovered (table_from h pairs) → AreOutside (table_from h pairs) → AreParts h pairs ring pending) (sym read.cells) (λ covered apart. record {
-      cells = record { shape = core.parts.cells.shape; slots = core.parts.cells.slots; places = core.parts.cells.places; cards = core.parts.cells.cards };
-      counts = core.parts.counts;
-      some = core.parts.some;
-      distinct = core.parts.distinct;
-      held = core.parts.held;
-      known = core.parts.known;
-      cover = covered;
-      outside = apart;
-    }) cover outside
-
-    layout_is : now.layout ≡ heap.layout
-    layout_is = ap (λ (h : Cells). h.layout) read.cells
-
-    same_table : table_from now sets.pairs ≡ t
-    same_table = read_table heap now _ sets.pairs read
+    kept : IsCore now sets ring pending
+    kept = read_core heap now sets ring pending _ core read
 
     -- a slot still enters the region
-    pub refused_entered : (slot : ℕ) → IsLeastOn t (list_at sets.lists region) region (Some slot) → IsClearedTo m region (clear_reply.StillReferenced slot) now sets ring pending settings
-    refused_entered slot least =
+    pub entered_at : (slot : ℕ) → IsLeastOn t (list_at sets.lists region) region (Some slot) → IsClearedTo machine region (clear_reply.StillReferenced slot) now sets ring pending settings
+    entered_at slot least =
         let same : state_from now sets.pairs ring ≡ m.state = ap (λ (h : Cells). state_from h sets.pairs ring) read.cells in
-        record {
-          core = record { layouts = core.layouts ∙ sym layout_is; parts = with_cells sets.pairs (subst IsCovered (sym same_table) core.parts.cover) (subst AreOutside (sym same_table) core.parts.outside) };
-          did = record { refused = λ _. record { state = same; settings = refl; reads = read.grown }; ring = refl; unread = contradicted; reads = few_reads };
-          step = λ caller. clear_step caller t (table_from now sets.pairs) region (clear_reply.StillReferenced slot) within (λ after. (refl, empty, first_enters t region (list_at sets.lists region) empty core.parts.cover recorded slot least)) same_table;
+        seen (clear_reply.StillReferenced slot) now sets (record {
+          core = kept;
+          did = record { refused = λ _. record { state = same; settings = refl; reads = read.grown }; ring = refl; unread = contradicted; reads = few_read sets heap now region tied read };
+          step = λ caller. clear_step caller t (table_from now sets.pairs) region (clear_reply.StillReferenced slot) inside (λ after. (refl, empty, first_enters t region (list_at sets.lists region) empty core.parts.cover recorded slot least)) (read_table heap now _ sets.pairs read);
           later = same_later m (machine_from now sets.pairs ring settings) same refl (core_sound heap sets ring pending core) read.grown;
-        }
+        })
 
     -- the region's set is emptied
     module _ (sets' : Pairs) (layout : sets'.layout ≡ sets.layout) (pairs : sets'.pairs ≡ without sets.pairs region) (least : IsLeastOn t (list_at sets.lists region) region None) where
@@ -134,36 +106,19 @@ module _ (heap : Cells) (sets : Pairs) (ring : Ring) (pending : ℕ) (settings :
       cleared_table = read_table heap now _ sets'.pairs read ∙ ap (λ (ps : PairSet). table_from heap ps) pairs
 
       cleared_step : (caller : ℕ) → IsStep t (clear_entry caller region clear_reply.Cleared) (table_from now sets'.pairs)
-      cleared_step caller = clear_step caller t (table_from now sets'.pairs) region clear_reply.Cleared within (λ after. (refl, empty, none_enters t region (list_at sets.lists region) empty core.parts.cover recorded least)) cleared_table
+      cleared_step caller = clear_step caller t (table_from now sets'.pairs) region clear_reply.Cleared inside (λ after. (refl, empty, none_enters t region (list_at sets.lists region) empty core.parts.cover recorded least)) cleared_table
 
       cleared_core : IsCore now sets' ring pending
       cleared_core =
-          let step : IsStep t (clear_entry 0 region clear_reply.Cleared) (table_from now sets'.pairs) = cleared_step 0 in
-          record {
-            layouts = layout ∙ core.layouts ∙ sym layout_is;
-            parts = with_cells sets'.pairs (subst IsCovered (sym step.after) (step_covered t (clear_entry 0 region clear_reply.Cleared) (has_slots heap.layout core.parts.cells.shape) step.allowed core.parts.cover)) (subst AreOutside (sym cleared_table) (cleared_outside t region core.parts.outside));
-          }
+          let cover : IsCovered (table_from now sets'.pairs) = subst IsCovered (sym (cleared_step 0).after) (step_covered t (clear_entry 0 region clear_reply.Cleared) (has_slots heap.layout core.parts.cells.shape) (cleared_step 0).allowed core.parts.cover) in
+          let outside : AreOutside (table_from now sets'.pairs) = subst AreOutside (sym cleared_table) (cleared_outside t region core.parts.outside) in
+          let parts : AreParts now sets.pairs ring pending = kept.parts in
+          record { layouts = layout ∙ kept.layouts; parts = search (parts, cover, outside) }
 
-      pub granted : IsClearedTo m region clear_reply.Cleared now sets' ring pending settings
-      granted = record {
+      pub granted_at : IsClearedTo machine region clear_reply.Cleared now sets' ring pending settings
+      granted_at = seen clear_reply.Cleared now sets' (record {
         core = cleared_core;
-        did = record { refused = λ not. absurd (not refl); ring = refl; unread = contradicted; reads = few_reads };
+        did = record { refused = λ not. absurd (not refl); ring = refl; unread = contradicted; reads = few_read sets heap now region tied read };
         step = cleared_step;
         later = step_later m (machine_from now sets'.pairs ring settings) (clear_entry 0 region clear_reply.Cleared) (cleared_step 0) refl (core_sound now sets' ring pending cleared_core) read.grown;
-      }
-
--- the same of the machine that a core stands for
-module _ (heap : Cells) (sets : Pairs) (ring : Ring) (pending : ℕ) (settings : Settings) (machine : Machine) (core : IsCore heap sets ring pending) (view : machine_from heap sets.pairs ring settings ≡ machine) (region : ℕ) (within : region < machine.state.table.layout.regions) where
-  inside : region < heap.layout.regions
-  inside = subst (λ (m : Machine). region < m.state.table.layout.regions) (sym view) within
-
-  pub pending_at : 0 < pending → IsClearedTo machine region (clear_reply.Pending pending) heap sets ring pending settings
-  pending_at some = subst (λ (m : Machine). IsClearedTo m region (clear_reply.Pending pending) heap sets ring pending settings) view (refused_pending heap sets ring pending settings core region inside some)
-
-  pub entered_at : (now : Cells) → pending ≤ 0 → AreTied sets → AreRead heap now (length (list_at sets.lists region) * heap.layout.slots) → (slot : ℕ) → IsLeastOn (table_from heap sets.pairs) (list_at sets.lists region) region (Some slot)
-      → IsClearedTo machine region (clear_reply.StillReferenced slot) now sets ring pending settings
-  entered_at now nothing tied read slot least = subst (λ (m : Machine). IsClearedTo m region (clear_reply.StillReferenced slot) now sets ring pending settings) view (refused_entered heap sets ring pending settings core region inside now (omega arith) tied read slot least)
-
-  pub granted_at : (now : Cells) → pending ≤ 0 → AreTied sets → AreRead heap now (length (list_at sets.lists region) * heap.layout.slots) → (sets' : Pairs) → sets'.layout ≡ sets.layout → sets'.pairs ≡ without sets.pairs region
-      → IsLeastOn (table_from heap sets.pairs) (list_at sets.lists region) region None → IsClearedTo machine region clear_reply.Cleared now sets' ring pending settings
-  granted_at now nothing tied read sets' layout pairs least = subst (λ (m : Machine). IsClearedTo m region clear_reply.Cleared now sets' ring pending settings) view (granted heap sets ring pending settings core region inside now (omega arith) tied read sets' layout pairs least)
+      })

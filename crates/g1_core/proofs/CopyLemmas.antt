@@ -1,9 +1,16 @@
 -- A range of slots that is copied, slot by slot.
 use Rattle.std.specs.Prelude.{◌≡◌, ◌≢◌, ◌⊎◌, ◌+◌, ◌-◌, ◌<◌, ◌≤◌}
-use Rattle.g1_core.specs.{ℕ, zero, suc, Bool, cond, true, false, Option, None, refl, sym, ap, ◌∙◌, subst, inl, inr, arith, get_or-set_other, target_of, stored, copied, IsLater}
+use Rattle.g1_core.specs.{ℕ, zero, suc, Bool, cond, true, false, Option, None, refl, sym, ap, ◌∙◌, subst, inl, inr, arith, get_or-set_other, target_of, stored, copied, IsLater, nat_cmp_total, exact_unsigned, set_comm}
+use Rattle.std.specs.FinSet as set
 use Rattle.g1_core.specs.Table.{Table}
 use Rattle.g1_core.specs.Machine.{Machine}
-use Rattle.g1_core.proofs.StoresApart.{stores_apart}
+use Rattle.g1_core.proofs.TableLemmas.{stored_pending}
+
+-- two stores into different slots may change places
+stores_apart : (t : Table) (a b : ℕ) (x y : Option ℕ) → a ≢ b → stored (stored t a x) b y ≡ stored (stored t b y) a x
+stores_apart t a b x y ne =
+    let pending : (stored (stored t a x) b y).pending ≡ (stored (stored t b y) a x).pending = set.same_set nat_cmp_total exact_unsigned _ _ (λ c. rw (stored_pending (stored t a x) b y c, stored_pending t a x c, stored_pending (stored t b y) a x c, stored_pending t b y c) (grind arith)) in
+    λ i. record { layout = t.layout; refs = set_comm t.refs a b x y ne i; pending = pending i; recorded = t.recorded }
 
 -- the first slot may be copied last
 copied_first : (from to count : ℕ) (t : Table) → copied from to (suc count) t ≡ stored (copied (suc from) (suc to) count t) to (target_of t from)
@@ -20,11 +27,8 @@ copied_first from to (suc count) t =
 copied_other : (from to count : ℕ) (t : Table) (p : ℕ) → (p < to) ⊎ (to + count ≤ p) → target_of (copied from to count t) p ≡ target_of t p
 copied_other from to zero t p out = refl
 copied_other from to (suc count) t p out =
-    let apart : (p ≢ to + count) × ((p < to) ⊎ (to + count ≤ p)) = elim out [
-      | inl low ↦ ((λ e. absurd (omega (arith, low, e))), inl low)
-      | inr high ↦ ((λ e. absurd (omega (arith, high, e))), inr (omega (arith, high)))
-    ] in
-    get_or-set_other (copied from to count t).refs (to + count) p (target_of t (from + count)) None apart.0 ∙ copied_other from to count t p apart.1
+    get_or-set_other (copied from to count t).refs (to + count) p (target_of t (from + count)) None (λ e. absurd (omega (arith, e, out)))
+    ∙ copied_other from to count t p (elim out [ inl low ↦ inl low | inr high ↦ inr (omega (arith, high)) ])
 
 -- one more slot, behind those that are copied and before them
 pub table_up : (old mid new : Table) (from to count : ℕ) → to ≤ from → mid ≡ copied from to count old → new ≡ stored mid (to + count) (target_of mid (from + count)) → new ≡ copied from to (suc count) old

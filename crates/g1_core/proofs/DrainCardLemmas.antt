@@ -1,12 +1,12 @@
 -- One card of a drain: what refining it leaves, and what a refused record leaves.
 use Rattle.std.specs.Prelude.{◌≡◌, ◌≢◌, ◌<◌, ◌≤◌, ◌+◌, ◌∷◌, ◌↔◌}
-use Rattle.g1_core.specs.{ℕ, true, false, [], length, get_or, Option, Some, None, refl, sym, ap, ◌∙◌, subst, arith, Contains, IfSome, IfNone, MatchOption, nat_eq, slice_get, IsDistinct, card_count, Clean, Dirty, Cells, with_mark, with_reads, HasNoDirty, IsFirstDirty, Pairs, Ring, popped, IsPending, refined, State, AreParts, IsCore, table_from, state_from, machine_from, pending_of, gained, is_dirty, IsCardDrained, IsCardRead}
+use Rattle.g1_core.specs.{ℕ, true, false, [], length, get_or, Option, Some, None, refl, sym, ap, ◌∙◌, arith, Contains, IfSome, IfNone, MatchOption, nat_eq, slice_get, IsDistinct, card_count, Clean, Dirty, Cells, with_mark, with_reads, HasNoDirty, IsFirstDirty, Pairs, Ring, popped, IsPending, refined, IsCore, table_from, state_from, machine_from, pending_of, gained, is_dirty, IsCardDrained, IsCardRead}
 use Rattle.std.specs.FinSet as set
 use Rattle.g1_core.specs.declared.config.Settings.{Settings}
 use Rattle.g1_core.specs.Table.{Table}
 use Rattle.g1_core.specs.Machine.{Machine}
-use Rattle.g1_core.proofs.MarkLemmas.{held_clean, dirty_clean, is_card, to_pending, one_less, some_member}
-use Rattle.g1_core.proofs.PartLemmas.{cleaned_state, cleaned_parts, read_parts, IsFront, front_of, oldest_mark, left_distinct, left_stands, apart_stands, mark_dirty, is_dirty_mark, not_dirty}
+use Rattle.g1_core.proofs.MarkLemmas.{held_clean, dirty_clean, is_card, to_pending, one_less}
+use Rattle.g1_core.proofs.PartLemmas.{IsMade, cleaned, some_pending, IsFront, front_of, oldest_mark, left_distinct, left_stands, apart_stands, mark_dirty, is_dirty_mark, not_dirty}
 
 -- a core after one of its cards was refined: what its parts keep, and what its machine is
 pub record IsDrainedTo (heap : Cells) (sets : Pairs) (ring : Ring) (settings : Settings) (card : ℕ) (heap' : Cells) (sets' : Pairs) (ring' : Ring) (pending' : ℕ) : Type 0 where
@@ -18,16 +18,11 @@ module _ (heap : Cells) (sets : Pairs) (ring : Ring) (pending : ℕ) (settings :
   drained_to : (ring' : Ring) → get_or heap.marks card Clean ≢ Clean → length ring'.counts ≡ length ring.counts → ring'.capacity ≡ ring.capacity → IsDistinct nat_eq ring'.cards
       → ((q : ℕ) → Contains ring'.cards q ↔ (Contains ring.cards q × (q ≢ card))) → IsDrainedTo heap sets ring settings card heap' sets' ring' pending'
   drained_to ring' marked counts capacity distinct stands =
-      let state : state_from (with_mark (with_reads heap heap.layout.slots) card Clean) (gained heap sets.pairs card) ring' ≡ record { table = refined (card ∷ []) (table_from heap sets.pairs); ring = ring' } =
-      cleaned_state heap sets.pairs ring pending core.parts ring' pending' card heap.layout.slots marked less counts capacity distinct stands in
+      let made : IsMade (with_mark (with_reads heap heap.layout.slots) card Clean) (gained heap sets.pairs card) ring' pending' (refined (card ∷ []) (table_from heap sets.pairs)) = cleaned heap sets.pairs ring pending core.parts ring' pending' card heap.layout.slots marked less counts capacity distinct stands in
       let was : IsPending (table_from heap sets.pairs) card = to_pending heap.marks card marked in
-      let table : table_from heap' sets'.pairs ≡ refined (card ∷ []) (table_from heap sets.pairs) = (λ i. table_from (eh i) (ep i)) ∙ ap (λ (s : State). s.table) state in
+      let table : table_from heap' sets'.pairs ≡ refined (card ∷ []) (table_from heap sets.pairs) = (λ i. table_from (eh i) (ep i)) ∙ made.table in
       record {
-        core = record {
-          layouts = el ∙ core.layouts ∙ ap (λ (h : Cells). h.layout) (sym eh);
-          parts = subst (λ h. AreParts h sets'.pairs ring' pending') (sym eh) (subst (λ ps. AreParts (with_mark (with_reads heap heap.layout.slots) card Clean) ps ring' pending') (sym ep)
-              (cleaned_parts heap sets.pairs ring pending core.parts ring' pending' card heap.layout.slots marked less counts capacity distinct stands));
-        };
+        core = record { layouts = el ∙ core.layouts ∙ ap (λ (h : Cells). h.layout) (sym eh); parts = rw (eh, ep) made.parts };
         drained = record {
           pending = was;
           table = table;
@@ -44,29 +39,24 @@ module _ (heap : Cells) (sets : Pairs) (ring : Ring) (pending : ℕ) (settings :
   pub oldest_drained : (ring' : Ring) → ring' ≡ popped ring → Some card ≡ slice_get ring.cards 0 → IsDrainedTo heap sets ring settings card heap' sets' ring' pending'
   oldest_drained ring' er first =
       let front : IsFront ring.cards card = front_of ring.cards card first in
-      subst (λ r. IsDrainedTo heap sets ring settings card heap' sets' r pending') (sym er)
-      (drained_to (popped ring) (held_clean _ (oldest_mark heap sets.pairs ring pending core.parts card front.rest front.cards)) refl refl
+      rw er (drained_to (popped ring) (held_clean _ (oldest_mark heap sets.pairs ring pending core.parts card front.rest front.cards)) refl refl
       (left_distinct heap sets.pairs ring pending core.parts card front.rest front.cards) (left_stands heap sets.pairs ring pending core.parts card front.rest front.cards))
 
 pub oldest_some : (heap : Cells) (sets : Pairs) (ring : Ring) (pending : ℕ) → IsCore heap sets ring pending → (card : ℕ) → Some card ≡ slice_get ring.cards 0 → 1 ≤ pending
 oldest_some heap sets ring pending core card first =
     let front : IsFront ring.cards card = front_of ring.cards card first in
-    let some = some_member (pending_of heap.marks) card (to_pending heap.marks card (held_clean _ (oldest_mark heap sets.pairs ring pending core.parts card front.rest front.cards))) in
-    omega (arith, core.parts.known)
+    some_pending heap sets.pairs ring pending core.parts card (held_clean _ (oldest_mark heap sets.pairs ring pending core.parts card front.rest front.cards))
 
 pub dirty_inside : (heap : Cells) (sets : Pairs) (ring : Ring) (pending : ℕ) → IsCore heap sets ring pending → (card : ℕ) → is_dirty (state_from heap sets.pairs ring) card ≡ true → (card < card_count heap.layout) × (1 ≤ pending)
 dirty_inside heap sets ring pending core card h =
     let mark : get_or heap.marks card Clean ≡ Dirty = mark_dirty heap sets.pairs ring pending core.parts card h in
-    let inside : card < length heap.marks = is_card heap.marks card (dirty_clean _ mark) in
-    let some = some_member (pending_of heap.marks) card (to_pending heap.marks card (dirty_clean _ mark)) in
-    (omega (arith, core.parts.cells.cards), omega (arith, core.parts.known))
+    (omega (arith, is_card heap.marks card (dirty_clean _ mark), core.parts.cells.cards), some_pending heap sets.pairs ring pending core.parts card (dirty_clean _ mark))
 
 -- a card was read, and its record was refused
 module _ (heap : Cells) (sets : Pairs) (ring : Ring) (pending : ℕ) (settings : Settings) (core : IsCore heap sets ring pending) (heap' : Cells) (sets' : Pairs) (pending' : ℕ)
     (eh : heap' ≡ with_reads heap heap.layout.slots) (es : sets' ≡ sets) (ep : pending' ≡ pending) where
   pub read_core : IsCore heap' sets' ring pending'
-  read_core = subst (λ h. IsCore h sets' ring pending') (sym eh) (subst (λ s. IsCore (with_reads heap heap.layout.slots) s ring pending') (sym es) (subst (λ n. IsCore (with_reads heap heap.layout.slots) sets ring n) (sym ep)
-      (record { layouts = core.layouts; parts = read_parts heap sets.pairs ring pending core.parts heap.layout.slots })))
+  read_core = rw (eh, es, ep) (record { layouts = core.layouts; parts = search })
 
   pub card_read : IsCardRead (machine_from heap sets.pairs ring settings) (machine_from heap' sets'.pairs ring settings)
   card_read = record { state = (λ i. state_from (eh i) (es i).pairs ring); settings = refl; reads = ap (λ (h : Cells). h.reads) eh }
@@ -80,7 +70,7 @@ module _ (heap : Cells) (sets : Pairs) (ring : Ring) (pending : ℕ) (settings :
   stays_clean card ne = ap (λ (m : Machine). is_dirty m.state card) (sym view) ∙ not_dirty heap sets.pairs ring pending core.parts card ne
 
   pub none_pending_dirty : pending ≡ 0 → (card : ℕ) → from ≤ card → none_dirty card
-  none_pending_dirty none card le = stays_clean card (λ dirty. absurd (omega (arith, some_member (pending_of heap.marks) card (to_pending heap.marks card (dirty_clean _ dirty)), core.parts.known)))
+  none_pending_dirty none card le = stays_clean card (λ dirty. absurd (omega (arith, some_pending heap sets.pairs ring pending core.parts card (dirty_clean _ dirty))))
 
   pub next_none : (o : Option ℕ) → MatchOption o (HasNoDirty heap.marks from) (λ card. IsFirstDirty heap.marks from card) → IfNone o ((card : ℕ) → from ≤ card → none_dirty card)
   next_none None h = λ card le. stays_clean card (λ dirty. h card le dirty)

@@ -1,6 +1,6 @@
 -- A drain, whole and short, is a step of the plain table.
-use Rattle.std.specs.Prelude.{◌≡◌, ◌<◌, ◌+◌, ◌++◌, ◌&&◌}
-use Rattle.g1_core.specs.{inl, inr, ℕ, false, List, [], length, refl, sym, ap, ◌∙◌, subst, arith, Contains, not, nat_cmp, true≢false, append-nil, length-append, set_of, Ring, reset, IsStep, drain_entry, AreMembers, refined, is_dirty, AreDirtyBelow, Drains, IsDirtyDrained, IsDirtyStopped, IsRingDrained, IsDrainOrder, IsDrainOf, IsShortDrain, IsWholeDrain, IsAllDrained, reset_machine, ring_with}
+use Rattle.std.specs.Prelude.{◌≡◌, ◌<◌, ◌+◌, ◌++◌}
+use Rattle.g1_core.specs.{inl, ℕ, false, List, [], length, refl, sym, ap, ◌∙◌, subst, arith, Contains, nat_cmp, true≢false, append-nil, length-append, Ring, reset, IsStep, drain_entry, AreMembers, refined, is_dirty, AreDirtyBelow, Drains, IsDirtyDrained, IsDirtyStopped, IsRingDrained, IsDrainOrder, IsDrainOf, IsShortDrain, IsWholeDrain, IsAllDrained, reset_machine, ring_with}
 use Rattle.std.specs.FinSet as set
 use Rattle.g1_core.specs.declared.reply.Drained.TheVariants as answers
 use Rattle.g1_core.specs.Table.{Table}
@@ -8,7 +8,7 @@ use Rattle.g1_core.specs.Machine.{Machine}
 use Rattle.g1_core.proofs.SetLemmas.{same_cards}
 use Rattle.g1_core.proofs.TableLemmas.{refined_pending}
 use Rattle.g1_core.proofs.TurnLemmas.{to_dirty}
-use Rattle.g1_core.proofs.DrainLoopLemmas.{drains_both, none_below, and_true}
+use Rattle.g1_core.proofs.DrainLoopLemmas.{drains_both}
 
 -- the dirty cards are the same once the ring is drained
 module _ (a b : Machine) (xs : List ℕ) (n : ℕ) (h : IsRingDrained a xs n b) (left : b.state.ring.cards ≡ []) where
@@ -16,10 +16,7 @@ module _ (a b : Machine) (xs : List ℕ) (n : ℕ) (h : IsRingDrained a xs n b) 
   whole_ring = h.order ∙ ap (λ (ys : List ℕ). xs ++ ys) left ∙ append-nil xs
 
   dirty_same : (q : ℕ) → is_dirty b.state q ≡ is_dirty a.state q
-  dirty_same q =
-      let nobody : set.contains (set_of b.state.ring.cards) q ≡ false = ap (λ (ys : List ℕ). set.contains (set_of ys) q) left ∙ set.contains-empty nat_cmp q in
-      let pending : set.contains b.state.table.pending q ≡ (set.contains a.state.table.pending q && not (set.contains (set_of xs) q)) = ap (λ (t : Table). set.contains t.pending q) h.drains.table ∙ refined_pending xs a.state.table q in
-      (λ i. pending i && not (nobody i)) ∙ and_true _ ∙ ap (λ (ys : List ℕ). set.contains a.state.table.pending q && not (set.contains (set_of ys) q)) (sym whole_ring)
+  dirty_same q = rw (h.drains.table, refined_pending xs a.state.table q, left, set.contains-empty nat_cmp q, whole_ring) (grind arith)
 
   below_same : (bound : ℕ) (ys : List ℕ) → AreDirtyBelow b.state bound ys → AreDirtyBelow a.state bound ys
   below_same bound ys k = record {
@@ -53,16 +50,7 @@ module _ (a b : Machine) (xs : List ℕ) (n : ℕ) (h : IsRingDrained a xs n b) 
             (λ q p. absurd (true≢false (sym p ∙ set.contains-empty nat_cmp q)));
       }
 
--- a drain that stops in the ring is short, and so is a whole one after which the set's list is refused
-pub short_ring : (old new : Machine) (cards : List ℕ) → IsRingDrained old cards (length cards + 1) new → IsShortDrain old cards new
-short_ring old new cards h = record {
-  order = record { held = cards; dirty = []; bound = 0; parts = sym (append-nil cards); ring = h.order; below = none_below old.state; turn = inr refl };
-  tried = length cards + 1;
-  each = omega arith;
-  most = omega arith;
-  drains = h.drains;
-}
-
+-- a whole drain is short where the set's list is refused after it
 pub drained_short : (old mid : Machine) (cards : List ℕ) → IsAllDrained old cards mid → IsShortDrain old cards mid
 drained_short old mid cards all = record { order = subst (IsDrainOrder old.state cards) (sym all.left) all.order; tried = length cards; each = omega arith; most = omega arith; drains = all.drains }
 

@@ -1,6 +1,6 @@
 -- The two loops of a drain, which count nothing: over the ring, and over the dirty cards.
-use Rattle.std.specs.Prelude.{◌≡◌, ◌≢◌, ◌<◌, ◌≤◌, ◌+◌, ◌^◌, ◌∷◌, ◌++◌, ◌&&◌}
-use Rattle.g1_core.specs.{inl, inr, ℕ, Bool, true, false, List, [], length, drop, Some, refl, sym, ap, ◌∙◌, subst, arith, Contains, slice_get, not, cases_lt, and_parts, not-true, true≢false, false_from_ne_true, append-nil, append_assoc, length_push, Contains-push, Contains-append_left, Contains-push_cases, set_of, Ring, popped, AreRefinable, IsPending, refined, State, is_dirty, ring_with, AreDirtyBelow, Drains, IsCardDrained, IsDirtyDrained, IsRingDrained}
+use Rattle.std.specs.Prelude.{◌≡◌, ◌≢◌, ◌<◌, ◌≤◌, ◌+◌, ◌^◌, ◌∷◌, ◌++◌}
+use Rattle.g1_core.specs.{inl, inr, ℕ, true, false, List, [], length, drop, Some, refl, sym, ap, ◌∙◌, subst, arith, Contains, slice_get, cases_lt, true≢false, false_from_ne_true, append-nil, append_assoc, length_push, Contains-push, Contains-append_left, Contains-push_cases, set_of, Ring, popped, AreRefinable, IsPending, refined, State, is_dirty, ring_with, AreDirtyBelow, Drains, IsCardDrained, IsDirtyDrained, IsRingDrained}
 use Rattle.std.specs.FinSet as set
 use Rattle.g1_core.specs.Table.{Table}
 use Rattle.g1_core.specs.Machine.{Machine}
@@ -8,8 +8,7 @@ use Rattle.g1_core.proofs.SetLemmas.{in_list, in_set, All_by_member}
 use Rattle.g1_sets.proofs.BitLemmas.{increasing_push}
 use Rattle.g1_core.proofs.TableLemmas.{refined_pending}
 use Rattle.g1_core.proofs.MarkLemmas.{one_of}
-use Rattle.g1_core.proofs.RefinedLemmas.{refined_none, refined_both, refinable_push}
-use Rattle.g1_core.proofs.TurnLemmas.{rest_refinable, IsDirty, dirty_from, to_dirty}
+use Rattle.g1_core.proofs.RefinedLemmas.{refined_none, refined_both, refinable_push, refinable_both}
 use Rattle.g1_core.proofs.PartLemmas.{IsFront, front_of}
 use Rattle.g1_core.proofs.StoreLemmas.{none_refinable}
 use Rattle.g1_core.proofs.ReadLemmas.{none_read, one_read, more_read}
@@ -17,13 +16,6 @@ use Rattle.g1_core.proofs.ReadLemmas.{none_read, one_read, more_read}
 -- more cards are refined
 pub drains_none : (m : Machine) → m.reads < 2 ^ 64 → Drains m [] 0 m
 drains_none m h = record { refines = none_refinable m.state.table; table = sym (refined_none m.state.table); ring = refl; settings = refl; reads = none_read m.reads m.state.table.layout.slots 0 h refl }
-
-refinable_both : (t : Table) (xs ys : List ℕ) → AreRefinable t xs → AreRefinable (refined xs t) ys → AreRefinable t (xs ++ ys)
-refinable_both t xs [] h k = subst (AreRefinable t) (sym (append-nil xs)) h
-refinable_both t xs (y ∷ ys) h k =
-    let first : IsPending (refined xs t) y = k.pending 0 y (omega arith) in
-    let rest : AreRefinable (refined (xs ++ y ∷ []) t) ys = subst (λ u. AreRefinable u ys) (refined_both xs (y ∷ []) t) (rest_refinable (refined xs t) y ys k) in
-    subst (AreRefinable t) (append_assoc xs (y ∷ []) ys) (refinable_both t (xs ++ y ∷ []) ys (refinable_push t xs y h first) rest)
 
 pub drains_both : (a b c : Machine) (xs ys : List ℕ) (n m : ℕ) → Drains a xs n b → Drains b ys m c → Drains a (xs ++ ys) (n + m) c
 drains_both a b c xs ys n m h k =
@@ -55,9 +47,8 @@ pub ring_more : (old mid new : Machine) (cards after : List ℕ) (card : ℕ) �
 ring_more old mid new cards after card h first k listed =
     let front : IsFront mid.state.ring.cards card = front_of mid.state.ring.cards card first in
     let left : new.state.ring.cards ≡ front.rest = ap (λ (r : Ring). r.cards) k.left ∙ ap (λ (xs : List ℕ). drop 1 xs) front.cards in
-    let more : length cards + 1 ≡ length (cards ++ card ∷ []) = sym (length_push cards card) in
     subst (λ (cs : List ℕ). IsRingDrained old cs (length cs) new) (sym listed) (record {
-      drains = subst (λ n. Drains old (cards ++ card ∷ []) n new) more (drains_both old mid new cards (card ∷ []) (length cards) 1 h.drains (drains_card mid card (popped mid.state.ring) new refl k));
+      drains = subst (λ n. Drains old (cards ++ card ∷ []) n new) (sym (length_push cards card)) (drains_both old mid new cards (card ∷ []) (length cards) 1 h.drains (drains_card mid card (popped mid.state.ring) new refl k));
       order = h.order ∙ ap (λ (xs : List ℕ). cards ++ xs) front.cards ∙ sym (append_assoc cards (card ∷ []) front.rest) ∙ ap (λ (xs : List ℕ). (cards ++ card ∷ []) ++ xs) (sym left);
     })
 
@@ -75,17 +66,11 @@ dirty_none m cards h = record {
   others = λ q le. refl;
 }
 
-pub and_true : (b : Bool) → (b && true) ≡ b
-and_true true = refl
-and_true false = refl
-
 -- another card stays dirty or not
 other_dirty : (old new : Machine) (card q : ℕ) → IsCardDrained old card old.state.ring new → q ≢ card → is_dirty new.state q ≡ is_dirty old.state q
 other_dirty old new card q k ne =
     let absent : set.contains (set_of (card ∷ [])) q ≡ false = false_from_ne_true _ (λ c. ne (one_of q card (in_list (card ∷ []) q c))) in
-    let pending : set.contains new.state.table.pending q ≡ set.contains old.state.table.pending q =
-    ap (λ (t : Table). set.contains t.pending q) k.table ∙ refined_pending (card ∷ []) old.state.table q ∙ ap (λ b. set.contains old.state.table.pending q && not b) absent ∙ and_true _ in
-    (λ i. pending i && not (set.contains (set_of (k.left i).cards) q))
+    rw (k.table, k.left, refined_pending (card ∷ []) old.state.table q, absent) (grind arith)
 
 pub dirty_more : (old mid new : Machine) (before cards after : List ℕ) (bound card : ℕ) → IsDirtyDrained old before cards bound mid → is_dirty mid.state card ≡ true → bound ≤ card
     → ((earlier : ℕ) → bound ≤ earlier → earlier < card → is_dirty mid.state earlier ≡ false) → IsCardDrained mid card mid.state.ring new → after ≡ cards ++ card ∷ [] → IsDirtyDrained old before after (card + 1) new
@@ -117,10 +102,7 @@ dirty_more old mid new before cards after bound card h dirty le first k listed =
 pub dirty_all : (old new : Machine) (before after : List ℕ) (bound : ℕ) → IsDirtyDrained old before after bound new → ((card : ℕ) → bound ≤ card → is_dirty new.state card ≡ false) → (card : ℕ) → is_dirty new.state card ≡ false
 dirty_all old new before after bound h none q = elim (cases_lt q bound) [
   | inr above ↦ none q above
-  | inl low ↦ false_from_ne_true _ (λ dirty.
-      let d : IsDirty new.state q = dirty_from new.state q dirty in
-      let pending : IsPending (refined h.gone old.state.table) q = subst (λ t. IsPending t q) h.drains.table d.pending in
-      let parts = and_parts _ _ (sym (refined_pending h.gone old.state.table q) ∙ pending) in
-      let was : is_dirty old.state q ≡ true = to_dirty old.state q parts.0 (λ c. d.apart (subst (λ (r : Ring). Contains r.cards q) (sym h.ring) c)) in
-      true≢false (sym (in_set h.gone q ((h.below.just q).1 (low, was))) ∙ not-true _ parts.1))
+  | inl low ↦
+      let listed : is_dirty old.state q ≡ true → set.contains (set_of h.gone) q ≡ true = λ was. in_set h.gone q ((h.below.just q).1 (low, was)) in
+      rw (h.drains.table, refined_pending h.gone old.state.table q, h.ring) (grind arith)
 ]

@@ -1,12 +1,12 @@
 -- The slots of a card that enter a region, as a heap answers one after another.
 use Rattle.std.specs.Prelude.{◌≡◌, ◌≢◌, ◌<◌, ◌≤◌, ◌+◌, ◌-◌, ◌*◌, ◌^◌, ◌∷◌, ◌++◌}
-use Rattle.g1_core.specs.{inl, inr, ℕ, zero, suc, true, cond, List, [], get_or, Option, Some, None, refl, sym, ap, ◌∙◌, subst, arith, not, IfSome, range_with_len, eqb-true, eqb-false, eq-eqb, ne_eqb, and_parts, and_from, not-true, append-nil, Shape, IsShape, slot_count, card_of, region_of, region_of_card, slot_at, same_offset, PairSet, card_of-row, region_of-row, Cells, AreCells, with_reads, Change, table_from, enters, IsLeastOn, AreRead, change_at, changes_of, slots_of}
+use Rattle.g1_core.specs.{inl, inr, ℕ, suc, true, cond, List, [], get_or, Option, Some, None, refl, sym, ap, ◌∙◌, subst, arith, not, range_with_len, eqb-true, eqb-false, eq-eqb, ne_eqb, and_parts, and_from, not-true, append-nil, Shape, IsShape, slot_count, card_of, region_of, region_of_card, slot_at, same_offset, PairSet, card_of-row, region_of-row, Cells, AreCells, with_reads, Change, table_from, enters, IsLeastOn, AreRead, change_at, changes_of, slots_of, length, Contains, cons_option, card_of-in_row, region_of_slot}
 use Rattle.g1_heap.specs.Listing.{RefersInto}
 use Rattle.g1_heap.specs.Entering.{HasNoneInto, IsNextInto}
 use Rattle.g1_core.proofs.ChangeLemmas.{change_cases}
 use Rattle.g1_core.proofs.LeastSlotLemmas.{NoneBefore, card_none, card_first, read_more}
 use Rattle.g1_core.proofs.TableLemmas.{is_slot}
-use Rattle.g1_core.proofs.WalkLemmas.{changes_next}
+use Rattle.g1_core.proofs.WalkLemmas.{changes_next, changes_both, range_split, from_range}
 
 -- more reads
 pub read_some : (old new : Cells) (more : ℕ) → old.reads ≤ 2 ^ 64 - 1 → new ≡ with_reads old more → AreRead old new more
@@ -25,9 +25,7 @@ module _ (heap now new : Cells) (offset : ℕ) (before : AreRead heap now offset
 pub place_within : (heap now : Cells) (most : ℕ) (l : Shape) (card from start found place : ℕ) → AreCells heap → AreRead heap now most → l ≡ heap.layout → IsNextInto now.layout now.refs card from start found place → place < slot_count l
 place_within heap now most l card from start found place cells read same next =
     let n : IsNextInto heap.layout heap.refs card from start found place = subst (λ (h : Cells). IsNextInto h.layout h.refs card from start found place) read.cells next in
-    let slot : ℕ = slot_at heap.layout card found in
-    let kept : IfSome (get_or heap.refs slot None) (λ target. target < slot_count heap.layout) = cells.places slot None (is_slot heap.refs slot place n.refers) in
-    subst (λ (l : Shape). place < slot_count l) (sym same) (subst (λ (o : Option ℕ). IfSome o (λ target. target < slot_count heap.layout)) n.refers kept)
+    rw (n.refers, ← same) at (cells.places (slot_at heap.layout card found) None (is_slot heap.refs (slot_at heap.layout card found) place n.refers))
 
 pub slot_on : (l m : Shape) (card offset slot : ℕ) → offset < m.slots → slot ≡ slot_at l card offset → l ≡ m → card_of m slot ≡ card
 slot_on l m card offset slot within at same = ap (card_of m) (at ∙ ap (λ (l : Shape). slot_at l card offset) same) ∙ card_of-row m card offset within
@@ -61,38 +59,37 @@ module _ (l : Shape) (refs : List (Option ℕ)) (from to card : ℕ) where
         absurd (never (λ e. eqb-false _ _ (not-true _ parts.0) e) (record { place = c.old; refers = c.refers; into = eqb-true _ _ parts.1 }))
   ]
 
-  passed_on : (offset n : ℕ) (before xs : List Change) → ((k : ℕ) → offset ≤ k → k < offset + n → change_at l from to (slot_at l card k) (get_or refs (slot_at l card k) None) ≡ None)
-      → xs ≡ before ++ changes_of l refs from to (range_with_len (card * l.slots) offset) → xs ≡ before ++ changes_of l refs from to (range_with_len (card * l.slots) (offset + n))
-  passed_on offset zero before xs none is =
-      let same : offset ≡ offset + 0 = omega arith in
-      subst (λ (k : ℕ). xs ≡ before ++ changes_of l refs from to (range_with_len (card * l.slots) k)) same is
-  passed_on offset (suc n) before xs none is =
-      let same : offset + 1 + n ≡ offset + suc n = omega arith in
-      subst (λ (k : ℕ). xs ≡ before ++ changes_of l refs from to (range_with_len (card * l.slots) k)) same
-      (passed_on (offset + 1) n before xs (λ k above lt. none k (omega arith) (omega arith))
-      (changes_next l refs from to card offset (slot_at l card offset) None before xs xs refl (sym (none offset (omega arith) (omega arith))) is (sym (append-nil xs))))
+  no_changes : (slots : List ℕ) → ((s : ℕ) → Contains slots s → change_at l from to s (get_or refs s None) ≡ None) → changes_of l refs from to slots ≡ []
+  no_changes [] each = refl
+  no_changes (s ∷ slots) each = λ i. cons_option (each s (0, omega arith, refl) i) (no_changes slots (λ q c. each q (suc c.0, omega (arith, c.1), c.2)) i)
 
   -- no change up to an offset
   pub changes_passed : (offset end : ℕ) (before xs : List Change) → offset ≤ end → HasNoneInto l refs card from offset end
       → xs ≡ before ++ changes_of l refs from to (range_with_len (card * l.slots) offset) → xs ≡ before ++ changes_of l refs from to (range_with_len (card * l.slots) end)
   changes_passed offset end before xs le none is =
-      let whole : offset + (end - offset) ≡ end = omega arith in
-      subst (λ (k : ℕ). xs ≡ before ++ changes_of l refs from to (range_with_len (card * l.slots) k)) whole
-      (passed_on offset (end - offset) before xs (λ k above lt. none_away (slot_at l card k) (get_or refs (slot_at l card k) None) (λ outside m. none k above (omega arith) m)) is)
+      let more : List ℕ = range_with_len (card * l.slots + offset) (end - offset) in
+      let length : offset + (end - offset) ≡ end = omega arith in
+      let whole : range_with_len (card * l.slots) end ≡ range_with_len (card * l.slots) offset ++ more = ap (λ (k : ℕ). range_with_len (card * l.slots) k) (sym length) ∙ range_split (card * l.slots) offset (end - offset) in
+      let nothing : changes_of l refs from to more ≡ [] = no_changes more (λ s c.
+      let r = from_range (card * l.slots + offset) (end - offset) s c in
+      let at : slot_at l card (s - card * l.slots) ≡ s = omega (arith, r.0) in
+      none_away s (get_or refs s None) (λ outside m. none (s - card * l.slots) (omega (arith, r.0)) (omega (arith, r.1)) (rw at m))) in
+      rw (is, whole, changes_both l refs from to (range_with_len (card * l.slots) offset) more, nothing, append-nil) refl
 
   -- a card in the region has none
   pub changes_own : (before : List Change) → region_of_card l card ≡ from → before ≡ before ++ changes_of l refs from to (slots_of l card)
-  changes_own before own =
-      let whole : 0 + l.slots ≡ l.slots = omega arith in
-      subst (λ (n : ℕ). before ≡ before ++ changes_of l refs from to (range_with_len (card * l.slots) n)) whole
-      (passed_on 0 l.slots before before (λ k above lt. none_away (slot_at l card k) (get_or refs (slot_at l card k) None) (λ outside m. outside (region_of-row l card k (omega arith) ∙ own))) (sym (append-nil before)))
+  changes_own before own = rw (
+    no_changes (slots_of l card) (λ s c.
+        let r = from_range (card * l.slots) l.slots s c in
+        none_away s (get_or refs s None) (λ outside m. outside (sym (region_of_slot l s) ∙ ap (region_of_card l) (card_of-in_row l card s (record { from = r.0; below = r.1 })) ∙ own))),
+    append-nil,
+  ) refl
 
   -- the change of the slot that is found
   pub change_found : (start offset place slot moved : ℕ) → region_of_card l card ≢ from → IsNextInto l refs card from start offset place → slot ≡ slot_at l card offset → moved ≡ same_offset l place to
       → (let c : Change = record { slot = slot; place = moved } in Some c ≡ change_at l from to slot (get_or refs slot None))
   change_found start offset place slot moved outside next at is =
-      let out : region_of l slot ≢ from = λ e. outside (sym (region_of-row l card offset next.within) ∙ ap (region_of l) (sym at) ∙ e) in
-      let enter : enters l from (slot, Some place) ≡ true = and_from _ _ (ap not (ne_eqb _ _ out)) (eq-eqb _ _ next.into) in
+      let enter : enters l from (slot, Some place) ≡ true = and_from _ _ (ap not (ne_eqb _ _ (λ e. outside (sym (region_of-row l card offset next.within) ∙ ap (region_of l) (sym at) ∙ e)))) (eq-eqb _ _ next.into) in
       let c : Change = record { slot = slot; place = same_offset l place to } in
       ap (λ (k : ℕ). let c : Change = record { slot = slot; place = k } in Some c) is
       ∙ sym (ap (λ b. cond {A = Option Change} b (Some c) None) enter)

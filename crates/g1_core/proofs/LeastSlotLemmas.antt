@@ -74,12 +74,13 @@ module _ (t : Table) (shape : IsShape t.layout) (region : ℕ) where
     ],
   )
 
-  -- the slots of a later card are later
-  later_slot : (card slot other : ℕ) → card_of t.layout slot ≡ card → card < card_of t.layout other → slot ≤ other
-  later_slot card slot other on less =
-      let here : IsInRow t.layout card slot = row_of_card t.layout card slot shape on in
-      let there : IsInRow t.layout (card_of t.layout other) other = row_of_slot t.layout other shape in
-      omega (arith, here.below, there.from, row_fits card t.layout.slots (card_of t.layout other) t.layout.slots less (omega arith))
+  -- the least slot of a card is the least from that card on
+  least_up : (card slot : ℕ) → card_of t.layout slot ≡ card → IsLeastOn t (card ∷ []) region (Some slot) → (other : ℕ) → card ≤ card_of t.layout other → Enters t other region → slot ≤ other
+  least_up card slot on first other from e = elim (cases_lt card (card_of t.layout other)) [
+    | inl less ↦
+        omega (arith, (row_of_card t.layout card slot shape on).below, (row_of_slot t.layout other shape).from, row_fits card t.layout.slots (card_of t.layout other) t.layout.slots less (omega arith))
+    | inr past ↦ let same : card_of t.layout other ≡ card = omega arith in first.1 other (itself (card_of t.layout other) card same) e
+  ]
 
   module _ (cards : List ℕ) (card past : ℕ) (least : Option ℕ) (h : IsLeastFrom t cards region past least) where
     -- one more card, of which no slot before the end enters the region
@@ -99,35 +100,18 @@ module _ (t : Table) (shape : IsShape t.layout) (region : ℕ) where
         | inl c ↦ h.before other c (omega arith) e
         | inr c ↦ let same : card_of t.layout other ≡ card = one_of (card_of t.layout other) card c in absurd (omega arith)
       ];
-      found = (
-        first.0,
-        λ other from e. elim (cases_lt card (card_of t.layout other)) [
-          | inl less ↦ later_slot card slot other on less
-          | inr past ↦ let same : card_of t.layout other ≡ card = omega arith in first.1 other (itself (card_of t.layout other) card same) e
-        ],
-      );
+      found = (first.0, least_up card slot on first);
     }
 
   -- the least slot of the card of the least number is that of all the cards
   pub least_first : (cards : List ℕ) (first slot : ℕ) → All (λ card. first ≤ card) cards → card_of t.layout slot ≡ first → IsLeastOn t (first ∷ []) region (Some slot) → IsLeastOn t cards region (Some slot)
-  least_first cards first slot all on least = (
-    least.0,
-    λ other there e.
-        let past : first ≤ card_of t.layout other = subst (λ (card : ℕ). first ≤ card) there.2 (all there.0 (card_of t.layout other) there.1) in
-        elim (cases_lt first (card_of t.layout other)) [
-          | inl less ↦ later_slot first slot other on less
-          | inr not ↦ let same : card_of t.layout other ≡ first = omega arith in least.1 other (itself (card_of t.layout other) first same) e
-        ],
-  )
+  least_first cards first slot all on least = (least.0, λ other there e. least_up first slot on least other (subst (λ (card : ℕ). first ≤ card) there.2 (all there.0 (card_of t.layout other) there.1)) e)
 
 -- the next card of a list, which is not read, or which the heap is read for
 module _ (heap now : Cells) (most : ℕ) (read : AreRead heap now most) (pairs : PairSet) (shape : IsShape heap.layout) (region : ℕ) (cards : List ℕ) (index card : ℕ) (at : slice_get cards index ≡ Some card) (past : ℕ) (least : Option ℕ)
     (h : IsLeastFrom (table_from heap pairs) (take index cards) region past least) (past' : ℕ) (least' : Option ℕ) where
   as_next : (p : ℕ) (o : Option ℕ) → past' ≡ p → least' ≡ o → IsLeastFrom (table_from heap pairs) (take index cards ++ card ∷ []) region p o → IsLeastFrom (table_from heap pairs) (take (index + 1) cards) region past' least'
-  as_next p o same same_least found =
-      subst (λ (p : ℕ). IsLeastFrom (table_from heap pairs) (take (index + 1) cards) region p least') (sym same)
-      (subst (λ (o : Option ℕ). IsLeastFrom (table_from heap pairs) (take (index + 1) cards) region p o) (sym same_least)
-      (subst (λ (cs : List ℕ). IsLeastFrom (table_from heap pairs) cs region p o) (sym (take_next cards index card at)) found))
+  as_next p o same same_least found = rw (same, same_least, take_next cards index card at) found
 
   here : (o : Option ℕ) → ((pairs : PairSet) → IsLeastOn (table_from now pairs) (card ∷ []) region o) → IsLeastOn (table_from heap pairs) (card ∷ []) region o
   here o on = subst (λ (t : Table). IsLeastOn t (card ∷ []) region o) (read_table heap now most pairs read) (on pairs)

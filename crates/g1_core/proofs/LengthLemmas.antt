@@ -1,72 +1,34 @@
 -- How long the lists of a reply can be.
-use Rattle.std.specs.Prelude.{◌≡◌, if◌then◌else◌, ◌≤◌, ◌+◌, ◌*◌, ◌∷◌}
-use Rattle.g1_core.specs.{Bool, true, false, ℕ, zero, suc, List, [], length, take, Option, Some, None, refl, ap, arith, length-append, reads_after, Offer, Kept, RefineReply, AreRefinable, refined, State, Round, refined_by, hot_by, skipped_by, offer_to, turn, turns, start, IsTurned, IsIdle, AreCardsRead, DoesRefine}
+use Rattle.std.specs.Prelude.{◌≡◌, ◌≤◌, ◌+◌, ◌*◌, ◌∷◌}
+use Rattle.g1_core.specs.{ℕ, List, [], length, take, Option, Some, None, refl, ap, arith, length-append, reads_after, Offer, RefineReply, AreRefinable, refined, State, Round, refined_by, hot_by, skipped_by, offer_to, turn, turns, start, IsTurned, IsIdle, AreCardsRead, DoesRefine, nat_cmp_total, exact_unsigned, All-contains, IsPending}
+use Rattle.std.proofs.lemmas.Bool.{cases_cond}
+use Rattle.std.proofs.lemmas.List.{length-take}
 use Rattle.std.specs.FinSet as set
 use Rattle.g1_core.specs.Table.{Table}
 use Rattle.g1_core.specs.Machine.{Machine}
-use Rattle.g1_core.proofs.MarkLemmas.{one_less}
-use Rattle.g1_core.proofs.TurnLemmas.{rest_refinable}
+use Rattle.g1_core.proofs.SetLemmas.{few_distinct}
 
 -- no more cards are refined than are pending
 pub refined_few : (t : Table) (cards : List ℕ) → AreRefinable t cards → length cards ≤ set.len t.pending
-refined_few t [] h = omega arith
-refined_few t (x ∷ xs) h =
-    let fewer = one_less t.pending x (h.pending 0 x (omega arith)) in
-    let few = refined_few (refined (x ∷ []) t) xs (rest_refinable t x xs h) in
-    omega arith
+refined_few t cards h = few_distinct nat_cmp_total exact_unsigned (λ k. k) (λ a b e. e) cards t.pending h.distinct (λ card c. All-contains (IsPending t) cards card h.pending c)
 
--- a turn refines one card at most, and a card that it skips is not refined
-one_at_most : (card : ℕ) (o : Option Offer) → length (refined_by card o) + skipped_by o ≤ 1
-one_at_most card None = omega arith
-one_at_most card (Some Kept) = omega arith
-one_at_most card (Some _) = omega arith
+-- a turn refines one card at most, a card that it skips is not refined, and it counts one hot card at most
+one_at_most : (card : ℕ) (o : Option Offer) → (length (refined_by card o) + skipped_by o ≤ 1) × (hot_by o ≤ 1)
+one_at_most card o = grind arith
 
-turns_few : (cards : List ℕ) (r : Round) → length (turns r cards).refined + (turns r cards).skipped ≤ length r.refined + r.skipped + length cards
+turns_few : (cards : List ℕ) (r : Round) → (length (turns r cards).refined + (turns r cards).skipped ≤ length r.refined + r.skipped + length cards) × ((turns r cards).hot ≤ r.hot + length cards)
 turns_few [] r = omega arith
-turns_few (card ∷ cards) r =
-    let more : length (turn r card).refined ≡ length r.refined + length (refined_by card (offer_to r.state card)) = length-append r.refined (refined_by card (offer_to r.state card)) in
-    let one = one_at_most card (offer_to r.state card) in
-    let rest = turns_few cards (turn r card) in
-    omega arith
-
-taken_few : (n : ℕ) (xs : List ℕ) → length (take n xs) ≤ length xs
-taken_few zero xs = omega arith
-taken_few (suc n) [] = omega arith
-taken_few (suc n) (x ∷ xs) = omega (arith, taken_few n xs)
+turns_few (card ∷ cards) r = omega (arith, length-append r.refined (refined_by card (offer_to r.state card)), one_at_most card (offer_to r.state card), turns_few cards (turn r card))
 
 -- no more cards are refined or skipped than the buffer has
 pub turned_few : (old : State) (cards : List ℕ) (reply : RefineReply) (new : State) → IsTurned old cards reply new → length reply.refined + reply.skipped ≤ length cards
 turned_few old cards reply new h =
-    let is : length reply.refined ≡ length (turns (start old) (take h.many cards)).refined = ap (λ (r : Round). length r.refined) h.turned in
-    let skipped : reply.skipped ≡ (turns (start old) (take h.many cards)).skipped = ap (λ (r : Round). r.skipped) h.turned in
-    let few = turns_few (take h.many cards) (start old) in
-    let some : length (take h.many cards) ≤ length cards = taken_few h.many cards in
-    omega arith
-
--- nor does a turn count more than one hot card
-hot_one : (o : Option Offer) → hot_by o ≤ 1
-hot_one None = omega arith
-hot_one (Some Kept) = omega arith
-hot_one (Some _) = omega arith
-
-turns_hot_few : (cards : List ℕ) (r : Round) → (turns r cards).hot ≤ r.hot + length cards
-turns_hot_few [] r = omega arith
-turns_hot_few (card ∷ cards) r =
-    let one = hot_one (offer_to r.state card) in
-    let rest = turns_hot_few cards (turn r card) in
-    omega arith
-
-none_or_one : (short : Bool) (n : ℕ) → n ≡ (if short then 0 else 1) → n ≤ 1
-none_or_one true n is = omega arith
-none_or_one false n is = omega arith
+    omega (arith, ap (λ (r : Round). length r.refined) h.turned, ap (λ (r : Round). r.skipped) h.turned, turns_few (take h.many cards) (start old), length-take h.many cards)
 
 -- nor are more hot, and at most one buffer is done
 pub turned_counts : (old : State) (cards : List ℕ) (reply : RefineReply) (new : State) → IsTurned old cards reply new → (reply.taken ≤ 1) × (reply.hot ≤ length cards)
 turned_counts old cards reply new h =
-    let hot : reply.hot ≡ (turns (start old) (take h.many cards)).hot = ap (λ (r : Round). r.hot) h.turned in
-    let few = turns_hot_few (take h.many cards) (start old) in
-    let some : length (take h.many cards) ≤ length cards = taken_few h.many cards in
-    (none_or_one reply.short reply.taken h.taken, omega arith)
+    (omega (arith, cases_cond reply.short 0 1 reply.taken h.taken), omega (arith, ap (λ (r : Round). r.hot) h.turned, turns_few (take h.many cards) (start old), length-take h.many cards))
 
 -- what a refinement does without a buffer, and with one
 pub idle_does : (m : Machine) (reply : RefineReply) → IsIdle reply → m.reads ≡ reads_after m.reads (0 * m.state.table.layout.slots) → DoesRefine None reply m m

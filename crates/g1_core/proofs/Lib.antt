@@ -3,7 +3,6 @@ pub mod TableLemmas
 pub mod MovedLemmas
 pub mod RunLemmas
 pub mod SinceLemmas
-pub mod OutsideLemmas
 pub mod AdoptingLemmas
 pub mod AdoptedPairLemmas
 pub mod AdoptionLemmas
@@ -33,7 +32,6 @@ pub mod RefinedLemmas
 pub mod LengthLemmas
 pub mod ReadLemmas
 pub mod VerifyLemmas
-pub mod StoresApart
 pub mod CopyLemmas
 pub mod Rules
 use AdoptingLemmas.*

@@ -6,7 +6,7 @@ use Rattle.g1_core.specs.Table.{Table}
 use Rattle.g1_core.specs.declared.config.Settings.{Settings}
 use Rattle.g1_core.proofs.SetLemmas.{same_cards}
 use Rattle.g1_core.proofs.TableLemmas.{opening_covered}
-use Rattle.g1_core.proofs.OutsideLemmas.{opening_outside}
+use Rattle.g1_core.proofs.RunLemmas.{opening_outside}
 use Rattle.g1_core.proofs.MarkLemmas.{held_clean, from_pending}
 use Rattle.g1_core.proofs.RefinedLemmas.{refined_none}
 use Rattle.g1_core.proofs.StoreLemmas.{none_refinable}
@@ -14,8 +14,7 @@ use Rattle.g1_core.proofs.StoreLemmas.{none_refinable}
 -- a call that refines nothing and changes nothing
 pub idle_step : (caller : ℕ) (t : Table) (reply : RefineReply) → reply.refined ≡ [] → IsStep t (refine_entry caller reply) t
 idle_step caller t reply none =
-    let done : refined reply.refined t ≡ t = ap (λ (ks : List ℕ). refined ks t) none ∙ refined_none t in
-    record { allowed = record { numbers = tt; refines = subst (AreRefinable t) (sym none) (none_refinable t); answers = tt }; after = sym done }
+    record { allowed = record { numbers = tt; refines = subst (AreRefinable t) (sym none) (none_refinable t); answers = tt }; after = sym (ap (λ (ks : List ℕ). refined ks t) none ∙ refined_none t) }
 
 -- a new core
 pub all_clean : (n q : ℕ) → ◌≡◌ {A = Mark} (get_or (replicate n Clean) q Clean) Clean
@@ -54,8 +53,7 @@ module _ (l : Shape) (limit capacity : ℕ) (shape : IsShape l) (some : 1 ≤ ca
 module _ (l : Shape) (s : Settings) (limit capacity : ℕ) (heap : Cells) (sets : Pairs) (ring : Ring) (shape : IsShape l) (some : 1 ≤ capacity) (el : limit ≡ s.hot) (ec : capacity ≡ s.ring)
     (eh : heap ≡ new_cells l) (es : sets ≡ new_pairs l) (er : ring ≡ new_ring l limit capacity) where
   pub made_core : IsCore heap sets ring 0
-  made_core = subst (λ h. IsCore h sets ring 0) (sym eh) (subst (λ s. IsCore (new_cells l) s ring 0) (sym es) (subst (λ r. IsCore (new_cells l) (new_pairs l) r 0) (sym er)
-      (record { layouts = refl; parts = new_parts l limit capacity shape some })))
+  made_core = rw (eh, es, er) (record { layouts = refl; parts = new_parts l limit capacity shape some })
 
   pub made_machine : machine_from heap sets.pairs ring s ≡ new_machine l s
   made_machine =

@@ -1,18 +1,21 @@
 -- The parts of a core and the state that they stand for.
-use Rattle.std.specs.Prelude.{◌≡◌, ◌≢◌, ◌<◌, ◌+◌, ◌∷◌, ◌++◌, ◌↔◌}
-use Rattle.g1_core.specs.{inl, inr, ℕ, zero, suc, true, false, cond, List, [], length, get_or, drop, Option, Some, None, refl, sym, ap, ◌∙◌, subst, arith, Contains, nat_eq, slice_get, IsDistinct, cases_eq, false_from_ne_true, length-set, Contains-push, Contains-append_left, Contains-push_cases, card_count, PairSet, Mark, Clean, Dirty, Held, Cells, with_mark, with_reads, Offer, Ring, answer, popped, IsCovered, IsPending, refined, State, IsPlaced, AreParts, pending_of, table_from, state_from, gained, is_dirty, offer_to}
+use Rattle.std.specs.Prelude.{◌≡◌, ◌≢◌, ◌<◌, ◌+◌, ◌∷◌, ◌++◌, ◌↔◌, ◌≤◌}
+use Rattle.g1_core.specs.{inl, inr, ℕ, suc, true, false, cond, List, [], length, get_or, drop, Option, Some, None, refl, sym, ap, ◌∙◌, subst, arith, Contains, nat_eq, slice_get, IsDistinct, cases_eq, false_from_ne_true, length-set, Contains-push, Contains-append_left, Contains-push_cases, PairSet, Mark, Clean, Dirty, Held, Cells, with_mark, with_reads, Offer, Ring, answer, popped, IsCovered, IsPending, refined, State, IsPlaced, AreParts, pending_of, table_from, state_from, gained, is_dirty, offer_to, AreCells, AreOutside, nat_cmp_total, exact_unsigned}
 use Rattle.std.proofs.Common.{set as list_set}
+use Rattle.std.proofs.lemmas.Map.Made.{Contains-tail}
 use Rattle.std.specs.FinSet as set
-use Rattle.g1_core.proofs.SetLemmas.{All_by_member}
+use Rattle.g1_core.specs.Table.{Table}
+use Rattle.g1_core.proofs.SetLemmas.{All_by_member, front_apart, rest_distinct, some_member}
 use Rattle.g1_core.proofs.TableLemmas.{refined_covered}
-use Rattle.g1_core.proofs.OutsideLemmas.{refined_outside}
+use Rattle.g1_core.proofs.RunLemmas.{refined_outside}
 use Rattle.g1_core.proofs.MarkLemmas.{held_clean, dirty_clean, dirty_held, marked_cases, from_pending, to_pending, is_card, pending_cleaned, pending_kept, mark_here, mark_there, one_less}
 use Rattle.g1_core.proofs.RefinedLemmas.{push_distinct}
-use Rattle.g1_core.proofs.TurnLemmas.{front_apart, rest_distinct, IsDirty, dirty_from, to_dirty}
+use Rattle.g1_core.proofs.TurnLemmas.{IsDirty, dirty_from, to_dirty}
 
-pub in_rest : (x : ℕ) (xs : List ℕ) (q : ℕ) → q ≢ x → Contains (x ∷ xs) q → Contains xs q
-in_rest x xs q ne (zero, lt, e) = absurd (ne (sym e))
-in_rest x xs q ne (suc k, lt, e) = (k, omega arith, e)
+-- new parts, and the table that they stand for
+pub record IsMade (heap' : Cells) (pairs' : PairSet) (ring' : Ring) (pending' : ℕ) (t : Table) : Type 0 where
+  pub parts : AreParts heap' pairs' ring' pending'
+  pub table : table_from heap' pairs' ≡ t
 
 module _ (heap : Cells) (pairs : PairSet) (ring : Ring) (pending : ℕ) (parts : AreParts heap pairs ring pending) where
   abbrev pub now : State
@@ -55,9 +58,9 @@ module _ (heap : Cells) (pairs : PairSet) (ring : Ring) (pending : ℕ) (parts :
   pub offer_none : (card : ℕ) → mark_of card ≢ Dirty → offer_to now card ≡ None
   offer_none card ne = ap (λ b. cond {A = Option Offer} b (Some (answer ring card)) None) (not_dirty card ne)
 
-  -- reads change nothing else
-  pub read_parts : (more : ℕ) → AreParts (with_reads heap more) pairs ring pending
-  read_parts more = search
+  -- a marked card is one that is pending
+  pub some_pending : (q : ℕ) → mark_of q ≢ Clean → 1 ≤ pending
+  some_pending q marked = omega (arith, some_member nat_cmp_total exact_unsigned (pending_of heap.marks) q (to_pending heap.marks q marked), parts.known)
 
   -- A pending card is refined and clean afterwards, and the ring holds just the other cards.
   module _ (ring' : Ring) (pending' card more : ℕ) (marked : mark_of card ≢ Clean) (less : pending' + 1 ≡ pending)
@@ -66,28 +69,18 @@ module _ (heap : Cells) (pairs : PairSet) (ring : Ring) (pending : ℕ) (parts :
     inside : card < length heap.marks
     inside = is_card heap.marks card marked
 
-    pub cleaned_state : state_from (with_mark (with_reads heap more) card Clean) (gained heap pairs card) ring' ≡ record { table = refined (card ∷ []) (table_from heap pairs); ring = ring' }
-    cleaned_state = λ i. record { table = record { layout = heap.layout; refs = heap.refs; pending = pending_cleaned heap.marks card Clean inside refl i; recorded = gained heap pairs card }; ring = ring' }
-
-    pub cleaned_parts : AreParts (with_mark (with_reads heap more) card Clean) (gained heap pairs card) ring' pending'
-    cleaned_parts =
+    pub cleaned : IsMade (with_mark (with_reads heap more) card Clean) (gained heap pairs card) ring' pending' (refined (card ∷ []) (table_from heap pairs))
+    cleaned =
+        let table : table_from (with_mark (with_reads heap more) card Clean) (gained heap pairs card) ≡ refined (card ∷ []) (table_from heap pairs) = λ i. record { layout = heap.layout; refs = heap.refs; pending = pending_cleaned heap.marks card Clean inside refl i; recorded = gained heap pairs card } in
         let fewer : set.len (pending_of (list_set heap.marks card Clean)) + 1 ≡ set.len (pending_of heap.marks) = ap (λ s. set.len s + 1) (pending_cleaned heap.marks card Clean inside refl) ∙ one_less (pending_of heap.marks) card (to_pending heap.marks card marked) in
-        record {
-          cells = record { shape = parts.cells.shape; slots = parts.cells.slots; places = parts.cells.places; cards = length-set heap.marks card Clean ∙ parts.cells.cards };
-          counts = counts ∙ parts.counts;
-          some = omega (arith, capacity, parts.some);
-          distinct = distinct;
-          held = λ q. (
-            λ c. let was = (stands q).0 c in mark_there heap.marks card Clean inside q was.1 ∙ (parts.held q).0 was.0,
-            λ is. elim (cases_eq q card) [
-              | inl same ↦ absurd (held_clean _ is (ap (λ (k : ℕ). get_or (list_set heap.marks card Clean) k Clean) same ∙ mark_here heap.marks card Clean inside))
-              | inr ne ↦ (stands q).1 ((parts.held q).1 (sym (mark_there heap.marks card Clean inside q ne) ∙ is), ne)
-            ],
-          );
-          known = omega (arith, fewer, less, parts.known);
-          cover = subst IsCovered (sym (ap (λ (s : State). s.table) cleaned_state)) (refined_covered (card ∷ []) (table_from heap pairs) parts.cover);
-          outside = refined_outside (table_from heap pairs) parts.cells.shape parts.cells.slots parts.cells.places (card ∷ []) parts.outside;
-        }
+        let cells : AreCells (with_mark (with_reads heap more) card Clean) = record { shape = parts.cells.shape; slots = parts.cells.slots; places = parts.cells.places; cards = length-set heap.marks card Clean ∙ parts.cells.cards } in
+        let held : (q : ℕ) → Contains ring'.cards q ↔ (get_or (list_set heap.marks card Clean) q Clean ≡ Held) = λ q. elim (cases_eq q card) [
+          | inl same ↦ (λ c. absurd (((stands q).0 c).1 same), λ is. absurd (held_clean _ is (rw same (mark_here heap.marks card Clean inside))))
+          | inr ne ↦ rw (mark_there heap.marks card Clean inside q ne) (λ c. (parts.held q).0 ((stands q).0 c).0, λ is. (stands q).1 ((parts.held q).1 is, ne))
+        ] in
+        let cover : IsCovered (table_from (with_mark (with_reads heap more) card Clean) (gained heap pairs card)) = subst IsCovered (sym table) (refined_covered (card ∷ []) (table_from heap pairs) parts.cover) in
+        let outside : AreOutside (table_from (with_mark (with_reads heap more) card Clean) (gained heap pairs card)) = refined_outside (table_from heap pairs) parts.cells.shape parts.cells.slots parts.cells.places (card ∷ []) parts.outside in
+        record { parts = record { cells = cells; counts = counts ∙ parts.counts; some = omega (arith, capacity, parts.some); distinct = distinct; held = held; known = omega (arith, fewer, less, parts.known); cover = cover; outside = outside }; table = table }
 
   -- A dirty card goes last into the ring.
   module _ (ring' : Ring) (card : ℕ) (dirty : mark_of card ≡ Dirty) (counts : length ring'.counts ≡ length ring.counts) (capacity : ring'.capacity ≡ ring.capacity) (cards : ring'.cards ≡ ring.cards ++ card ∷ []) where
@@ -97,31 +90,16 @@ module _ (heap : Cells) (pairs : PairSet) (ring : Ring) (pending : ℕ) (parts :
     same_pending : pending_of (list_set heap.marks card Held) ≡ pending_of heap.marks
     same_pending = pending_kept heap.marks card Held within (held_clean Held refl) (dirty_clean (mark_of card) dirty)
 
-    pub held_state : state_from (with_mark heap card Held) pairs ring' ≡ record { table = table_from heap pairs; ring = ring' }
-    held_state = λ i. record { table = record { layout = heap.layout; refs = heap.refs; pending = same_pending i; recorded = pairs }; ring = ring' }
-
-    pub held_parts : AreParts (with_mark heap card Held) pairs ring' pending
-    held_parts =
-        let fresh : Contains ring.cards card → ⊥ = (dirty_mark card dirty).apart in
-        record {
-          cells = record { shape = parts.cells.shape; slots = parts.cells.slots; places = parts.cells.places; cards = length-set heap.marks card Held ∙ parts.cells.cards };
-          counts = counts ∙ parts.counts;
-          some = omega (arith, capacity, parts.some);
-          distinct = subst (IsDistinct nat_eq) (sym cards) (push_distinct ring.cards card parts.distinct fresh);
-          held = λ q. subst (λ cs. Contains cs q ↔ (get_or (list_set heap.marks card Held) q Clean ≡ Held)) (sym cards) (
-            λ c. elim (cases_eq q card) [
-              | inl is ↦ ap (λ (k : ℕ). get_or (list_set heap.marks card Held) k Clean) is ∙ mark_here heap.marks card Held within
-              | inr ne ↦ mark_there heap.marks card Held within q ne ∙ elim (Contains-push_cases ring.cards card q c) [ inl c' ↦ (parts.held q).0 c' | inr is ↦ absurd (ne (sym is)) ]
-            ],
-            λ held. elim (cases_eq q card) [
-              | inl is ↦ subst (Contains (ring.cards ++ card ∷ [])) (sym is) (Contains-push ring.cards card)
-              | inr ne ↦ Contains-append_left ring.cards (card ∷ []) q ((parts.held q).1 (sym (mark_there heap.marks card Held within q ne) ∙ held))
-            ],
-          );
-          known = parts.known ∙ ap set.len (sym same_pending);
-          cover = subst IsCovered (sym (ap (λ (s : State). s.table) held_state)) parts.cover;
-          outside = parts.outside;
-        }
+    pub held_last : IsMade (with_mark heap card Held) pairs ring' pending (table_from heap pairs)
+    held_last =
+        let table : table_from (with_mark heap card Held) pairs ≡ table_from heap pairs = λ i. record { layout = heap.layout; refs = heap.refs; pending = same_pending i; recorded = pairs } in
+        let cells : AreCells (with_mark heap card Held) = record { shape = parts.cells.shape; slots = parts.cells.slots; places = parts.cells.places; cards = length-set heap.marks card Held ∙ parts.cells.cards } in
+        let held : (q : ℕ) → Contains ring'.cards q ↔ (get_or (list_set heap.marks card Held) q Clean ≡ Held) = λ q. rw cards (elim (cases_eq q card) [
+          | inl is ↦ (λ c. rw is (mark_here heap.marks card Held within), λ held. rw is (Contains-push ring.cards card))
+          | inr ne ↦ rw (mark_there heap.marks card Held within q ne) (λ c. elim (Contains-push_cases ring.cards card q c) [ inl c' ↦ (parts.held q).0 c' | inr is ↦ absurd (ne (sym is)) ], λ held. Contains-append_left ring.cards (card ∷ []) q ((parts.held q).1 held))
+        ]) in
+        let cover : IsCovered (table_from (with_mark heap card Held) pairs) = subst IsCovered (sym table) parts.cover in
+        record { parts = record { cells = cells; counts = counts ∙ parts.counts; some = omega (arith, capacity, parts.some); distinct = rw cards (push_distinct ring.cards card parts.distinct ((dirty_mark card dirty).apart)); held = held; known = parts.known ∙ ap set.len (sym same_pending); cover = cover; outside = parts.outside }; table = table }
 
   -- a dirty card does not stand in the ring
   pub apart_stands : (card : ℕ) → mark_of card ≡ Dirty → (q : ℕ) → Contains ring.cards q ↔ (Contains ring.cards q × (q ≢ card))
@@ -135,23 +113,20 @@ module _ (heap : Cells) (pairs : PairSet) (ring : Ring) (pending : ℕ) (parts :
     pub oldest_mark : mark_of oldest ≡ Held
     oldest_mark = (parts.held oldest).0 (subst (λ xs. Contains xs oldest) (sym cards) (0, omega arith, refl))
 
-    pub oldest_within : oldest < card_count heap.layout
-    oldest_within = let inside : oldest < length heap.marks = is_card heap.marks oldest (held_clean (mark_of oldest) oldest_mark) in omega (arith, inside, parts.cells.cards)
-
     pub left_is : (popped ring).cards ≡ rest
     left_is = ap (λ (xs : List ℕ). drop 1 xs) cards
 
     pub left_distinct : IsDistinct nat_eq (popped ring).cards
-    left_distinct = subst (IsDistinct nat_eq) (sym left_is) (rest_distinct oldest rest whole)
+    left_distinct = rw left_is (rest_distinct oldest rest whole)
 
     others : (q : ℕ) → Contains rest q ↔ (Contains (oldest ∷ rest) q × (q ≢ oldest))
     others q = (
       λ c. ((suc c.0, omega (arith, c.1), c.2), λ e. front_apart oldest rest whole (subst (Contains rest) e c)),
-      λ c. in_rest oldest rest q c.1 c.0,
+      λ c. Contains-tail oldest rest q (λ e. c.1 (sym e)) c.0,
     )
 
     pub left_stands : (q : ℕ) → Contains (popped ring).cards q ↔ (Contains ring.cards q × (q ≢ oldest))
-    left_stands q = subst (λ xs. Contains xs q ↔ (Contains ring.cards q × (q ≢ oldest))) (sym left_is) (subst (λ xs. Contains rest q ↔ (Contains xs q × (q ≢ oldest))) (sym cards) (others q))
+    left_stands q = rw (left_is, cards) (others q)
 
     -- a dirty card is another one
     pub differs : (card : ℕ) → mark_of card ≡ Dirty → card ≢ oldest

@@ -1,6 +1,6 @@
 -- Worked pauses on the same heap: what a drain, a question for members and a redirect may answer, before and after the first store.
-use Rattle.std.specs.Prelude.{◌≡◌, ◌∷◌}
-use Rattle.g1_core.specs.{inl, inr, ℕ, cond, true, List, [], Some, refl, sym, ap, ◌∙◌, subst, arith, Contains, nat_cmp, Equal-is, true≢false, and_parts, not-true, or_cases, nat_cmp_total, exact_unsigned, Kind, AlreadyDirty, Logged, CardSet, Entry, AreMembers, AreRefinable, IsPending, IsRecorded, refined, members_entry, IsAllowed, drained, kind_of, pending_after, stored, table_of_history}
+use Rattle.std.specs.Prelude.{◌≡◌, ◌∷◌, ◌||◌}
+use Rattle.g1_core.specs.{inl, inr, ℕ, cond, true, List, [], Some, refl, sym, ap, ◌∙◌, subst, arith, Contains, nat_cmp, true≢false, and_parts, not-true, or_cases, nat_cmp_total, Kind, AlreadyDirty, Logged, CardSet, Entry, AreMembers, AreRefinable, IsPending, IsRecorded, refined, members_entry, IsAllowed, drained, kind_of, pending_after, stored, table_of_history, eq_by_cmp, false}
 use Rattle.std.specs.FinSet as set
 use Rattle.g1_core.specs.declared.entry.Call.TheVariants.{Redirect}
 use Rattle.g1_core.specs.declared.entry.Reply.TheVariants as reply
@@ -43,11 +43,9 @@ only_first : (q : ℕ) → IsPending after q → q ≡ 0
 only_first q p =
     let kind : kind_of start 0 (Some 8) ≡ Logged = ap (λ b. cond b AlreadyDirty Logged) (nobody 0) in
     let pending : after.pending ≡ set.insert set.empty 0 = ap (λ (t : Table). t.pending) is_stored ∙ ap (λ (k : Kind). pending_after k set.empty 0) kind in
-    let there : set.contains (set.insert set.empty 0) q ≡ true = ap (λ (s : CardSet). set.contains s q) (sym pending) ∙ p in
-    elim (or_cases _ _ (sym (set.contains-insert nat_cmp_total set.empty 0 q) ∙ there)) [
-      | inl same ↦ exact_unsigned q 0 ((Equal-is (nat_cmp q 0)).0 same)
-      | inr old ↦ absurd (true≢false (sym old ∙ nobody q))
-    ]
+    let there : (eq_by_cmp nat_cmp q 0 || set.contains start.pending q) ≡ true = sym (set.contains-insert nat_cmp_total set.empty 0 q) ∙ ap (λ (s : CardSet). set.contains s q) (sym pending) ∙ p in
+    let none : set.contains start.pending q ≡ false = nobody q in
+    grind arith
 
 refinable : AreRefinable after (0 ∷ [])
 refinable = refinable_push after [] 0 (none_refinable after) (subst (λ (t : Table). IsPending t 0) (sym (refined_none after)) waits)
@@ -67,6 +65,9 @@ one_member = record {
   ];
 }
 
+still_waits : (refined [] after).pending ≡ set.empty → ⊥
+still_waits none = true≢false (sym waits ∙ ap (λ (t : Table). set.contains t.pending 0) (sym (refined_none after)) ∙ ap (λ (s : CardSet). set.contains s 0) none ∙ nobody 0)
+
 pub drain_lists_the_card_that_holds : IsAllowed after (drained 0 1 (0 ∷ []) (0 ∷ []))
 drain_lists_the_card_that_holds = record { numbers = omega arith; refines = refinable; answers = (nothing_waits, one_member) }
 
@@ -80,8 +81,7 @@ drain_lists_no_card_too_few h =
     let c : Contains [] 0 = h.answers.1.all 0 (one_member.recorded 0 (itself 0 0 refl)) in absurd (omega (arith, c.1))
 
 pub drain_refines_all_that_waits : IsAllowed after (drained 0 1 [] []) → ⊥
-drain_refines_all_that_waits h =
-    true≢false (sym waits ∙ ap (λ (t : Table). set.contains t.pending 0) (sym (refined_none after)) ∙ ap (λ (s : CardSet). set.contains s 0) h.answers.0 ∙ nobody 0)
+drain_refines_all_that_waits h = still_waits h.answers.0
 
 -- once that drain was made, card 0 is recorded for region 1
 abbrev paused : Table
@@ -91,13 +91,10 @@ pub members_lists_the_recorded_card : IsAllowed paused (members_entry 0 1 (0 ∷
 members_lists_the_recorded_card = record { numbers = omega arith; refines = none_refinable _; answers = (refl, one_member) }
 
 pub members_lists_no_card_too_many : IsAllowed paused (members_entry 0 1 (0 ∷ 5 ∷ [])) → ⊥
-members_lists_no_card_too_many h =
-    let c : Contains (0 ∷ []) 5 = one_member.all 5 (h.answers.1.recorded 5 (1, omega arith, refl)) in
-    let five : 5 ≡ 0 = one_of 5 0 c in absurd (omega (arith, five))
+members_lists_no_card_too_many h = drain_lists_no_card_too_many (record { numbers = omega arith; refines = refinable; answers = (nothing_waits, h.answers.1) })
 
 pub members_lists_no_card_too_few : IsAllowed paused (members_entry 0 1 []) → ⊥
-members_lists_no_card_too_few h =
-    let c : Contains [] 0 = h.answers.1.all 0 (one_member.recorded 0 (itself 0 0 refl)) in absurd (omega (arith, c.1))
+members_lists_no_card_too_few h = drain_lists_no_card_too_few (record { numbers = omega arith; refines = refinable; answers = (nothing_waits, h.answers.1) })
 
 -- a redirect from region 1 to region 2, after the first store
 abbrev redirects : ℕ → List ℕ → Entry
@@ -113,5 +110,4 @@ pub redirect_counts_no_slot_too_few : IsAllowed after (redirects 0 (0 ∷ [])) �
 redirect_counts_no_slot_too_few h = let no : 0 ≡ 1 = h.answers.1 in absurd (omega arith)
 
 pub redirect_refines_all_that_waits : IsAllowed after (redirects 1 []) → ⊥
-redirect_refines_all_that_waits h =
-    true≢false (sym waits ∙ ap (λ (t : Table). set.contains t.pending 0) (sym (refined_none after)) ∙ ap (λ (s : CardSet). set.contains s 0) h.answers.0 ∙ nobody 0)
+redirect_refines_all_that_waits h = still_waits h.answers.0

@@ -1,56 +1,54 @@
 -- A list that is mapped and counted by place, once one place is written.
-use Rattle.std.specs.Prelude.{◌≡◌, ◌<◌, ◌+◌, ◌∷◌}
-use Rattle.g1_core.specs.{ℕ, zero, suc, Bool, true, false, cond, List, [], length, get_or, refl, sym, ap, ◌∙◌, arith, map, count_by, enumerate_from, sum_by-cons}
+use Rattle.std.specs.Prelude.{◌≡◌, ◌<◌, ◌≤◌, ◌+◌, ◌∷◌}
+use Rattle.g1_core.specs.{ℕ, zero, suc, Bool, true, false, cond, List, [], length, get_or, refl, sym, ap, ◌∙◌, arith, map, count_by, sum_by, enumerate_from, get_or-map, length-map, length-enumerate_from, All}
 use Rattle.std.proofs.Common.{set as list_set}
+use Rattle.std.proofs.lemmas.List.{ext_get_or, map-set, set-get_or}
+use Rattle.std.proofs.lemmas.List.Sums.{sum_by-le, sum_by-set}
+use Rattle.g1_core.proofs.SetLemmas.{at_its_place}
 
--- one slot is written, in a list that is mapped and counted by place
-module _ {X Y : Type 0} (f : ℕ × X → Y) where
-  pub map_set : (n : ℕ) (xs : List X) (k : ℕ) (v d : X) → k < length xs → f (n + k, v) ≡ f (n + k, get_or xs k d) → map f (enumerate_from n (list_set xs k v)) ≡ map f (enumerate_from n xs)
-  map_set n [] k v d inside same = absurd (omega arith)
-  map_set n (x ∷ xs) zero v d inside same =
-      let first : n + 0 ≡ n = omega arith in
-      ap (λ (y : Y). y ∷ map f (enumerate_from (n + 1) xs)) (sym (ap (λ (i : ℕ). f (i, v)) first) ∙ same ∙ ap (λ (i : ℕ). f (i, x)) first)
-  map_set n (x ∷ xs) (suc k) v d inside same =
-      let next : n + suc k ≡ n + 1 + k = omega arith in
-      ap (λ (ys : List Y). f (n, x) ∷ ys) (map_set (n + 1) xs k v d (omega arith) (sym (ap (λ (i : ℕ). f (i, v)) next) ∙ same ∙ ap (λ (i : ℕ). f (i, get_or xs k d)) next))
+enumerate_set : {X : Type 0} (n : ℕ) (xs : List X) (k : ℕ) (v : X) → enumerate_from n (list_set xs k v) ≡ list_set (enumerate_from n xs) k (n + k, v)
+enumerate_set n [] k v = refl
+enumerate_set {X} n (x ∷ xs) zero v = let first : n ≡ n + 0 = omega arith in ap (λ (i : ℕ). (i, v) ∷ enumerate_from (n + 1) xs) first
+enumerate_set {X} n (x ∷ xs) (suc k) v =
+    let next : n + 1 + k ≡ n + suc k = omega arith in
+    ap (λ (ys : List (ℕ × X)). (n, x) ∷ ys) (enumerate_set (n + 1) xs k v ∙ ap (λ (i : ℕ). list_set (enumerate_from (n + 1) xs) k (i, v)) next)
 
-count_first : (a b : Bool) (m : ℕ) → a ≡ false → b ≡ true → cond a 1 0 + m + 1 ≡ cond b 1 0 + m
-count_first a b m ea eb = rw (ea, eb) (omega arith)
+module _ {X : Type 0} (xs : List X) (d : X) where
+  written_at : (k : ℕ) (v : X) → enumerate_from 0 (list_set xs k v) ≡ list_set (enumerate_from 0 xs) k (k, v)
+  written_at k v = enumerate_set 0 xs k v ∙ ap (λ (i : ℕ). list_set (enumerate_from 0 xs) k (i, v)) (let first : 0 + k ≡ k = omega arith in first)
 
-count_rest : (a : ℕ) (m n : ℕ) → m + 1 ≡ n → a + m + 1 ≡ a + n
-count_rest a m n e = omega arith
+  module _ {Y : Type 0} (f : ℕ × X → Y) (e : Y) where
+    pub map_at : (k : ℕ) → k < length xs → get_or (map f (enumerate_from 0 xs)) k e ≡ f (k, get_or xs k d)
+    map_at k below = get_or-map f (enumerate_from 0 xs) k (k, d) e (omega (arith, length-enumerate_from 0 xs)) ∙ ap f (at_its_place xs d k (k, d) below)
 
-count_out : (a : Bool) (m : ℕ) → a ≡ false → m ≡ 0 → cond a 1 0 + m ≡ 0
-count_out a m e z = rw e (omega arith)
+    pub map_set : (k : ℕ) (v : X) → k < length xs → f (k, v) ≡ f (k, get_or xs k d) → map f (enumerate_from 0 (list_set xs k v)) ≡ map f (enumerate_from 0 xs)
+    map_set k v below same =
+        ap (map f) (written_at k v) ∙ map-set f (enumerate_from 0 xs) k (k, v)
+        ∙ ap (list_set (map f (enumerate_from 0 xs)) k) (same ∙ sym (map_at k below)) ∙ set-get_or (map f (enumerate_from 0 xs)) k e
 
-module _ {X : Type 0} (p : ℕ × X → Bool) where
-  -- one less is counted
-  pub count_set : (n : ℕ) (xs : List X) (k : ℕ) (v d : X) → k < length xs → p (n + k, v) ≡ false → p (n + k, get_or xs k d) ≡ true → count_by p (enumerate_from n (list_set xs k v)) + 1 ≡ count_by p (enumerate_from n xs)
-  count_set n [] k v d inside gone there = absurd (omega arith)
-  count_set n (x ∷ xs) zero v d inside gone there =
-      let first : n + 0 ≡ n = omega arith in
-      let written : count_by p (enumerate_from n (v ∷ xs)) ≡ cond (p (n, v)) 1 0 + count_by p (enumerate_from (n + 1) xs) = sum_by-cons (λ (q : ℕ × X). cond (p q) 1 0) (n, v) (enumerate_from (n + 1) xs) in
-      let before : count_by p (enumerate_from n (x ∷ xs)) ≡ cond (p (n, x)) 1 0 + count_by p (enumerate_from (n + 1) xs) = sum_by-cons (λ (q : ℕ × X). cond (p q) 1 0) (n, x) (enumerate_from (n + 1) xs) in
-      ap (λ (m : ℕ). m + 1) written ∙ count_first (p (n, v)) (p (n, x)) (count_by p (enumerate_from (n + 1) xs)) (sym (ap (λ (i : ℕ). p (i, v)) first) ∙ gone) (sym (ap (λ (i : ℕ). p (i, x)) first) ∙ there) ∙ sym before
-  count_set n (x ∷ xs) (suc k) v d inside gone there =
-      let next : n + suc k ≡ n + 1 + k = omega arith in
-      let written : count_by p (enumerate_from n (x ∷ list_set xs k v)) ≡ cond (p (n, x)) 1 0 + count_by p (enumerate_from (n + 1) (list_set xs k v)) = sum_by-cons (λ (q : ℕ × X). cond (p q) 1 0) (n, x) (enumerate_from (n + 1) (list_set xs k v)) in
-      let before : count_by p (enumerate_from n (x ∷ xs)) ≡ cond (p (n, x)) 1 0 + count_by p (enumerate_from (n + 1) xs) = sum_by-cons (λ (q : ℕ × X). cond (p q) 1 0) (n, x) (enumerate_from (n + 1) xs) in
-      ap (λ (m : ℕ). m + 1) written ∙ count_rest (cond (p (n, x)) 1 0) _ _ (count_set (n + 1) xs k v d (omega arith) (sym (ap (λ (i : ℕ). p (i, v)) next) ∙ gone) (sym (ap (λ (i : ℕ). p (i, get_or xs k d)) next) ∙ there)) ∙ sym before
+  -- nothing is to change
+  pub map_same : (f : ℕ × X → X) → ((k : ℕ) → k < length xs → f (k, get_or xs k d) ≡ get_or xs k d) → map f (enumerate_from 0 xs) ≡ xs
+  map_same f each = ext_get_or d _ _ (length-map (enumerate_from 0 xs) f ∙ length-enumerate_from 0 xs) (λ k lt. let below : k < length xs = omega (arith, length-map (enumerate_from 0 xs) f, length-enumerate_from 0 xs) in map_at f d k below ∙ each k below)
 
-  pub count_none : (n : ℕ) (xs : List X) (d : X) → ((k : ℕ) → k < length xs → p (n + k, get_or xs k d) ≡ false) → count_by p (enumerate_from n xs) ≡ 0
-  count_none n [] d each = refl
-  count_none n (x ∷ xs) d each =
-      let first : n + 0 ≡ n = omega arith in
-      let parts : count_by p (enumerate_from n (x ∷ xs)) ≡ cond (p (n, x)) 1 0 + count_by p (enumerate_from (n + 1) xs) = sum_by-cons (λ (q : ℕ × X). cond (p q) 1 0) (n, x) (enumerate_from (n + 1) xs) in
-      parts ∙ count_out (p (n, x)) (count_by p (enumerate_from (n + 1) xs)) (sym (ap (λ (i : ℕ). p (i, x)) first) ∙ each 0 (omega arith))
-      (count_none (n + 1) xs d (λ k inside. let next : n + suc k ≡ n + 1 + k = omega arith in sym (ap (λ (i : ℕ). p (i, get_or xs k d)) next) ∙ each (suc k) (omega arith)))
+  module _ (p : ℕ × X → Bool) where
+    one_if : ℕ × X → ℕ
+    one_if q = cond (p q) 1 0
 
--- nothing is to change
-pub map_same : {X : Type 0} (f : ℕ × X → X) (n : ℕ) (xs : List X) (d : X) → ((k : ℕ) → k < length xs → f (n + k, get_or xs k d) ≡ get_or xs k d) → map f (enumerate_from n xs) ≡ xs
-map_same f n [] d each = refl
-map_same {X} f n (x ∷ xs) d each =
-    let first : n + 0 ≡ n = omega arith in
-    let here : f (n, x) ≡ x = sym (ap (λ (i : ℕ). f (i, x)) first) ∙ each 0 (omega arith) in
-    let rest : map f (enumerate_from (n + 1) xs) ≡ xs = map_same f (n + 1) xs d (λ k inside. let next : n + suc k ≡ n + 1 + k = omega arith in sym (ap (λ (i : ℕ). f (i, get_or xs k d)) next) ∙ each (suc k) (omega arith)) in
-    λ i. here i ∷ rest i
+    -- one less is counted
+    pub count_set : (k : ℕ) (v : X) → k < length xs → p (k, v) ≡ false → p (k, get_or xs k d) ≡ true → count_by p (enumerate_from 0 (list_set xs k v)) + 1 ≡ count_by p (enumerate_from 0 xs)
+    unfolding one_if
+    count_set k v below gone there =
+        let both : sum_by one_if (list_set (enumerate_from 0 xs) k (k, v)) + one_if (get_or (enumerate_from 0 xs) k (k, d)) ≡ sum_by one_if (enumerate_from 0 xs) + one_if (k, v) = sum_by-set one_if (enumerate_from 0 xs) k (k, v) (k, d) (omega (arith, length-enumerate_from 0 xs)) in
+        let one : one_if (get_or (enumerate_from 0 xs) k (k, d)) ≡ 1 = ap one_if (at_its_place xs d k (k, d) below) ∙ ap (λ b. cond b 1 0) there in
+        let none : one_if (k, v) ≡ 0 = ap (λ b. cond b 1 0) gone in
+        let here : count_by p (enumerate_from 0 (list_set xs k v)) ≡ sum_by one_if (list_set (enumerate_from 0 xs) k (k, v)) = ap (count_by p) (written_at k v) in
+        omega arith
+
+    pub count_none : ((k : ℕ) → k < length xs → p (k, get_or xs k d) ≡ false) → count_by p (enumerate_from 0 xs) ≡ 0
+    unfolding one_if
+    count_none each =
+        let none : All (λ q. one_if q ≤ 0) (enumerate_from 0 xs) = λ k q lt.
+        let below : k < length xs = omega (arith, length-enumerate_from 0 xs) in
+        let is : one_if (get_or (enumerate_from 0 xs) k q) ≡ 0 = ap one_if (at_its_place xs d k q below) ∙ ap (λ b. cond b 1 0) (each k below) in
+        omega arith in
+        omega (arith, sum_by-le one_if 0 (enumerate_from 0 xs) none)

@@ -1,6 +1,6 @@
 -- Laws of permitted runs.
 use Rattle.std.specs.Prelude.{◌≡◌, ◌≢◌, ◌<◌, ◌*◌, ◌∷◌, ◌++◌, ◌&&◌}
-use Rattle.g1_core.specs.{inl, inr, ℕ, eqb, List, [], refl, sym, ap, ◌∙◌, subst, arith, fold, not, mul-pos, append-nil, append_assoc, fold-append, and_from, ne_eqb, Shape, IsShape, card_of, region_of, PairSet, opening, IsCovered, refined, Call, Reply, Entry, Store, Clear, written, settled, Answers, IsCallOf, table_after, IsAllowed, IsStep, table_of_history, IsPermitted}
+use Rattle.g1_core.specs.{inl, inr, ℕ, eqb, List, [], refl, sym, ap, ◌∙◌, subst, arith, fold, not, mul-pos, append-nil, append_assoc, fold-append, and_from, ne_eqb, Shape, IsShape, card_of, region_of, PairSet, opening, IsCovered, refined, Call, Reply, Entry, Store, Clear, written, settled, Answers, IsCallOf, table_after, IsAllowed, IsStep, table_of_history, IsPermitted, length, Option, None, All, IfSome, true≢false, and_parts, slot_count, card_count, region_of_card, pair_cmp, card_of_below, region_of_below, Holds, AreOutside}
 use Rattle.std.specs.FinSet as set
 use Rattle.g1_core.specs.Table.{Table}
 use Rattle.g1_core.specs.declared.entry.Call.TheVariants.{Redirect}
@@ -8,7 +8,7 @@ use Rattle.g1_core.specs.declared.entry.Reply.TheVariants as reply
 use Rattle.g1_core.specs.declared.reply.ClearReply.TheVariants as clear_reply
 use Rattle.g1_core.proofs.SetLemmas.{pair_exact}
 use Rattle.g1_core.proofs.MovedLemmas.{moved_covered}
-use Rattle.g1_core.proofs.TableLemmas.{refined_covered, stored_covered}
+use Rattle.g1_core.proofs.TableLemmas.{refined_covered, stored_covered, is_slot, recorded_cases, Holds_from_held}
 
 -- what holds of the empty list, and of a list with one more at its end where it holds of the list, holds of each list
 module _ {X : Type 0} (P : List X → Type 0) (start : P []) (step : (xs : List X) (x : X) → P xs → P (xs ++ x ∷ [])) where
@@ -86,5 +86,26 @@ run_layout t (e ∷ entries) = run_layout (table_after t e) entries ∙ layout_a
 -- a step of the last table makes a longer run
 pub permitted_step : (l : Shape) (entries : List Entry) (e : Entry) (t u : Table) → t ≡ table_of_history l entries → IsPermitted (opening l) entries → IsStep t e u → IsPermitted (opening l) (entries ++ e ∷ []) × (u ≡ table_of_history l (entries ++ e ∷ [])) × (u.layout ≡ t.layout)
 permitted_step l entries e t u last run step =
-    let here : IsAllowed (table_of_history l entries) e = subst (λ t. IsAllowed t e) last step.allowed in
-    (permitted_push (opening l) entries e run here, step.after ∙ ap (λ t. table_after t e) last ∙ sym (table_of_push l entries e), ap (λ t. t.layout) step.after ∙ layout_after t e)
+    (permitted_push (opening l) entries e run (subst (λ t. IsAllowed t e) last step.allowed), step.after ∙ ap (λ t. table_after t e) last ∙ sym (table_of_push l entries e), ap (λ t. t.layout) step.after ∙ layout_after t e)
+
+-- recorded pairs lie outside their region
+module _ (t : Table) (shape : IsShape t.layout) (slots : length t.refs ≡ slot_count t.layout) (places : All (λ target. IfSome target (λ place. place < slot_count t.layout)) t.refs) where
+  -- a card that holds into a region is one of the heap, as the region is
+  pub holds_outside : (card region : ℕ) → Holds t card region → (card < card_count t.layout) × (region < t.layout.regions) × (region_of_card t.layout card ≢ region)
+  holds_outside card region h =
+      let inside : h.slot < length t.refs = is_slot t.refs h.slot h.place h.refers in
+      let place : h.place < slot_count t.layout = subst (λ (o : Option ℕ). IfSome o (λ p. p < slot_count t.layout)) h.refers (places h.slot None inside) in
+      (omega (arith, card_of_below t.layout h.slot shape (omega (arith, inside, slots)), h.on_card), omega (arith, region_of_below t.layout h.place shape place, h.into), h.outside)
+
+  pub refined_outside : (cards : List ℕ) → AreOutside t → AreOutside (refined cards t)
+  refined_outside cards outside card region r = elim (recorded_cases cards t card region r) [
+    | inl old ↦ outside card region old
+    | inr held ↦ holds_outside card region (Holds_from_held t card region held)
+  ]
+
+-- the pairs that a granted clear leaves
+pub cleared_outside : (t : Table) (region : ℕ) → AreOutside t → AreOutside (settled (Clear region) (reply.Clear clear_reply.Cleared) t)
+cleared_outside t region outside card other r = outside card other (and_parts _ _ (sym (forgotten t.recorded region (card, other)) ∙ r)).0
+
+pub opening_outside : (l : Shape) → AreOutside (opening l)
+opening_outside l card region r = absurd (true≢false (sym r ∙ set.contains-empty pair_cmp (card, region)))

@@ -64,7 +64,7 @@ module _ (l : Shape) (some : HasSlots l) where
       let u : Table = refined e.refined (written e.call t) in
       let after : IsRecorded (table_after t e) card region = subst (λ t. IsRecorded t card region) (table_of_push l entries e) h in
       let here : Holds (table_after t e) card region → HeldSince l (entries ++ e ∷ []) card region = λ h. since_now l (entries ++ e ∷ []) card region (subst (λ t. Holds t card region) (sym (table_of_push l entries e)) h) in
-      let s : (IsRecorded u card region ⊎ Holds (table_after t e) card region) × (Clears region e → ⊥) = settled_recorded e.call e.reply u card region (subst HasSlots (sym (u_layout entries e)) some) after in
+      let s : (IsRecorded u card region ⊎ Holds (table_after t e) card region) × (Clears region e → ⊥) = settled_recorded e.call e.reply u card region (subst HasSlots (sym (written_layout e.call t ∙ run_layout (opening l) entries)) some) after in
       elim s.0 [
         | inr new ↦ here new
         | inl r ↦ elim (recorded_cases e.refined (written e.call t) card region r) [
@@ -75,9 +75,6 @@ module _ (l : Shape) (some : HasSlots l) where
           ]
         ]
       ]
-    where
-      u_layout : (entries : List Entry) (e : Entry) → (refined e.refined (written e.call (table_of_history l entries))).layout ≡ l
-      u_layout entries e = written_layout e.call (table_of_history l entries) ∙ run_layout (opening l) entries
 
   pub recorded_since : (entries : List Entry) (card region : ℕ) → IsRecorded (table_of_history l entries) card region → HeldSince l entries card region
   unfolding Since

@@ -1,6 +1,6 @@
 -- What every core keeps, and every call leaves.
 use Rattle.std.specs.Prelude.{◌≡◌, ◌<◌, ◌≤◌}
-use Rattle.g1_core.specs.{◌∙◌, ℕ, Option, sym, ap, subst, arith, Pairs, Cells, Ring, State, IsCore, IsPending, IsPlaced, card_count, table_from, IsSound, IsLater, state_from, machine_from, Entry, IsStep}
+use Rattle.g1_core.specs.{◌∙◌, ℕ, Option, sym, ap, subst, arith, Pairs, Cells, Ring, State, IsCore, IsPending, card_count, table_from, IsSound, IsLater, state_from, machine_from, Entry, IsStep}
 use Rattle.g1_core.specs.declared.config.Settings.{Settings}
 use Rattle.g1_core.specs.Table.{Table}
 use Rattle.g1_core.specs.Machine.{Machine}
@@ -13,8 +13,7 @@ module _ (heap : Cells) (sets : Pairs) (ring : Ring) (pending : ℕ) (core : IsC
   pub core_sound : IsSound (state_from heap sets.pairs ring)
   core_sound =
       let inside : (card : ℕ) → IsPending (table_from heap sets.pairs) card → card < card_count heap.layout = λ card h. omega (arith, is_card heap.marks card (from_pending heap.marks card h), core.parts.cells.cards) in
-      let placed : IsPlaced (state_from heap sets.pairs ring) = parts_placed heap sets.pairs ring pending core.parts in
-      search (inside, placed)
+      search (inside, parts_placed heap sets.pairs ring pending core.parts)
 
   -- of a machine that has kept its layout, its settings and its reads
   pub core_later : (settings : Settings) (old : Machine) → heap.layout ≡ old.state.table.layout → settings ≡ old.settings → heap.reads ≡ old.reads → IsLater old (machine_from heap sets.pairs ring settings)

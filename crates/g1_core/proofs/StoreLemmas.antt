@@ -1,6 +1,6 @@
 -- The barrier.
-use Rattle.std.specs.Prelude.{◌≡◌, ◌≢◌, ◌⊎◌, ◌<◌, ◌≤◌, ◌+◌}
-use Rattle.g1_core.specs.{inl, inr, ℕ, Bool, true, false, cond, eqb, List, [], length, get_or, Option, Some, None, refl, sym, ap, ◌∙◌, subst, arith, IfSome, IsDistinct, cases_eq, true≢false, false_from_ne_true, length-set, All-set, Shape, slot_count, card_count, card_of, region_of, CardSet, PairSet, card_count_limit, Kind, SameRegion, AlreadyDirty, Logged, Mark, Clean, Dirty, Held, Cells, AreCells, with_ref, with_mark, Pairs, Ring, IsCovered, AreRefinable, refined, State, IsCore, AreParts, pending_of, table_from, state_from, machine_from, Store, IsStep, IsCallOf, kind_of, stored, pending_after, StoreReply, store_entry, stored_machine}
+use Rattle.std.specs.Prelude.{◌≡◌, ◌≢◌, ◌⊎◌, ◌<◌, ◌≤◌, ◌+◌, ◌↔◌}
+use Rattle.g1_core.specs.{inl, inr, ℕ, Bool, true, false, cond, eqb, List, [], length, get_or, Option, Some, None, refl, sym, ap, ◌∙◌, subst, arith, IfSome, IsDistinct, cases_eq, true≢false, false_from_ne_true, length-set, All-set, Shape, slot_count, card_count, card_of, region_of, CardSet, PairSet, card_count_limit, Kind, SameRegion, AlreadyDirty, Logged, Mark, Clean, Dirty, Held, Cells, AreCells, with_ref, with_mark, Pairs, Ring, IsCovered, AreRefinable, refined, State, IsCore, AreParts, pending_of, table_from, state_from, machine_from, Store, IsStep, IsCallOf, kind_of, stored, pending_after, StoreReply, store_entry, stored_machine, Contains}
 use Rattle.std.proofs.Common.{set as list_set}
 use Rattle.std.specs.FinSet as set
 use Rattle.g1_core.specs.Table.{Table}
@@ -15,13 +15,10 @@ pub clean_mark : (marks : List Mark) (card : ℕ) → get_or marks card Clean �
 clean_mark marks card e = false_from_ne_true _ (λ h. from_pending marks card h e)
 
 pending_plain : (kind : Kind) (pending : CardSet) (card : ℕ) → kind ≢ Logged → pending_after kind pending card ≡ pending
-pending_plain Logged pending card ne = absurd (ne refl)
-pending_plain _ pending card ne = refl
+pending_plain kind pending card ne = grind arith
 
 logged_if : (a b : Bool) → cond a SameRegion (cond b AlreadyDirty Logged) ≡ Logged → b ≡ false
-logged_if true b e = cc
-logged_if false true e = cc
-logged_if false false e = refl
+logged_if a b e = grind arith
 
 logged_new : (t : Table) (slot : ℕ) (target : Option ℕ) → kind_of t slot target ≡ Logged → set.contains t.pending (card_of t.layout slot) ≡ false
 logged_new t slot None e = cc
@@ -33,8 +30,7 @@ module _ (heap : Cells) (pairs : PairSet) (ring : Ring) (pending : ℕ) (parts :
 
   pub plain_state : kind ≢ Logged → state_from (with_ref heap slot target) pairs ring ≡ record { table = stored t slot target; ring = ring }
   plain_state ne =
-      let same : pending_of heap.marks ≡ pending_after (kind_of t slot target) (pending_of heap.marks) (card_of heap.layout slot) =
-      sym (ap (λ k. pending_after k (pending_of heap.marks) (card_of heap.layout slot)) (sym kind_is) ∙ pending_plain kind (pending_of heap.marks) (card_of heap.layout slot) ne) in
+      let same : pending_of heap.marks ≡ pending_after (kind_of t slot target) (pending_of heap.marks) (card_of heap.layout slot) = rw (← kind_is, pending_plain kind (pending_of heap.marks) (card_of heap.layout slot) ne) refl in
       λ i. record { table = record { layout = heap.layout; refs = list_set heap.refs slot target; pending = same i; recorded = pairs }; ring = ring }
 
   written_cells : AreCells (with_ref heap slot target)
@@ -65,29 +61,19 @@ module _ (heap : Cells) (pairs : PairSet) (ring : Ring) (pending : ℕ) (parts :
 
     pub logged_state : state_from (with_mark (with_ref heap slot target) card Dirty) pairs ring ≡ record { table = stored t slot target; ring = ring }
     logged_state =
-        let dirty : pending_of (list_set heap.marks card Dirty) ≡ pending_after (kind_of t slot target) (pending_of heap.marks) (card_of heap.layout slot) =
-        marked ∙ ap (set.insert (pending_of heap.marks)) on_card
-        ∙ ap (λ k. pending_after k (pending_of heap.marks) (card_of heap.layout slot)) (sym logged ∙ kind_is) in
+        let dirty : pending_of (list_set heap.marks card Dirty) ≡ pending_after (kind_of t slot target) (pending_of heap.marks) (card_of heap.layout slot) = rw (marked, on_card, ← kind_is, logged) refl in
         λ i. record { table = record { layout = heap.layout; refs = list_set heap.refs slot target; pending = dirty i; recorded = pairs }; ring = ring }
 
     pub logged_parts : AreParts (with_mark (with_ref heap slot target) card Dirty) pairs ring pending'
-    logged_parts = record {
-      cells = record { shape = written_cells.shape; slots = written_cells.slots; places = written_cells.places; cards = length-set heap.marks card Dirty ∙ written_cells.cards };
-      counts = parts.counts;
-      some = parts.some;
-      distinct = parts.distinct;
-      held = λ q. (
-        λ c. let held : get_or heap.marks q Clean ≡ Held = (parts.held q).0 c in
-            mark_there heap.marks card Dirty inside q (λ e. not_held (ap (λ (k : ℕ). get_or heap.marks k Clean) (sym e) ∙ held)) ∙ held,
-        λ held. elim (cases_eq q card) [
-          | inl is ↦ absurd (dirty_held _ (ap (λ (k : ℕ). get_or (list_set heap.marks card Dirty) k Clean) is ∙ mark_here heap.marks card Dirty inside) held)
-          | inr ne ↦ (parts.held q).1 (sym (mark_there heap.marks card Dirty inside q ne) ∙ held)
-        ],
-      );
-      known = more ∙ ap (λ n. n + 1) parts.known ∙ sym (one_more (pending_of heap.marks) card new_card) ∙ ap set.len (sym marked);
-      cover = subst IsCovered (sym (ap (λ (s : State). s.table) logged_state)) (stored_covered t slot target parts.cover);
-      outside = parts.outside;
-    }
+    logged_parts =
+        let cells : AreCells (with_mark (with_ref heap slot target) card Dirty) = record { shape = written_cells.shape; slots = written_cells.slots; places = written_cells.places; cards = length-set heap.marks card Dirty ∙ written_cells.cards } in
+        let held : (q : ℕ) → Contains ring.cards q ↔ (get_or (list_set heap.marks card Dirty) q Clean ≡ Held) = λ q. elim (cases_eq q card) [
+          | inl is ↦ (λ c. absurd (not_held (ap (λ (k : ℕ). get_or heap.marks k Clean) (sym is) ∙ (parts.held q).0 c)), λ h. absurd (dirty_held _ (ap (λ (k : ℕ). get_or (list_set heap.marks card Dirty) k Clean) is ∙ mark_here heap.marks card Dirty inside) h))
+          | inr ne ↦ rw (mark_there heap.marks card Dirty inside q ne) (parts.held q)
+        ] in
+        let known : pending' ≡ set.len (pending_of (list_set heap.marks card Dirty)) = more ∙ ap (λ n. n + 1) parts.known ∙ sym (one_more (pending_of heap.marks) card new_card) ∙ ap set.len (sym marked) in
+        let cover : IsCovered (table_from (with_mark (with_ref heap slot target) card Dirty) pairs) = subst IsCovered (sym (ap (λ (s : State). s.table) logged_state)) (stored_covered t slot target parts.cover) in
+        search (cells, held, known, cover)
 
 pub none_refinable : (t : Table) → AreRefinable t []
 unfolding IsDistinct
@@ -95,10 +81,9 @@ none_refinable t = record { distinct = tt; pending = λ k d lt. absurd (omega ar
 
 pub stored_step : (caller : ℕ) (t new : Table) (slot : ℕ) (target : Option ℕ) (reply : StoreReply) → IsCallOf t.layout (Store slot target) → reply.kind ≡ kind_of t slot target → reply.refined ≡ [] → new ≡ stored t slot target → IsStep t (store_entry caller slot target reply) new
 stored_step caller t new slot target reply numbers kind none after =
-    let done : refined reply.refined (stored t slot target) ≡ stored t slot target = ap (λ (ks : List ℕ). refined ks (stored t slot target)) none ∙ refined_none (stored t slot target) in
     record {
       allowed = record { numbers = numbers; refines = subst (AreRefinable (stored t slot target)) (sym none) (none_refinable (stored t slot target)); answers = (kind, λ _. none) };
-      after = after ∙ sym done;
+      after = after ∙ sym (ap (λ (ks : List ℕ). refined ks (stored t slot target)) none ∙ refined_none (stored t slot target));
     }
 
 -- the kind that the barrier finds
@@ -111,10 +96,7 @@ kind_at heap pairs ring settings m view l slot place from to card target mark b 
       | inr ne ↦ to_pending heap.marks card (λ e. ne (read ∙ e)) ∙ sym (marked ne)
     ] in
     let here : l ≡ m.state.table.layout = same ∙ ap (λ (m : Machine). m.state.table.layout) view in
-    let regions : false ≡ eqb (region_of m.state.table.layout slot) (region_of m.state.table.layout place) = across ∙ (λ i. eqb (first i) (second i)) ∙ ap (λ (l : Shape). eqb (region_of l slot) (region_of l place)) here in
-    ap (kind_of m.state.table slot) some
-    ∙ ap (λ a. cond a SameRegion (cond (set.contains m.state.table.pending (card_of m.state.table.layout slot)) AlreadyDirty Logged)) (sym regions)
-    ∙ ap (λ a. cond a AlreadyDirty Logged) (ap (set.contains m.state.table.pending) (sym (on ∙ ap (λ (l : Shape). card_of l slot) here)) ∙ found)
+    rw (some, ← here, ← first, ← second, ← across, ← on, found) refl
 
 -- What a store leaves.
 pub record IsStored (heap' : Cells) (sets : Pairs) (ring : Ring) (pending' : ℕ) (settings : Settings) (m : Machine) (slot : ℕ) (target : Option ℕ) : Type 0 where
@@ -150,6 +132,4 @@ module _ (heap : Cells) (sets : Pairs) (ring : Ring) (pending : ℕ) (settings :
 
 -- one more card is pending, and there are few
 pub few_cards : (heap : Cells) (sets : Pairs) (ring : Ring) (pending : ℕ) → IsCore heap sets ring pending → pending ≤ 16777216
-few_cards heap sets ring pending core =
-    let few = few_pending heap.marks in
-    omega (arith, core.parts.known, core.parts.cells.cards, card_count_limit heap.layout core.parts.cells.shape)
+few_cards heap sets ring pending core = omega (arith, few_pending heap.marks, core.parts.known, core.parts.cells.cards, card_count_limit heap.layout core.parts.cells.shape)

@@ -1,32 +1,27 @@
 -- Laws of the plain table.
-use Rattle.std.specs.Prelude.{◌≡◌, ◌≢◌, ◌⊎◌, ◌<◌, ◌+◌, ◌/◌, ◌&&◌, ◌||◌}
-use Rattle.g1_core.specs.{inl, inr, ℕ, Bool, true, false, cond, eqb, List, length, get_or, replicate, Option, Some, None, refl, sym, ap, ◌∙◌, subst, arith, not, enumerate_from, div-div-eq-div-mul, mul_comm, eqb-false, ne_eqb, cases_lt, cases_eq, cases_Bool, or_cases, or_left, or_right, and_parts, and_from, nat_cmp_total, eq_by_cmp_equiv, get_or-set_same, get_or-set_other, get_or_past, get_or-replicate, length-replicate, length-set, get_or_default, get_or-enumerate_from, length-enumerate_from, Kind, SameRegion, Null, AlreadyDirty, Logged, Shape, slot_count, card_of, region_of, region_of_card, CardSet, set_of, opening, IsPending, IsRecorded, Crosses, Holds, IsCovered, pair_of, held, refined, kind_of, pending_after, stored}
+use Rattle.std.specs.Prelude.{◌≡◌, ◌≢◌, ◌⊎◌, ◌<◌, ◌/◌, ◌&&◌, ◌||◌}
+use Rattle.g1_core.specs.{inl, inr, ℕ, Bool, true, false, cond, eqb, List, length, get_or, replicate, Option, Some, None, refl, sym, ap, ◌∙◌, subst, arith, not, enumerate_from, div-div-eq-div-mul, mul_comm, eqb-false, ne_eqb, cases_lt, cases_eq, cases_Bool, or_cases, or_left, or_right, and_parts, and_from, nat_cmp_total, eq_by_cmp_equiv, get_or-set_same, get_or-set_other, get_or_past, get_or-replicate, length-replicate, length-set, length-enumerate_from, SameRegion, AlreadyDirty, Logged, Shape, slot_count, card_of, region_of, region_of_card, CardSet, set_of, opening, IsPending, IsRecorded, Crosses, Holds, IsCovered, pair_of, held, refined, pending_after, stored, HoldsIn, eq_by_cmp, nat_cmp, exact_unsigned, Equal-is}
 use Rattle.std.proofs.Common.{set as list_set}
 use Rattle.std.specs.FinSet as set
 use Rattle.g1_core.specs.Table.{Table}
-use Rattle.g1_core.proofs.SetLemmas.{pair_total, pair_exact, listed, unlisted, Kept, from_kept, to_kept}
+use Rattle.g1_core.proofs.SetLemmas.{pair_total, pair_exact, listed, unlisted, same_bools, at_its_place, from_places, to_places}
 
 -- a slot's region is that of its card
 pub region_of_slot : (l : Shape) (slot : ℕ) → region_of_card l (card_of l slot) ≡ region_of l slot
 region_of_slot l slot = div-div-eq-div-mul slot l.slots l.cards ∙ ap (λ k. slot / k) (mul_comm l.slots l.cards)
 
--- what a slot's pair says
-record Makes (l : Shape) (slot : ℕ) (o : Option ℕ) (card region : ℕ) : Type 0 where
-  place : ℕ
-  refers : o ≡ Some place
-  across : region_of l slot ≢ region_of l place
-  on_card : card_of l slot ≡ card
-  into : region_of l place ≡ region
-
-made_if : (l : Shape) (slot place card region : ℕ) (b : Bool) → eqb (region_of l slot) (region_of l place) ≡ b → cond {A = Option (ℕ × ℕ)} b None (Some (card_of l slot, region_of l place)) ≡ Some (card, region) → Makes l slot (Some place) card region
-made_if l slot place card region true is e = cc
-made_if l slot place card region false is e =
+-- what makes a pair holds
+made_if : (l : Shape) (refs : List (Option ℕ)) (slot place card region : ℕ) (b : Bool) → get_or refs slot None ≡ Some place → eqb (region_of l slot) (region_of l place) ≡ b → cond {A = Option (ℕ × ℕ)} b None (Some (card_of l slot, region_of l place)) ≡ Some (card, region) → HoldsIn l refs card region
+made_if l refs slot place card region true at is e = cc
+made_if l refs slot place card region false at is e =
     let pairs : ◌≡◌ {A = ℕ × ℕ} (card_of l slot, region_of l place) (card, region) = cc in
-    record { place = place; refers = refl; across = eqb-false _ _ is; on_card = ap (λ (p : ℕ × ℕ). p.0) pairs; into = ap (λ (p : ℕ × ℕ). p.1) pairs }
+    let on : card_of l slot ≡ card = ap (λ (p : ℕ × ℕ). p.0) pairs in
+    let into : region_of l place ≡ region = ap (λ (p : ℕ × ℕ). p.1) pairs in
+    record { slot = slot; place = place; on_card = on; refers = at; into = into; outside = λ e. eqb-false _ _ is (sym (region_of_slot l slot) ∙ ap (region_of_card l) on ∙ e ∙ sym into) }
 
-made : (l : Shape) (slot : ℕ) (o : Option ℕ) (card region : ℕ) → pair_of l (slot, o) ≡ Some (card, region) → Makes l slot o card region
-made l slot None card region e = cc
-made l slot (Some place) card region e = made_if l slot place card region (eqb (region_of l slot) (region_of l place)) refl e
+made : (l : Shape) (refs : List (Option ℕ)) (slot card region : ℕ) (o : Option ℕ) → get_or refs slot None ≡ o → pair_of l (slot, o) ≡ Some (card, region) → HoldsIn l refs card region
+made l refs slot card region None at e = cc
+made l refs slot card region (Some place) at e = made_if l refs slot place card region (eqb (region_of l slot) (region_of l place)) at refl e
 
 pub pair_across : (l : Shape) (slot place : ℕ) → region_of l slot ≢ region_of l place → pair_of l (slot, Some place) ≡ Some (card_of l slot, region_of l place)
 pair_across l slot place across = ap (λ b. cond {A = Option (ℕ × ℕ)} b None (Some (card_of l slot, region_of l place))) (ne_eqb _ _ across)
@@ -36,20 +31,10 @@ pub is_slot : (xs : List (Option ℕ)) (slot place : ℕ) → get_or xs slot Non
 is_slot xs slot place e =
     elim (cases_lt slot (length xs)) [ inl l ↦ l | inr past ↦ let none : get_or xs slot None ≡ None = get_or_past xs slot None past in cc ]
 
--- a slot that refers somewhere, with its place in the list
-pub slot_at : (xs : List (Option ℕ)) (slot place : ℕ) (d : ℕ × Option ℕ) → get_or xs slot None ≡ Some place → get_or (enumerate_from 0 xs) slot d ≡ (slot, Some place)
-slot_at xs slot place d e =
-    let below : slot < length xs = is_slot xs slot place e in
-    let read : get_or xs slot d.1 ≡ Some place = get_or_default xs slot d.1 None below ∙ e in
-    let from : 0 + slot ≡ slot = omega arith in
-    get_or-enumerate_from 0 xs slot d below ∙ ap (λ (o : Option ℕ). (0 + slot, o)) read ∙ ap (λ (k : ℕ). (k, Some place)) from
-
 -- the pair of a slot that crosses is held
 pub crossing_held : (t : Table) (slot place : ℕ) → Crosses t slot place → set.contains (held t) (card_of t.layout slot, region_of t.layout place) ≡ true
 crossing_held t slot place x =
-    let below : slot < length t.refs = is_slot t.refs slot place x.refers in
-    let few : length (enumerate_from 0 t.refs) ≡ length t.refs = length-enumerate_from 0 t.refs in
-    unlisted pair_total pair_exact _ _ (to_kept (pair_of t.layout) (enumerate_from 0 t.refs) slot (slot, Some place) _ (omega arith) (slot_at t.refs slot place (slot, Some place) x.refers) (pair_across t.layout slot place x.across))
+    unlisted pair_total pair_exact _ _ (to_places (pair_of t.layout) t.refs None slot _ (is_slot t.refs slot place x.refers) (ap (λ (o : Option ℕ). pair_of t.layout (slot, o)) x.refers ∙ pair_across t.layout slot place x.across))
 
 -- what holds is held
 pub held_from_Holds : (t : Table) (card region : ℕ) → Holds t card region → set.contains (held t) (card, region) ≡ true
@@ -58,24 +43,13 @@ held_from_Holds t card region h =
     subst (λ (p : ℕ × ℕ). set.contains (held t) p ≡ true) (ap (λ (c : ℕ). (c, region_of t.layout h.place)) h.on_card ∙ ap (λ (r : ℕ). (card, r)) h.into) (crossing_held t h.slot h.place (record { refers = h.refers; across = across }))
 
 pub slot_of : (xs : List (Option ℕ)) (k : ℕ) (p : ℕ × Option ℕ) → k < length (enumerate_from 0 xs) → get_or (enumerate_from 0 xs) k p ≡ p → ◌≡◌ {A = ℕ × Option ℕ} (k, get_or xs k None) p
-slot_of xs k p l e =
-    let few : length (enumerate_from 0 xs) ≡ length xs = length-enumerate_from 0 xs in
-    let from : k ≡ 0 + k = omega arith in
-    ap (λ (n : ℕ). (n, get_or xs k None)) from ∙ sym (get_or-enumerate_from 0 xs k (0, None) (omega arith)) ∙ get_or_default (enumerate_from 0 xs) k (0, None) p l ∙ e
+slot_of xs k p l e = sym (at_its_place xs None k p (omega (arith, length-enumerate_from 0 xs))) ∙ e
 
 -- what is held holds
 pub Holds_from_held : (t : Table) (card region : ℕ) → set.contains (held t) (card, region) ≡ true → Holds t card region
 Holds_from_held t card region e =
-    let k : Kept (pair_of t.layout) (enumerate_from 0 t.refs) (card, region) = from_kept (pair_of t.layout) (enumerate_from 0 t.refs) (card, region) (listed pair_total pair_exact _ _ e) in
-    let m : Makes t.layout k.0 (get_or t.refs k.0 None) card region = made t.layout k.0 (get_or t.refs k.0 None) card region (ap (pair_of t.layout) (slot_of t.refs k.0 k.1 k.2 k.3) ∙ k.4) in
-    record {
-      slot = k.0;
-      place = m.place;
-      on_card = m.on_card;
-      refers = m.refers;
-      into = m.into;
-      outside = λ e. m.across (sym (region_of_slot t.layout k.0) ∙ ap (region_of_card t.layout) m.on_card ∙ e ∙ sym m.into);
-    }
+    let k = from_places (pair_of t.layout) t.refs None (card, region) (listed pair_total pair_exact _ _ e) in
+    made t.layout t.refs k.0 card region (get_or t.refs k.0 None) refl k.2
 
 -- refining: what is pending and recorded afterwards
 module _ (cards : List ℕ) (t : Table) where
@@ -117,50 +91,44 @@ module _ (cards : List ℕ) (t : Table) where
         ]
       ]
 
--- a store
-pub pending_grows : (kind : Kind) (pending : CardSet) (card c : ℕ) → set.contains pending c ≡ true → set.contains (pending_after kind pending card) c ≡ true
-pending_grows Logged pending card c h = set.contains-insert nat_cmp_total pending card c ∙ or_right _ _ h
-pending_grows SameRegion pending card c h = h
-pending_grows Null pending card c h = h
-pending_grows AlreadyDirty pending card c h = h
+-- a store dirties the card of its slot where its target lies in another region
+abbrev pub dirties : Shape → ℕ → Option ℕ → Bool
+dirties l slot None = false
+dirties l slot (Some place) = not (eqb (region_of l slot) (region_of l place))
 
-marks : (pending : CardSet) (card : ℕ) (b : Bool) → set.contains pending card ≡ b → set.contains (pending_after (cond b AlreadyDirty Logged) pending card) card ≡ true
-marks pending card true h = h
-marks pending card false h = set.contains-insert nat_cmp_total pending card card ∙ or_left _ _ ((eq_by_cmp_equiv nat_cmp_total).refl card)
+stored_if : (pending : CardSet) (card c : ℕ) (a b : Bool) → set.contains pending card ≡ b → set.contains (pending_after (cond a SameRegion (cond b AlreadyDirty Logged)) pending card) c ≡ (set.contains pending c || (not a && eq_by_cmp nat_cmp c card))
+stored_if pending card c true b is = grind arith
+stored_if pending card c false false is = rw (set.contains-insert nat_cmp_total pending card c) (grind arith)
+stored_if pending card c false true is = same_bools _ _ (or_left _ _) (λ h. elim (or_cases _ _ h) [ inl old ↦ old | inr same ↦ subst (λ (k : ℕ). set.contains pending k ≡ true) (sym (exact_unsigned c card ((Equal-is (nat_cmp c card)).0 same))) is ])
+
+pub stored_pending : (t : Table) (slot : ℕ) (target : Option ℕ) (c : ℕ) → set.contains (stored t slot target).pending c ≡ (set.contains t.pending c || (dirties t.layout slot target && eq_by_cmp nat_cmp c (card_of t.layout slot)))
+stored_pending t slot None c = grind arith
+stored_pending t slot (Some place) c = stored_if t.pending (card_of t.layout slot) c (eqb (region_of t.layout slot) (region_of t.layout place)) (set.contains t.pending (card_of t.layout slot)) refl
 
 pub store_marks : (t : Table) (slot place : ℕ) → region_of t.layout slot ≢ region_of t.layout place → IsPending (stored t slot (Some place)) (card_of t.layout slot)
-store_marks t slot place across =
-    subst (λ b. set.contains (pending_after (cond b SameRegion (cond (set.contains t.pending (card_of t.layout slot)) AlreadyDirty Logged)) t.pending (card_of t.layout slot)) (card_of t.layout slot) ≡ true)
-    (sym (ne_eqb _ _ across)) (marks t.pending (card_of t.layout slot) (set.contains t.pending (card_of t.layout slot)) refl)
+store_marks t slot place across = stored_pending t slot (Some place) (card_of t.layout slot) ∙ or_right _ _ (and_from _ _ (ap not (ne_eqb _ _ across)) ((eq_by_cmp_equiv nat_cmp_total).refl (card_of t.layout slot)))
 
 -- a store keeps cover: at its slot it marks the card, and elsewhere nothing is lost
 module _ (t : Table) (slot : ℕ) (target : Option ℕ) where
   same_slot : (place : ℕ) → Crosses (stored t slot target) slot place → IsPending (stored t slot target) (card_of t.layout slot)
   same_slot place x =
-      let inside : slot < length t.refs = omega (arith, is_slot (list_set t.refs slot target) slot place x.refers, length-set t.refs slot target) in
-      let is : target ≡ Some place = sym (get_or-set_same t.refs slot target None inside) ∙ x.refers in
+      let is : target ≡ Some place = sym (get_or-set_same t.refs slot target None (omega (arith, is_slot (list_set t.refs slot target) slot place x.refers, length-set t.refs slot target))) ∙ x.refers in
       subst (λ o. IsPending (stored t slot o) (card_of t.layout slot)) (sym is) (store_marks t slot place x.across)
-
-  other_slot : IsCovered t → (other place : ℕ) → other ≢ slot → Crosses (stored t slot target) other place → IsPending (stored t slot target) (card_of t.layout other) ⊎ IsRecorded (stored t slot target) (card_of t.layout other) (region_of t.layout place)
-  other_slot cover other place apart x =
-      let old : Crosses t other place = record { refers = sym (get_or-set_other t.refs slot other target None apart) ∙ x.refers; across = x.across } in
-      elim (cover other place old) [
-        | inl p ↦ inl (pending_grows (kind_of t slot target) t.pending (card_of t.layout slot) (card_of t.layout other) p)
-        | inr r ↦ inr r
-      ]
 
   pub stored_covered : IsCovered t → IsCovered (stored t slot target)
   stored_covered cover other place x =
       elim (cases_eq other slot) [
         | inl is ↦ inl (subst (λ s. IsPending (stored t slot target) (card_of t.layout s)) (sym is) (same_slot place (subst (λ s. Crosses (stored t slot target) s place) is x)))
-        | inr apart ↦ other_slot cover other place apart x
+        | inr apart ↦ elim (cover other place (record { refers = sym (get_or-set_other t.refs slot other target None apart) ∙ x.refers; across = x.across })) [
+          | inl p ↦ inl (stored_pending t slot target (card_of t.layout other) ∙ or_left _ _ p)
+          | inr r ↦ inr r
+        ]
       ]
 
 pub nothing_refers : (n slot place : ℕ) → get_or (replicate n None) slot None ≡ Some place → ⊥
 nothing_refers n slot place e =
     let nulls : List (Option ℕ) = replicate n None in
-    let below : slot < n = omega (arith, is_slot nulls slot place e, length-replicate {A = Option ℕ} n None) in
-    let none : get_or nulls slot None ≡ None = get_or-replicate n slot None None below in
+    let none : get_or nulls slot None ≡ None = get_or-replicate n slot None None (omega (arith, is_slot nulls slot place e, length-replicate {A = Option ℕ} n None)) in
     cc
 
 pub opening_covered : (l : Shape) → IsCovered (opening l)

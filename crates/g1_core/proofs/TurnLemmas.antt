@@ -1,10 +1,9 @@
 -- A round of turns refines distinct pending cards.
 use Rattle.std.specs.Prelude.{◌≡◌, ◌≢◌, ◌⊎◌, ◌≤◌, ◌∷◌, ◌++◌}
-use Rattle.g1_core.specs.{inl, inr, ℕ, suc, true, cond, List, [], length, get_or, take, drop, Option, Some, None, refl, sym, ap, ◌∙◌, subst, arith, Contains, All, nat_eq, nat_lt, not, IsDistinct, IsDistinct-tail, cases_lt, cases_Bool, and_parts, and_from, lt-ltb, le-ltb, not-true, true≢false, false_from_ne_true, append-nil, All-push, All-contains, Offer, Cold, Kept, Out, Ring, answer, cards_after, IsPending, AreRefinable, refined, State, IsPlaced, RefineReply, IsStep, IsTurned, round_of, refine_entry, is_dirty, refined_by, state_after, Round, turn_by, turn, turns, start}
-use Rattle.std.proofs.lemmas.Map.Made.{AllPairs-from_IsDistinct}
-use Rattle.std.proofs.lemmas.Bool.Decides.{Decides-eqb}
+use Rattle.g1_core.specs.{inl, inr, ℕ, suc, true, cond, List, [], length, get_or, take, drop, Option, Some, None, refl, sym, ap, ◌∙◌, subst, arith, Contains, All, nat_eq, nat_lt, not, IsDistinct, cases_lt, cases_Bool, and_parts, and_from, lt-ltb, le-ltb, not-true, true≢false, false_from_ne_true, append-nil, Contains-push_cases, All-contains, Offer, Cold, Kept, Out, Ring, answer, cards_after, IsPending, AreRefinable, refined, State, IsPlaced, RefineReply, IsStep, IsTurned, round_of, refine_entry, is_dirty, refined_by, state_after, Round, turn_by, turn, turns, start}
+use Rattle.std.proofs.lemmas.Bool.{cases_cond}
 use Rattle.g1_core.specs.Table.{Table}
-use Rattle.g1_core.proofs.SetLemmas.{All_by_member, in_list, in_set}
+use Rattle.g1_core.proofs.SetLemmas.{All_by_member, in_list, in_set, front_apart, rest_distinct}
 use Rattle.g1_core.proofs.TableLemmas.{still_pending}
 use Rattle.g1_core.proofs.MarkLemmas.{one_of}
 use Rattle.g1_core.proofs.RefinedLemmas.{refined_none, refined_both, push_distinct, refinable_push}
@@ -15,22 +14,8 @@ pub record IsRound (t : Table) (r : Round) : Type 0 where
   pub refines : AreRefinable t r.refined
   pub placed : IsPlaced r.state
 
--- the front of a ring is apart from the rest
-pub front_apart : (x : ℕ) (xs : List ℕ) → IsDistinct nat_eq (x ∷ xs) → Contains xs x → ⊥
-front_apart x xs h (k, lt, e) = AllPairs-from_IsDistinct Decides-eqb (x ∷ xs) h 0 (suc k) x (omega arith) (omega arith) (sym e)
-
-pub rest_distinct : (x : ℕ) (xs : List ℕ) → IsDistinct nat_eq (x ∷ xs) → IsDistinct nat_eq xs
-rest_distinct x xs h = IsDistinct-tail nat_eq x xs h
-
 pub pending_but : (t : Table) (x q : ℕ) → IsPending t q → q ≢ x → IsPending (refined (x ∷ []) t) q
 pending_but t x q is ne = still_pending (x ∷ []) t q is (false_from_ne_true _ (λ c. ne (one_of q x (in_list (x ∷ []) q c))))
-
--- what is left of refinable cards after the first of them
-pub rest_refinable : (t : Table) (x : ℕ) (xs : List ℕ) → AreRefinable t (x ∷ xs) → AreRefinable (refined (x ∷ []) t) xs
-rest_refinable t x xs h = record {
-  distinct = rest_distinct x xs h.distinct;
-  pending = All_by_member (IsPending (refined (x ∷ []) t)) xs (λ q c. pending_but t x q (All-contains (IsPending t) (x ∷ xs) q h.pending (suc c.0, omega (arith, c.1), c.2)) (λ e. front_apart x xs h.distinct (subst (Contains xs) e c)));
-}
 
 -- what the ring may answer
 pub record IsOut (r : Ring) (card : ℕ) : Type 0 where
@@ -45,17 +30,14 @@ out_of r card (x ∷ xs) is some e = record { oldest = x; rest = xs; cards = is;
 
 pub answer_cases : (r : Ring) (card : ℕ) → 1 ≤ r.capacity → (answer r card ≡ Cold) ⊎ ((answer r card ≡ Kept) ⊎ IsOut r card)
 answer_cases r card some =
-    let count = get_or r.counts card 0 in
     let full = nat_lt (length r.cards) r.capacity in
     let front = get_or r.cards 0 0 in
-    elim (cases_lt count r.limit) [
-      | inl cold ↦ inl (ap (λ b. cond b Cold (cond full Kept (Out front))) (lt-ltb _ _ cold))
-      | inr hot ↦
-          let is_hot : answer r card ≡ cond full Kept (Out front) = ap (λ b. cond b Cold (cond full Kept (Out front))) (le-ltb _ _ hot) in
-          elim (cases_lt (length r.cards) r.capacity) [
-            | inl room ↦ inr (inl (is_hot ∙ ap (λ b. cond b Kept (Out front)) (lt-ltb _ _ room)))
-            | inr none ↦ inr (inr (out_of r card r.cards refl (omega arith) (is_hot ∙ ap (λ b. cond b Kept (Out front)) (le-ltb _ _ none))))
-          ]
+    elim (cases_cond (nat_lt (get_or r.counts card 0) r.limit) Cold (cond full Kept (Out front)) (answer r card) refl) [
+      | inl cold ↦ inl cold
+      | inr hot ↦ elim (cases_lt (length r.cards) r.capacity) [
+        | inl room ↦ inr (inl (hot ∙ ap (λ b. cond b Kept (Out front)) (lt-ltb _ _ room)))
+        | inr none ↦ inr (inr (out_of r card r.cards refl (omega arith) (hot ∙ ap (λ b. cond b Kept (Out front)) (le-ltb _ _ none))))
+      ]
     ]
 
 -- a dirty card is pending and not in the ring
@@ -78,41 +60,32 @@ module _ (s : State) (card : ℕ) (placed : IsPlaced s) (dirty : IsDirty s card)
   in_ring : (q : ℕ) → Contains s.ring.cards q → IsPending s.table q
   in_ring q c = All-contains (IsPending s.table) s.ring.cards q placed.pending c
 
+  -- the ring then holds distinct cards, each of them pending yet
+  placed_by : (o : Offer) (xs : List ℕ) → answer s.ring card ≡ o → cards_after s.ring.cards card o ≡ xs → IsDistinct nat_eq xs → ((q : ℕ) → Contains xs q → IsPending (refined (refined_by card (Some o)) s.table) q) → IsPlaced (state_after s card (Some o))
+  placed_by o xs is same distinct each =
+      let cards : cards_after s.ring.cards card (answer s.ring card) ≡ xs = ap (cards_after s.ring.cards card) is ∙ same in
+      record { some = placed.some; distinct = rw cards distinct; pending = rw cards (All_by_member (IsPending (refined (refined_by card (Some o)) s.table)) xs each) }
+
   pub cold_placed : answer s.ring card ≡ Cold → IsPlaced (state_after s card (Some Cold))
-  cold_placed is =
-      let same : cards_after s.ring.cards card (answer s.ring card) ≡ s.ring.cards = ap (cards_after s.ring.cards card) is in
-      record {
-        some = placed.some;
-        distinct = subst (IsDistinct nat_eq) (sym same) placed.distinct;
-        pending = subst (All (IsPending (refined (card ∷ []) s.table))) (sym same) (All_by_member (IsPending (refined (card ∷ []) s.table)) s.ring.cards (λ q c. pending_but s.table card q (in_ring q c) (other q c)));
-      }
+  cold_placed is = placed_by Cold s.ring.cards is refl placed.distinct (λ q c. pending_but s.table card q (in_ring q c) (other q c))
 
   pub kept_placed : answer s.ring card ≡ Kept → IsPlaced (state_after s card (Some Kept))
-  kept_placed is =
-      let same : cards_after s.ring.cards card (answer s.ring card) ≡ s.ring.cards ++ card ∷ [] = ap (cards_after s.ring.cards card) is in
-      let each : All (IsPending s.table) (s.ring.cards ++ card ∷ []) = All-push (IsPending s.table) s.ring.cards card placed.pending dirty.pending in
-      record {
-        some = placed.some;
-        distinct = subst (IsDistinct nat_eq) (sym same) (push_distinct s.ring.cards card placed.distinct dirty.apart);
-        pending = subst (All (IsPending (refined [] s.table))) (sym same) (subst (λ t. All (IsPending t) (s.ring.cards ++ card ∷ [])) (sym (refined_none s.table)) each);
-      }
+  kept_placed is = placed_by Kept (s.ring.cards ++ card ∷ []) is refl (push_distinct s.ring.cards card placed.distinct dirty.apart) (λ q c. subst (λ t. IsPending t q) (sym (refined_none s.table)) (elim (Contains-push_cases s.ring.cards card q c) [
+    | inl old ↦ in_ring q old
+    | inr new ↦ subst (IsPending s.table) new dirty.pending
+  ]))
 
   pub out_placed : (o : IsOut s.ring card) → IsPlaced (state_after s card (Some (Out o.oldest)))
   out_placed o =
-      let same : cards_after s.ring.cards card (answer s.ring card) ≡ o.rest ++ card ∷ [] = ap (cards_after s.ring.cards card) o.answers ∙ ap (λ (xs : List ℕ). drop 1 xs ++ card ∷ []) o.cards in
       let whole : IsDistinct nat_eq (o.oldest ∷ o.rest) = subst (IsDistinct nat_eq) o.cards placed.distinct in
-      let stands : (q : ℕ) → Contains o.rest q → Contains s.ring.cards q = λ q c. subst (λ xs. Contains xs q) (sym o.cards) (suc c.0, omega (arith, c.1), c.2) in
-      let first : Contains s.ring.cards o.oldest = subst (λ xs. Contains xs o.oldest) (sym o.cards) (0, omega arith, refl) in
-      record {
-        some = placed.some;
-        distinct = subst (IsDistinct nat_eq) (sym same) (push_distinct o.rest card (rest_distinct o.oldest o.rest whole) (λ c. dirty.apart (stands card c)));
-        pending = subst (All (IsPending (refined (o.oldest ∷ []) s.table))) (sym same) (All-push (IsPending (refined (o.oldest ∷ []) s.table)) o.rest card
-            (All_by_member (IsPending (refined (o.oldest ∷ []) s.table)) o.rest (λ q c. pending_but s.table o.oldest q (in_ring q (stands q c)) (λ e. front_apart o.oldest o.rest whole (subst (Contains o.rest) e c))))
-            (pending_but s.table o.oldest card dirty.pending (λ e. other o.oldest first (sym e))));
-      }
+      let stands : (q : ℕ) → Contains o.rest q → Contains s.ring.cards q = λ q c. rw o.cards (suc c.0, omega (arith, c.1), c.2) in
+      placed_by (Out o.oldest) (o.rest ++ card ∷ []) o.answers (ap (λ (xs : List ℕ). drop 1 xs ++ card ∷ []) o.cards) (push_distinct o.rest card (rest_distinct o.oldest o.rest whole) (λ c. dirty.apart (stands card c))) (λ q c. elim (Contains-push_cases o.rest card q c) [
+        | inl old ↦ pending_but s.table o.oldest q (in_ring q (stands q old)) (λ e. front_apart o.oldest o.rest whole (subst (Contains o.rest) e old))
+        | inr new ↦ subst (IsPending (refined (o.oldest ∷ []) s.table)) new (pending_but s.table o.oldest card dirty.pending (λ e. other o.oldest (rw o.cards (0, omega arith, refl)) (sym e)))
+      ])
 
   pub out_pending : (o : IsOut s.ring card) → IsPending s.table o.oldest
-  out_pending o = in_ring o.oldest (subst (λ xs. Contains xs o.oldest) (sym o.cards) (0, omega arith, refl))
+  out_pending o = in_ring o.oldest (rw o.cards (0, omega arith, refl))
 
 -- one turn more
 module _ (t : Table) (r : Round) (card : ℕ) (h : IsRound t r) where
@@ -128,17 +101,16 @@ module _ (t : Table) (r : Round) (card : ℕ) (h : IsRound t r) where
   skip_placed : IsPlaced (state_after r.state card None)
   skip_placed = record { some = h.placed.some; distinct = h.placed.distinct; pending = subst (λ t. All (IsPending t) r.state.ring.cards) (sym (refined_none r.state.table)) h.placed.pending }
 
-  offered_round : IsDirty r.state card → (o : Offer) → answer r.state.ring card ≡ o → IsRound t (turn_by r card (Some o))
-  offered_round dirty o is =
-      subst (λ (o : Offer). IsRound t (turn_by r card (Some o))) is (elim (answer_cases r.state.ring card h.placed.some) [
-        | inl cold ↦ subst (λ (o : Offer). IsRound t (turn_by r card (Some o))) (sym cold) (by (Some Cold) (one_more card dirty.pending) (cold_placed r.state card h.placed dirty cold))
-        | inr (inl kept) ↦ subst (λ (o : Offer). IsRound t (turn_by r card (Some o))) (sym kept) (by (Some Kept) no_more (kept_placed r.state card h.placed dirty kept))
-        | inr (inr out) ↦ subst (λ (o : Offer). IsRound t (turn_by r card (Some o))) (sym out.answers) (by (Some (Out out.oldest)) (one_more out.oldest (out_pending r.state card h.placed dirty out)) (out_placed r.state card h.placed dirty out))
-      ])
+  offered_round : IsDirty r.state card → IsRound t (turn_by r card (Some (answer r.state.ring card)))
+  offered_round dirty = elim (answer_cases r.state.ring card h.placed.some) [
+    | inl cold ↦ subst (λ (o : Offer). IsRound t (turn_by r card (Some o))) (sym cold) (by (Some Cold) (one_more card dirty.pending) (cold_placed r.state card h.placed dirty cold))
+    | inr (inl kept) ↦ subst (λ (o : Offer). IsRound t (turn_by r card (Some o))) (sym kept) (by (Some Kept) no_more (kept_placed r.state card h.placed dirty kept))
+    | inr (inr out) ↦ subst (λ (o : Offer). IsRound t (turn_by r card (Some o))) (sym out.answers) (by (Some (Out out.oldest)) (one_more out.oldest (out_pending r.state card h.placed dirty out)) (out_placed r.state card h.placed dirty out))
+  ]
 
   pub turn_round : IsRound t (turn r card)
   turn_round = elim (cases_Bool (is_dirty r.state card)) [
-    | inl has ↦ subst (λ b. IsRound t (turn_by r card (cond b (Some (answer r.state.ring card)) None))) (sym has) (offered_round (dirty_from r.state card has) (answer r.state.ring card) refl)
+    | inl has ↦ subst (λ b. IsRound t (turn_by r card (cond b (Some (answer r.state.ring card)) None))) (sym has) (offered_round (dirty_from r.state card has))
     | inr not_so ↦ subst (λ b. IsRound t (turn_by r card (cond b (Some (answer r.state.ring card)) None))) (sym not_so) (by None no_more skip_placed)
   ]
 
