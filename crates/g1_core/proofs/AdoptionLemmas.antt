@@ -1,6 +1,6 @@
 -- A core that is made of references, marked cards and pairs.
 use Rattle.std.specs.Prelude.{◌≡◌, ◌≤◌, ◌∷◌}
-use Rattle.g1_core.specs.{ℕ, zero, suc, Bool, true, false, List, [], get_or, Option, refl, sym, ap, ◌∙◌, subst, arith, All, IsDistinct, length-replicate, Shape, card_count, pair_cmp, PairSet, Clean, Dirty, Held, Cells, AreCells, Pairs, Ring, new_ring, IsCovered, AreOutside, IsCore, AreParts, pending_of, table_from, machine_from, IsPairOf, mark_for, marks_for, table_with, adopted_machine}
+use Rattle.g1_core.specs.{ℕ, zero, suc, Bool, true, false, List, [], get_or, Option, refl, sym, ap, ◌∙◌, subst, arith, All, IsDistinct, length-replicate, Shape, card_count, pair_cmp, PairSet, Clean, Dirty, Held, Cells, AreCells, Pairs, Ring, new_ring, IsCovered, AreOutside, IsCore, AreParts, pending_of, table_from, IsPairOf, mark_for, marks_for, table_with}
 use Rattle.std.proofs.lemmas.Bool.{true_from_ne_false}
 use Rattle.std.specs.FinSet as set
 use Rattle.g1_core.specs.Table.{Table}
@@ -53,9 +53,6 @@ module _ (l : Shape) (s : Settings) (refs : List (Option ℕ)) (marked : List Bo
 
   pub adopted_core : IsCore heap sets ring pending
   adopted_core = record { layouts = layouts ∙ ap (λ (h : Cells). h.layout) (sym eh); parts = subst (λ (r : Ring). AreParts heap sets.pairs r pending) (sym er) parts }
-
-  pub adopted_is : machine_from heap sets.pairs ring s ≡ adopted_machine l s refs marked pairs
-  adopted_is = (λ i. machine_from (eh i) (es i) (er i) s) ∙ (λ i. record { state = record { table = table_with l refs marked pairs; ring = new_ring l (el i) (ec i) }; settings = s; reads = 0 })
 
 -- what is listed of a table's pairs is of the heap, outside its region
 pub pairs_of_heap : (t : Table) (items : List (ℕ × ℕ)) → AreOutside t → set.from_list {R = pair_cmp} items ≡ t.recorded → All (IsPairOf t.layout) items

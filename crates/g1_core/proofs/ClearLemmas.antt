@@ -1,6 +1,6 @@
 -- A clear is a step of the plain table: the set of a region has each card that enters it.
 use Rattle.std.specs.Prelude.{◌≡◌, ◌<◌, ◌≤◌, ◌+◌, ◌-◌, ◌*◌}
-use Rattle.g1_core.specs.{inl, inr, ℕ, true, eqb, List, [], length, Some, None, refl, sym, ap, ◌∙◌, subst, arith, Contains, not, nat_cmp, mul-le-mul_right, eq-eqb, and_from, true≢false, card_of, CardSet, PairSet, Cells, Pairs, AreTied, list_at, without, Ring, Enters, IsCovered, IsRecorded, AreOutside, IsCore, IsLater, AreParts, pending_of, table_from, state_from, machine_from, Clear, IsFirstInto, IsStep, Answers, settled, ClearReply, clear_entry, DoesClear, member_count, IsLeastOn, AreRead}
+use Rattle.g1_core.specs.{inl, inr, ℕ, eqb, List, [], length, Some, None, refl, sym, ap, ◌∙◌, subst, arith, Contains, not, nat_cmp, mul-le-mul_right, eq-eqb, and_from, true≢false, card_of, CardSet, PairSet, Cells, Pairs, AreTied, list_at, without, Ring, Enters, IsCovered, IsRecorded, AreOutside, IsCore, IsLater, AreParts, pending_of, table_from, state_from, machine_from, Clear, IsFirstInto, IsStep, Answers, settled, ClearReply, clear_entry, DoesClear, member_count, IsLeastOn, AreRead}
 use Rattle.std.specs.FinSet as set
 use Rattle.g1_core.specs.Table.{Table}
 use Rattle.g1_core.specs.declared.config.Settings.{Settings}

@@ -1,6 +1,6 @@
 -- One card of a drain: what refining it leaves, and what a refused record leaves.
 use Rattle.std.specs.Prelude.{◌≡◌, ◌≢◌, ◌<◌, ◌≤◌, ◌+◌, ◌∷◌, ◌↔◌}
-use Rattle.g1_core.specs.{ℕ, true, false, [], length, get_or, Option, Some, None, refl, sym, ap, ◌∙◌, arith, Contains, IfSome, IfNone, MatchOption, nat_eq, slice_get, IsDistinct, card_count, Clean, Dirty, Cells, with_mark, with_reads, HasNoDirty, IsFirstDirty, Pairs, Ring, popped, IsPending, refined, IsCore, table_from, state_from, machine_from, pending_of, gained, is_dirty, IsCardDrained, IsCardRead}
+use Rattle.g1_core.specs.{ℕ, true, false, [], length, get_or, Option, Some, None, refl, sym, ap, ◌∙◌, arith, Contains, IfSome, IfNone, MatchOption, nat_eq, slice_get, IsDistinct, card_count, Clean, Dirty, Cells, with_mark, with_reads, HasNoDirty, IsFirstDirty, Pairs, Ring, popped, IsPending, refined, IsCore, table_from, state_from, machine_from, pending_of, gained, is_dirty, IsCardDrained}
 use Rattle.std.specs.FinSet as set
 use Rattle.g1_core.specs.declared.config.Settings.{Settings}
 use Rattle.g1_core.specs.Table.{Table}
@@ -57,9 +57,6 @@ module _ (heap : Cells) (sets : Pairs) (ring : Ring) (pending : ℕ) (settings :
     (eh : heap' ≡ with_reads heap heap.layout.slots) (es : sets' ≡ sets) (ep : pending' ≡ pending) where
   pub read_core : IsCore heap' sets' ring pending'
   read_core = rw (eh, es, ep) (record { layouts = core.layouts; parts = search })
-
-  pub card_read : IsCardRead (machine_from heap sets.pairs ring settings) (machine_from heap' sets'.pairs ring settings)
-  card_read = record { state = (λ i. state_from (eh i) (es i).pairs ring); settings = refl; reads = ap (λ (h : Cells). h.reads) eh }
 
 -- the next dirty card, by the marks and by the state
 module _ (heap : Cells) (sets : Pairs) (ring : Ring) (pending : ℕ) (settings : Settings) (m : Machine) (core : IsCore heap sets ring pending) (view : machine_from heap sets.pairs ring settings ≡ m) (from : ℕ) where

@@ -1,9 +1,8 @@
 -- A drain, whole and short, is a step of the plain table.
-use Rattle.std.specs.Prelude.{◌≡◌, ◌<◌, ◌+◌, ◌++◌}
-use Rattle.g1_core.specs.{inl, ℕ, false, List, [], length, refl, sym, ap, ◌∙◌, subst, arith, Contains, nat_cmp, true≢false, append-nil, length-append, Ring, reset, IsStep, drain_entry, AreMembers, refined, is_dirty, AreDirtyBelow, Drains, IsDirtyDrained, IsDirtyStopped, IsRingDrained, IsDrainOrder, IsDrainOf, IsShortDrain, IsWholeDrain, IsAllDrained, reset_machine, ring_with}
+use Rattle.std.specs.Prelude.{◌≡◌, ◌+◌, ◌++◌}
+use Rattle.g1_core.specs.{inl, ℕ, false, List, [], length, refl, sym, ap, ◌∙◌, subst, arith, Contains, nat_cmp, true≢false, append-nil, length-append, Ring, is_dirty, AreDirtyBelow, Drains, IsDirtyDrained, IsDirtyStopped, IsRingDrained, IsShortDrain, IsAllDrained}
 use Rattle.std.specs.FinSet as set
 use Rattle.g1_core.specs.declared.reply.Drained.TheVariants as answers
-use Rattle.g1_core.specs.Table.{Table}
 use Rattle.g1_core.specs.Machine.{Machine}
 use Rattle.g1_core.proofs.SetLemmas.{same_cards}
 use Rattle.g1_core.proofs.TableLemmas.{refined_pending}
@@ -49,32 +48,3 @@ module _ (a b : Machine) (xs : List ℕ) (n : ℕ) (h : IsRingDrained a xs n b) 
             (λ q p. absurd (true≢false (sym (to_dirty c.state q p (λ stands. absurd (omega (arith, (subst (λ (ys : List ℕ). Contains ys q) gone stands).1)))) ∙ none q)))
             (λ q p. absurd (true≢false (sym p ∙ set.contains-empty nat_cmp q)));
       }
-
--- a whole drain is short where the set's list is refused after it
-pub drained_short : (old mid : Machine) (cards : List ℕ) → IsAllDrained old cards mid → IsShortDrain old cards mid
-drained_short old mid cards all = record { order = subst (IsDrainOrder old.state cards) (sym all.left) all.order; tried = length cards; each = omega arith; most = omega arith; drains = all.drains }
-
--- what the pause answers, with the cards as the reply lists them
-module _ (old : Machine) (region : ℕ) (within : region < old.state.table.layout.regions) (cards listed : List ℕ) (same : listed ≡ cards) where
-  module _ (new : Machine) (short : IsShortDrain old cards new) where
-    pub short_drain : IsShortDrain old listed new
-    short_drain = subst (λ (cs : List ℕ). IsShortDrain old cs new) (sym same) short
-
-    pub short_drain_step : (caller : ℕ) → IsStep old.state.table (drain_entry caller region (answers.Short listed)) new.state.table
-    short_drain_step caller = subst (λ (cs : List ℕ). IsStep old.state.table (drain_entry caller region (answers.Short cs)) new.state.table) (sym same)
-        (record { allowed = record { numbers = within; refines = short.drains.refines; answers = tt }; after = short.drains.table })
-
-  module _ (mid : Machine) (all : IsAllDrained old cards mid) (new : Machine) (after : new ≡ reset_machine mid) (members : List ℕ) (are : AreMembers mid.state.table region members) where
-    pub whole_drain : IsDrainOf old region (answers.Cards members listed) new
-    whole_drain =
-        let ring : reset mid.state.ring ≡ reset (ring_with old.state.ring []) = ap reset (all.drains.ring ∙ ap (ring_with old.state.ring) all.left) in
-        let whole : IsWholeDrain old cards (reset_machine mid) = search (all, ring) in
-        subst (λ (m : Machine). IsDrainOf old region (answers.Cards members listed) m) (sym after) (subst (λ (cs : List ℕ). IsWholeDrain old cs (reset_machine mid)) (sym same) whole, are)
-
-    pub whole_drain_step : (caller : ℕ) → IsStep old.state.table (drain_entry caller region (answers.Cards members listed)) new.state.table
-    whole_drain_step caller =
-        let table : mid.state.table ≡ refined cards old.state.table = all.drains.table in
-        subst (λ (cs : List ℕ). IsStep old.state.table (drain_entry caller region (answers.Cards members cs)) new.state.table) (sym same) (record {
-          allowed = record { numbers = within; refines = all.drains.refines; answers = (ap (λ (t : Table). t.pending) (sym table) ∙ all.nothing, subst (λ (t : Table). AreMembers t region members) table are) };
-          after = ap (λ (m : Machine). m.state.table) after ∙ table;
-        })

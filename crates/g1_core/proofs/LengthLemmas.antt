@@ -1,6 +1,6 @@
 -- How long the lists of a reply can be.
-use Rattle.std.specs.Prelude.{◌≡◌, ◌≤◌, ◌+◌, ◌*◌, ◌∷◌}
-use Rattle.g1_core.specs.{ℕ, List, [], length, take, Option, Some, None, refl, ap, arith, length-append, reads_after, Offer, RefineReply, AreRefinable, refined, State, Round, refined_by, hot_by, skipped_by, offer_to, turn, turns, start, IsTurned, IsIdle, AreCardsRead, DoesRefine, nat_cmp_total, exact_unsigned, All-contains, IsPending}
+use Rattle.std.specs.Prelude.{◌≤◌, ◌+◌, ◌∷◌}
+use Rattle.g1_core.specs.{ℕ, List, [], length, take, Option, Some, ap, arith, length-append, Offer, RefineReply, AreRefinable, refined, State, Round, refined_by, hot_by, skipped_by, offer_to, turn, turns, start, IsTurned, AreCardsRead, DoesRefine, nat_cmp_total, exact_unsigned, All-contains, IsPending}
 use Rattle.std.proofs.lemmas.Bool.{cases_cond}
 use Rattle.std.proofs.lemmas.List.{length-take}
 use Rattle.std.specs.FinSet as set
@@ -29,20 +29,6 @@ turned_few old cards reply new h =
 pub turned_counts : (old : State) (cards : List ℕ) (reply : RefineReply) (new : State) → IsTurned old cards reply new → (reply.taken ≤ 1) × (reply.hot ≤ length cards)
 turned_counts old cards reply new h =
     (omega (arith, cases_cond reply.short 0 1 reply.taken h.taken), omega (arith, ap (λ (r : Round). r.hot) h.turned, turns_few (take h.many cards) (start old), length-take h.many cards))
-
--- what a refinement does without a buffer, and with one
-pub idle_does : (m : Machine) (reply : RefineReply) → IsIdle reply → m.reads ≡ reads_after m.reads (0 * m.state.table.layout.slots) → DoesRefine None reply m m
-idle_does m reply idle reads =
-    let none : length reply.refined ≡ 0 = ap length idle.refined in
-    record {
-      refined = (idle, refl);
-      reads = record { tried = 0; each = omega (arith, none); most = omega arith; reads = reads };
-      taken = omega (arith, idle.taken);
-      cards = omega (arith, none, idle.skipped);
-      hot = omega (arith, idle.hot);
-      left = idle.left;
-      idle = λ _. idle.taken;
-    }
 
 pub turned_does : (old new : Machine) (cards : List ℕ) (reply : RefineReply) → length cards ≤ 256 → IsTurned old.state cards reply new.state → AreCardsRead old reply new → DoesRefine (Some cards) reply old new
 turned_does old new cards reply few turned read =

@@ -1,9 +1,8 @@
 -- The redirect, whole and short, is a step of the plain table.
-use Rattle.std.specs.Prelude.{◌≡◌, ◌≢◌, ◌<◌, ◌≤◌, ◌+◌, ◌*◌}
-use Rattle.g1_core.specs.{ℕ, List, length, refl, sym, ap, ◌∙◌, subst, arith, All, enumerate_from, mul-le-mul, length-enumerate_from, count_by-le-length, slot_count, slot_count_limit, Change, State, IsCore, pending_of, table_from, state_from, machine_from, refined, enters, moved, moved_count, changes_of, slots_on, changed, AreGaining, IsMoved, AreMembersRead, IsWholeRedirect, IsShortRedirect, Cells, Ring, reset, Pairs, AreTied, list_at, of_region, without, AreRead, member_count, redirect_entry, IsStep, IsAllDrained, IsShortDrain, reset_machine, ring_with, IsDrainOrder}
+use Rattle.std.specs.Prelude.{◌≡◌, ◌≢◌, ◌<◌, ◌≤◌, ◌*◌}
+use Rattle.g1_core.specs.{ℕ, List, length, refl, sym, ap, ◌∙◌, subst, arith, All, enumerate_from, length-enumerate_from, count_by-le-length, slot_count, slot_count_limit, Change, IsCore, pending_of, table_from, state_from, machine_from, enters, moved, moved_count, changes_of, slots_on, changed, AreGaining, IsMoved, AreMembersRead, Cells, Ring, Pairs, AreTied, list_at, of_region, without, AreRead}
 use Rattle.std.specs.FinSet as set
 use Rattle.g1_core.specs.Machine.{Machine}
-use Rattle.g1_core.specs.Table.{Table}
 use Rattle.g1_core.proofs.ClearLemmas.{few_read}
 use Rattle.g1_core.specs.declared.config.Settings.{Settings}
 use Rattle.g1_core.specs.declared.reply.Redirected.TheVariants as answers
@@ -69,52 +68,3 @@ module _ (heap : Cells) (sets : Pairs) (ring : Ring) (pending : ℕ) (settings :
             reads = omega (arith, reads, few_read sets heap now from tied read);
           };
         })
-
--- what a redirect answers, with the cards as the reply lists them
-module _ (old : Machine) (from to : ℕ) (low : from < old.state.table.layout.regions) (high : to < old.state.table.layout.regions) (apart : from ≢ to) (cards listed : List ℕ) (same : listed ≡ cards) (new : Machine) where
-  -- it is short where the drain is
-  pub short_drained_at : IsShortDrain old cards new → IsShortRedirect old from listed new
-  short_drained_at h =
-      let fits : h.tried * old.state.table.layout.slots ≤ (length cards + member_count (refined cards old.state.table) from + 1) * old.state.table.layout.slots = mul-le-mul (omega (arith, h.most)) (omega arith) in
-      rw same (record { order = h.order; table = h.drains.table; ring = h.drains.ring; settings = h.drains.settings; reads = omega (arith, fits, h.drains.reads) })
-
-  pub short_drained_step : IsShortDrain old cards new → (caller : ℕ) → IsStep old.state.table (redirect_entry caller from to (answers.Short listed)) new.state.table
-  short_drained_step h caller = subst (λ (cs : List ℕ). IsStep old.state.table (redirect_entry caller from to (answers.Short cs)) new.state.table) (sym same)
-      (record { allowed = record { numbers = (low, high, apart); refines = h.drains.refines; answers = tt }; after = h.drains.table })
-
-  module _ (mid : Machine) (drained : IsAllDrained old cards mid) where
-    all_read : (reads : ℕ) → reads ≤ mid.reads + member_count mid.state.table from * mid.state.table.layout.slots → reads ≤ old.reads + (length cards + member_count (refined cards old.state.table) from) * old.state.table.layout.slots
-    all_read reads few =
-        let fits : reads ≤ mid.reads + member_count (refined cards old.state.table) from * old.state.table.layout.slots = subst (λ (t : Table). reads ≤ mid.reads + member_count t from * t.layout.slots) drained.drains.table few in
-        omega (arith, fits, drained.drains.reads)
-
-    -- or where the members were only read
-    pub short_read_at : AreMembersRead mid from new → IsShortRedirect old from listed new
-    short_read_at read = rw same (record {
-      order = subst (IsDrainOrder old.state cards) (sym (ap (λ (s : State). s.ring.cards) read.state ∙ drained.left)) drained.order;
-      table = ap (λ (s : State). s.table) read.state ∙ drained.drains.table;
-      ring = subst (λ (s : State). s.ring ≡ ring_with old.state.ring s.ring.cards) (sym read.state) drained.drains.ring;
-      settings = read.settings ∙ drained.drains.settings;
-      reads = omega (arith, all_read new.reads read.reads);
-    })
-
-    -- it is whole once the references were moved
-    module _ (last : Machine) (slots : ℕ) (moves : IsMoved mid from to slots last) (after : new ≡ reset_machine last) where
-      pub whole_at : IsWholeRedirect old from to listed new
-      whole_at = rw (same, after) (record {
-        order = drained.order;
-        table = ap (λ (s : State). s.table) moves.state ∙ ap (moved from to) drained.drains.table;
-        ring = ap (λ (s : State). reset s.ring) moves.state ∙ ap reset (drained.drains.ring ∙ ap (ring_with old.state.ring) drained.left);
-        settings = moves.settings ∙ drained.drains.settings;
-        reads = all_read last.reads moves.reads;
-      })
-
-      pub whole_at_step : slots ≡ moved_count from mid.state.table → (caller : ℕ) → IsStep old.state.table (redirect_entry caller from to (answers.Moved slots listed)) new.state.table
-      whole_at_step count caller = subst (λ (cs : List ℕ). IsStep old.state.table (redirect_entry caller from to (answers.Moved slots cs)) new.state.table) (sym same) (record {
-        allowed = record {
-          numbers = (low, high, apart);
-          refines = drained.drains.refines;
-          answers = (ap (λ (t : Table). t.pending) (sym drained.drains.table) ∙ drained.nothing, count ∙ ap (moved_count from) drained.drains.table);
-        };
-        after = subst (λ (cs : List ℕ). new.state.table ≡ moved from to (refined cs old.state.table)) same whole_at.table;
-      })

@@ -97,9 +97,6 @@ module _ (s : State) (l : layout.Shape) (k : Shape) (old a b : List ℕ) (pairs 
   zero_is : (i : ℕ) → i < k.slots + k.cards → get_elem? a i ≡ some 0
   zero_is i lt = notes.front i lt ∙ (ap (λ (ws : List ℕ). get_elem? ws i) null ∙ zero_at (word_count k) i (omega (arith, lt)))
 
-  pub clean_marks : (c : ℕ) → c < k.cards → get_elem? a (mark_word k c) ≡ some 0
-  clean_marks c lt = zero_is (mark_word k c) (omega (arith, lt))
-
   bit_on : (x : ℕ × ℕ) → set_of.contains s.table.recorded x ≡ true → HasBit k a x
   bit_on x e = notes.has x (contains_in pairs x (in_pairs pairs x (subst (λ r. set_of.contains r x ≡ true) (sym recorded) e)))
 

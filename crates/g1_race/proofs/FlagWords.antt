@@ -38,9 +38,6 @@ module _ (k : Shape) {words read : List ℕ} (from next : ℕ) (same : read ≡ 
       | inr high ↦ subst (λ (x : ℕ). is_marked k words x ≡ false) (let e : card ≡ c = omega (arith, high, lt) in e) (ap (λ (l : List ℕ). is_marked k l card) (sym same) ∙ mark_is_not k read card n at ne)
     ]
 
-  pub clean_after : SkipsNone (is_marked k read) k.cards next None → IsNext (is_marked k words) k.cards from None
-  clean_after skips c le lt = none_until k.cards skips c le lt lt
-
 -- a flag is no pair's bit
 pub flag_only : (k : Shape) (old new : List ℕ) (c : ℕ) → Notes k old new (flag k c ∷ []) → (x : ℕ × ℕ) → IsPair k x → HasBit k new x → HasBit k old x
 flag_only k old new c notes x pair b = ⊎_elim (λ (o : HasBit k old x). o) (λ (i : In (flag k c ∷ []) x). absurd (apart i)) (notes.only x pair.0 b)

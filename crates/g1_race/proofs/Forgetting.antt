@@ -90,22 +90,3 @@ row_next k old mid new region first card low h g = record {
 
 abbrev pub InRows : ℕ → ℕ → ℕ → ℕ × ℕ → Type 0
 InRows first end rows x = (first ≤ x.0) × (x.0 < end) × (x.1 < rows)
-
-pub rows_next : (k : Shape) (old mid new : List ℕ) (first end row : ℕ) → AreUnset k old mid (InRows first end row) → AreUnset k mid new (InRow row first end) → AreUnset k old new (InRows first end (row + 1))
-rows_next k old mid new first end row h g = record {
-  front = g.front ∙ h.front;
-  kept = λ x pair never b. g.kept x pair (λ i. never (i.1, i.2, let a : x.1 ≡ row = i.0 in omega (arith, a))) (h.kept x pair (λ i. never (i.0, i.1, let a : x.1 < row = i.2 in omega (arith, a))) b);
-  only = λ x pair b. h.only x pair (g.only x pair b);
-  clear = λ x pair i b. elim (cases_lt x.1 row) [
-    | inl before ↦ h.clear x pair (i.0, i.1, before) (g.only x pair b)
-    | inr at ↦ g.clear x pair ((let a : x.1 < row + 1 = i.2 in omega (arith, a, at)), i.0, i.1) b
-  ];
-}
-
-pub rows_all : (k : Shape) (old new : List ℕ) (first end rows : ℕ) → k.regions ≤ rows → AreUnset k old new (InRows first end rows) → AreUnset k old new (λ x. (first ≤ x.0) × (x.0 < end))
-rows_all k old new first end rows le h = record {
-  front = h.front;
-  kept = λ x pair never b. h.kept x pair (λ i. never (i.0, i.1)) b;
-  only = h.only;
-  clear = λ x pair i b. h.clear x pair (i.0, i.1, let a : x.1 < k.regions = pair.1 in omega (arith, a, le)) b;
-}

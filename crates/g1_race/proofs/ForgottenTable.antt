@@ -1,6 +1,6 @@
 -- Tables some of whose pairs are gone, and that of a region that is forgotten.
 use Rattle.std.specs.Prelude.{◌≡◌, ◌≢◌, ◌+◌, ◌-◌, ◌*◌, ◌/◌, ◌%◌, ◌<◌, ◌≤◌, ◌&&◌}
-use Rattle.g1_race.specs.{ℕ, div-add-mod', mod-lt, not, eqb, Bool, true, false, List, sym, ap, ◌∙◌, subst, inl, inr, arith, eq-eqb, some, get_elem?, mul-div_cancel_left, mul-le-mul_right, suc-mul, and_from, and_parts, cases_Bool, eqb-true, not-false, true≢false, div-mul-add, region_of, Crosses, pair_exact, same_pairs, Shape, IsBegun, IsWholeShape, slot_card, crosses, pairs_up_to, started, shape_of, ended, refs_of, table_of, AreUnset, forgotten, at_take, crosses_reference}
+use Rattle.g1_race.specs.{ℕ, div-add-mod', mod-lt, not, eqb, Bool, true, false, List, sym, ap, ◌∙◌, subst, inl, inr, arith, eq-eqb, some, get_elem?, mul-div_cancel_left, and_from, and_parts, cases_Bool, eqb-true, not-false, true≢false, div-mul-add, region_of, Crosses, pair_exact, same_pairs, Shape, IsBegun, IsWholeShape, slot_card, crosses, pairs_up_to, started, shape_of, ended, refs_of, table_of, AreUnset, forgotten, at_take, crosses_reference}
 use Rattle.std.specs.FinSet as fin
 use Rattle.g1_layout.specs.Shape as layout
 use Rattle.g1_race.proofs.Ends.{crosses_apart, recorded_set, region_of_quotient, set_recorded, word_refers}
@@ -48,9 +48,6 @@ module _ (k : Shape) (l : layout.Shape) (laid : k ≡ shape_of l k.members) (sha
   module _ (region : ℕ) (lt : region < k.regions) where
     each : k.cards / k.regions ≡ l.cards
     each = (λ i. cards_is i / regions_is i) ∙ mul-div_cancel_left l.cards (omega (arith, regions_is, lt))
-
-    pub cards_within : region * (k.cards / k.regions) + k.cards / k.regions ≤ k.cards
-    cards_within = subst (λ (n : ℕ). region * n + n ≤ k.cards) (sym each) (omega (arith, mul-le-mul_right l.cards lt, suc-mul region l.cards, ap (λ (r : ℕ). r * l.cards) regions_is, cards_is))
 
     -- no slot of the region refers out of it
     pub closed_words : (words : List ℕ) → ((slot place : ℕ) → Crosses (table_of (ended l k words)) slot place → region_of l slot ≢ region)

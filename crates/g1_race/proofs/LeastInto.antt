@@ -40,13 +40,6 @@ module _ (k : Shape) {words read : List ℕ} (same : read ≡ words) (region fro
       ],
     )
 
-    -- none is on the next one
-    pub none_past : IsLeastOfCard k seen card region None → (p : ℕ) → slot_card k p < card + 1 → Into k words region p → ⊥
-    none_past there p lt x = let here = subst (λ (ws : List ℕ). IsLeastOfCard k ws card region None) (still ∙ same) there in elim (cases_lt (slot_card k p) card) [
-      | inl low ↦ none_until card next.3 p low x
-      | inr high ↦ here p (let e : slot_card k p ≡ card = omega (arith, high, lt) in e) x
-    ]
-
 -- a slot by its card
 pub by_card : (k : Shape) (q card : ℕ) → slot_card k q ≡ card → card * k.size + q % k.size ≡ q
 by_card k q card e = ap (λ (c : ℕ). c * k.size + q % k.size) (sym e) ∙ div-add-mod' q k.size

@@ -1,13 +1,10 @@
 -- What the calls of a pause make of the slots' words.
 use Rattle.std.specs.Prelude.{◌≡◌, ◌≢◌, ◌⊎◌, ◌+◌, ◌*◌, ◌/◌, ◌%◌, ◌<◌, ◌≤◌}
-use Rattle.g1_race.specs.{ℕ, mod-lt, div-add-mod', eqb, List, set, sym, ap, ◌∙◌, subst, inl, inr, arith, eq-eqb, ne_eqb, some, get_elem?, cases_eq, div-mul-add, set_else, set_here, Shape, front, mark_word, mark_apart, false_is, true_is, within, WordsBecome, one_word, same_word, wiped_word, AreMovedAway, word_after, AreRefined, IsDirtied}
+use Rattle.g1_race.specs.{ℕ, mod-lt, div-add-mod', eqb, List, set, sym, ap, ◌∙◌, subst, inl, inr, arith, eq-eqb, ne_eqb, some, get_elem?, cases_eq, div-mul-add, set_else, set_here, Shape, front, mark_word, mark_apart, false_is, true_is, within, WordsBecome, one_word, same_word, wiped_word, AreMovedAway, word_after, IsDirtied}
 use Rattle.g1_race.proofs.FlagWords.{front_at}
 
 pub front_words : (k : Shape) (old new : List ℕ) → front k new ≡ front k old → WordsBecome same_word k old new
 front_words k old new same p n lt at = front_at k old new p same (omega (arith, lt)) ∙ at
-
-pub refined_words : (k : Shape) (old new : List ℕ) (count : ℕ) → AreRefined k old new count → WordsBecome same_word k old new
-refined_words k old new count r p n lt at = r.slots p lt ∙ at
 
 set_words : (k : Shape) (old : List ℕ) (slot word : ℕ) → WordsBecome (one_word slot word) k old (set old slot word)
 set_words k old slot word p n lt at = elim (cases_eq p slot) [
@@ -18,9 +15,6 @@ set_words k old slot word p n lt at = elim (cases_eq p slot) [
 
 pub put_words : (k : Shape) (old : List ℕ) (slot word : ℕ) (new : List ℕ) → new ≡ set old slot word → WordsBecome (one_word slot word) k old new
 put_words k old slot word new e = subst (λ (ws : List ℕ). WordsBecome (one_word slot word) k old ws) (sym e) (set_words k old slot word)
-
-pub unchanged_words : (k : Shape) (old new : List ℕ) → new ≡ old → WordsBecome same_word k old new
-unchanged_words k old new e p n lt at = ap (λ (ws : List ℕ). get_elem? ws p) e ∙ at
 
 -- a slot of another region lies before this one's or behind them
 beside_span : (k : Shape) (r p : ℕ) → p / k.span ≢ r → (p < r * k.span) ⊎ (r * k.span + k.span ≤ p)

@@ -1,6 +1,6 @@
 -- What a race begins with keeps its rule.
 use Rattle.std.specs.Prelude.{◌≡◌, ◌+◌, ◌<◌, ◌≤◌, ◌∷◌}
-use Rattle.g1_race_words.specs.{ℕ, zero, suc, Bool, true, List, [], length, get_or, take, refl, sym, ap, ◌∙◌, subst, inl, inr, ⊎_elim, arith, replicate, length-replicate, bit_at, bit_at-zero, some, some-ne-none, some-injective, get_elem?, Shape, View, MadeDirty, IsBegun, IsWholeShape, HasBit, bit_word, bit_place, slot_card, mark_word, region_at, In, Held, claims_of, pairs_found, IsMarked, IsBlank, Raced, Going, front, pairs_up_to, null_of, started, beginning, start_of, Numbered, weigh, times, claims_at, cleanings_at, sum_at, stored_sum, overwritten_sum, histories_of, held_of, flagged_of, word_count, frozen_seat}
+use Rattle.g1_race_words.specs.{ℕ, zero, suc, Bool, true, List, [], get_or, take, refl, sym, ap, ◌∙◌, subst, inl, inr, ⊎_elim, arith, replicate, length-replicate, bit_at, bit_at-zero, some, some-ne-none, some-injective, get_elem?, Shape, View, MadeDirty, IsBegun, IsWholeShape, HasBit, bit_word, bit_place, slot_card, mark_word, region_at, In, Held, claims_of, pairs_found, IsMarked, IsBlank, Raced, Going, front, pairs_up_to, null_of, started, beginning, start_of, Numbered, weigh, times, claims_at, cleanings_at, sum_at, stored_sum, overwritten_sum, histories_of, held_of, flagged_of, word_count, frozen_seat}
 use Rattle.g1_race_words.proofs.PairBits.{crossing_pair}
 use Rattle.g1_race_words.proofs.Places.{at_read, at_take, at_untake, reads_as}
 use Rattle.g1_race_words.proofs.Listing.{in_set, set_in}

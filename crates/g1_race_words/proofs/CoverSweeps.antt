@@ -1,7 +1,7 @@
 -- A sweeper's steps, and those of seats, keep that every reference between regions is answered for.
 use Rattle.std.specs.Prelude.{◌≡◌, ◌≢◌, ◌⊎◌, ◌+◌, ◌*◌, ◌/◌, ◌%◌, ◌<◌, ◌≤◌, ◌∷◌, ◌++◌}
-use Rattle.g1_race_words.specs.{ℕ, List, [], set, get_or, true, None, refl, sym, ap, subst, inl, inr, arith, div-add-mod', mod-lt, some, ℕ_discrete, get_elem?, Shape, View, slot_card, mark_word, region_at, crosses, In, AnswersFor, IsMarked, Covered, cleaned, pair_at, read, both}
-use Rattle.g1_race_words.proofs.Plain.{in_cond_here, in_left, in_right, read_is, true_is, some_on, some_longer, some_joined}
+use Rattle.g1_race_words.specs.{ℕ, List, [], set, get_or, true, None, sym, ap, subst, inl, inr, arith, div-add-mod', mod-lt, some, ℕ_discrete, get_elem?, Shape, View, slot_card, mark_word, region_at, crosses, In, AnswersFor, IsMarked, Covered, cleaned, pair_at, read, both}
+use Rattle.g1_race_words.proofs.Plain.{in_cond_here, in_left, in_right, read_is, some_on, some_longer, some_joined}
 use Rattle.g1_race_words.proofs.Cover.{covered_moves, Passes, others_pass}
 use Rattle.g1_race_words.proofs.CoverStores.{covered_swapped}
 

@@ -1,5 +1,5 @@
 -- The cards' flags among the words.
-use Rattle.std.specs.Prelude.{◌≡◌, ◌+◌, ◌*◌, ◌/◌, ◌%◌, ◌<◌, ◌≤◌}
+use Rattle.std.specs.Prelude.{◌≡◌, ◌+◌, ◌*◌, ◌/◌, ◌<◌, ◌≤◌}
 use Rattle.g1_race_words.specs.{◌∙◌, ℕ, suc, List, length, set, sym, subst, arith, mul-add-lt, some, some-injective, ℕ_discrete, get_elem?, set_else, set_here, Shape, View, AreFlagged, Flagged, Held, IsFlagged, IsWholeShape, bit_word, flag, flagged_of, mark_word, word_count}
 use Rattle.std.proofs.Math.Nat.{mul-suc}
 use Rattle.g1_race_words.proofs.Plain.{held_same}
@@ -20,12 +20,6 @@ bit_below k x shaped low row = word_in_row k x.1 (x.0 / 64) shaped row (card_in_
 
 pub flag_card : (k : Shape) (c : ℕ) → c < k.cards → c / 8 * 8 < k.cards
 flag_card k c lt = omega arith
-
-pub flag_word : (k : Shape) (c : ℕ) → IsWholeShape k → k.slots + k.cards + k.bits + c / 64 ≡ bit_word k (flag k c)
-flag_word k c shaped = let n : ℕ = k.regions * k.row in let e : k.bits ≡ n = shaped.8 in let goal : k.slots + k.cards + k.bits + c / 64 ≡ k.slots + k.cards + (n + c / 8 * 8 / 64) = omega arith in goal
-
-pub flag_place : (c : ℕ) → c % 64 / 8 * 8 ≡ c / 8 * 8 % 64
-flag_place c = omega arith
 
 pub flag_below : (k : Shape) (c : ℕ) → IsWholeShape k → c < k.cards → bit_word k (flag k c) < word_count k
 flag_below k c shaped lt = bit_below k (flag k c) shaped (flag_card k c lt) (omega arith)

@@ -1,6 +1,6 @@
 -- The pairs whose bits are set, as a list.
 use Rattle.std.specs.Prelude.{◌≡◌, ◌<◌, ◌∷◌, ◌++◌}
-use Rattle.g1_race_words.specs.{ℕ, zero, suc, cond, eqb, List, [], Contains, refl, sym, ap, subst, inl, inr, ⊎_elim, arith, eq-eqb, eqb-true, ne_eqb, cases_eq, slice_index, bit_at, Shape, In, IsPair, HasBit, bit_word, bit_place, pairs_of_card, pairs_up_to}
+use Rattle.g1_race_words.specs.{ℕ, zero, suc, cond, eqb, List, [], Contains, refl, subst, inl, inr, ⊎_elim, arith, eq-eqb, eqb-true, ne_eqb, cases_eq, slice_index, bit_at, Shape, In, IsPair, HasBit, bit_word, bit_place, pairs_of_card, pairs_up_to}
 use Rattle.g1_race_words.proofs.Plain.{in_cond_back, in_left, in_right, in_either, true_is, false_is}
 use Rattle.g1_race_words.proofs.Places.{in_contains, contains_in}
 

@@ -1,7 +1,7 @@
 -- A racer looks for the flag of the card that it owes, sets it, and dirties the card.
 use Rattle.std.specs.Prelude.{◌≡◌, ◌<◌, ◌∷◌}
-use Rattle.g1_race_words.specs.{ℕ, eqb, eqb-true, true, eq-eqb, ne_eqb, List, [], length, set, get_or, Option, Some, None, refl, sym, ap, ◌∙◌, subst, inl, inr, ⊎_elim, arith, length-set, some, ℕ_discrete, get_elem?, bit_at, set_else, Shape, View, Begun, In, Held, flagged_of, mark_word, bit_word, bit_place, flag, IsFlagged, IsWholeShape, HasBit, Flagged, Raced, owed_card, set_flags, spotted, raised, dirtied, Sits}
-use Rattle.g1_race_words.proofs.Plain.{in_one, in_cond_back, held_back, true_is, false_is}
+use Rattle.g1_race_words.specs.{ℕ, eqb, eqb-true, true, List, [], length, set, get_or, Option, Some, refl, sym, ap, ◌∙◌, subst, inl, inr, ⊎_elim, arith, length-set, some, ℕ_discrete, get_elem?, bit_at, set_else, Shape, View, Begun, In, Held, flagged_of, mark_word, bit_word, bit_place, flag, IsFlagged, IsWholeShape, HasBit, Flagged, Raced, owed_card, set_flags, spotted, raised, dirtied, Sits}
+use Rattle.g1_race_words.proofs.Plain.{in_one, in_cond_back, held_back}
 use Rattle.g1_race_words.proofs.PairBits.{with_pair, bit_here, bits_stay, bits_back, same_bits, bit_as}
 use Rattle.g1_race_words.proofs.Keeping.{kept_stays, kept_moves}
 use Rattle.g1_race_words.proofs.Recording.{raced_held}

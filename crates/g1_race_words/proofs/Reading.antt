@@ -1,6 +1,6 @@
 -- A sweeper reads a slot.
 use Rattle.std.specs.Prelude.{◌≡◌, ◌⊎◌, ◌<◌, ◌∷◌}
-use Rattle.g1_race_words.specs.{ℕ, cond, eqb, List, [], length, set, get_or, Bool, true, false, Some, None, refl, sym, ◌∙◌, subst, inl, inr, ⊎_elim, arith, eq-eqb, ne_eqb, some, ℕ_discrete, get_elem?, Shape, View, Begun, BeganInto, slot_card, region_at, crosses, IsCrossing, In, Held, StoreHistory, histories_of, claims_of, cleanings_of, pairs_found, last_to, Bounded, Stored, StoredInto, Recorded, Raced, pair_at, read, Sits}
+use Rattle.g1_race_words.specs.{ℕ, eqb, List, [], length, set, get_or, true, Some, None, refl, sym, ◌∙◌, subst, inl, inr, ⊎_elim, arith, eq-eqb, ne_eqb, some, ℕ_discrete, get_elem?, Shape, View, Begun, BeganInto, slot_card, region_at, crosses, IsCrossing, In, Held, StoreHistory, histories_of, claims_of, cleanings_of, pairs_found, last_to, Bounded, Stored, StoredInto, Recorded, Raced, pair_at, read, Sits}
 use Rattle.g1_race_words.proofs.Crossing.{word_low}
 use Rattle.g1_race_words.proofs.Plain.{in_cond_back, in_either, read_at, true_is, false_is, held_back, held_same}
 use Rattle.g1_race_words.proofs.CoverSweeps.{covered_read}

@@ -1,6 +1,6 @@
 -- A sweeper looks for the bit of the pair that it holds, and sets it.
 use Rattle.std.specs.Prelude.{◌≡◌, ◌⊎◌, ◌<◌, ◌∷◌}
-use Rattle.g1_race_words.specs.{ℕ, cond, eqb, Bool, true, false, List, [], length, set, get_or, refl, sym, ◌∙◌, subst, inl, inr, ⊎_elim, arith, length-set, cases_eq, ne_eqb, some, ℕ_discrete, get_elem?, bit_at, Shape, View, Begun, slot_card, mark_word, flag, In, claims_of, cleanings_of, IsWholeShape, IsPair, HasBit, Kept, Flagged, Raced, bit_word, bit_place, word_count, unset, sought, recorded, Sits}
+use Rattle.g1_race_words.specs.{ℕ, cond, eqb, Bool, true, false, List, [], length, set, get_or, refl, sym, ◌∙◌, subst, inl, inr, ⊎_elim, arith, length-set, cases_eq, ne_eqb, some, get_elem?, bit_at, Shape, View, Begun, slot_card, mark_word, flag, In, claims_of, cleanings_of, IsWholeShape, IsPair, HasBit, Kept, Flagged, Raced, bit_word, bit_place, word_count, unset, sought, recorded, Sits}
 use Rattle.g1_race_words.proofs.Plain.{in_one, held_same, false_is}
 use Rattle.g1_race_words.proofs.PairBits.{card_below, word_below, with_pair, bit_here, bits_stay, bits_back}
 use Rattle.g1_race_words.proofs.Cover.{covered_moves, others_pass}
