@@ -7,7 +7,6 @@ pub mod AnswerLemmas
 pub mod DrainLemmas
 pub mod RanLemmas
 pub mod ScriptedLemmas
-pub mod CrewLemmas
 pub mod CrewScriptLemmas
 pub mod SweptLemmas
 pub mod TakenLemmas

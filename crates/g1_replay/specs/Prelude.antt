@@ -23,7 +23,7 @@ pub use Rattle.std.specs.Iterator.{YieldsFirst}
 pub use Rattle.std.specs.List.{AllZip, cons_option, filter_map, flat_map}
 pub use Rattle.std.specs.Option.{option_or}
 pub use Rattle.std.specs.Prelude.{[], All, Bool, codes, count_by, Err, IfErr, IfNone, IfOk, IfSome}
-pub use Rattle.std.specs.Prelude.{IsNone, IsSome, MatchResult, Ok, OnOk, option_to_list, Result}
+pub use Rattle.std.specs.Prelude.{IsErrAnd, IsNone, IsSome, MatchResult, Ok, OnOk, option_to_list, Result}
 pub use Rattle.std.specs.Prelude.{slice_index, slice_index_or, sum_by, unwrap_or, zero}
 pub use Rattle.std.specs.Vec.Iter.{into_iter_items, into_iter_len}
 pub use Rattle.arrayvec.specs.ArrayVec.{array_vec_len}
