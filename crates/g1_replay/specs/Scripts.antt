@@ -20,13 +20,6 @@ step_for mutator (Store by slot target) =
 step_for mutator (Flush by) = if by == mutator then Some step.Flush else None
 step_for mutator c = None
 
--- The script of the caller of this number: the calls of its mutator, in the order of the trace, or
--- rounds of refinement.
-abbrev pub IsScriptOf : (mutators rounds number : ℕ) → List Command → Script → Type 0
-IsScriptOf mutators rounds number commands (Mutate steps) =
-    (number < mutators) × (steps.items ≡ filter_map (step_for number) commands)
-IsScriptOf mutators rounds number commands (Refine made) = (mutators ≤ number) × (made ≡ rounds)
-
 -- The calls of these commands came behind those of their mutators.
 pub record AreKept {E : Type 0} (steps : E → List Step) (old : List E) (cs : List Command)
     (new : List E) : Type 0 where

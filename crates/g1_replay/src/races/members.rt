@@ -1,13 +1,13 @@
 //! The members of a race: each racer with an end of the queue into which it puts its logs, each
 //! sweeper with one from which it takes them.
 ghost use Rattle.std.specs.Prelude.{◌≡◌, ◌+◌, ◌++◌, ◌∷◌};
-ghost use Rattle.g1_replay.specs.Prelude.{[], All, IfOk, OnOk, sum_by, vec_len, filter_map};
+ghost use Rattle.g1_replay.specs.Prelude.{List, [], All, IfOk, OnOk, sum_by, vec_len};
 ghost use Rattle.g1_replay.specs.Prelude.{sender_rights, taker_rights, IsSenderOf, IsTakerOf};
 ghost use Rattle.g1_replay.specs.Prelude.{null_of, race_shape, racer_start, sweeper_start};
 ghost use Rattle.g1_replay.specs.Prelude.{AreFreshRacers, AreFreshSweepers, HaveBegun};
 ghost use Rattle.g1_replay.specs.Members.{member_rights};
-ghost use Rattle.g1_replay.specs.RaceJobs.{racer_in, sender_in, sweeper_in, taker_in, AllFrom};
-ghost use Rattle.g1_replay.specs.RaceJobs.{IsNewMember};
+ghost use Rattle.g1_replay.specs.RaceJobs.{AllFrom, HasBack, IsNewMember};
+ghost use Rattle.g1_replay.specs.declared.races.desk.Member.{Member};
 
 use crate::races::desk::Member;
 use g1_layout::NoMemory;
@@ -110,8 +110,7 @@ pub(crate) struct Returned {
 impl Returned {
     /// No member is back yet.
     pub(crate) fn new(alloc: Global) -> Returned
-        ensures racing { (result.racers.items ≡ []) × (result.senders.items ≡ []) }
-        ensures sweeping { (result.sweepers.items ≡ []) × (result.takers.items ≡ []) }
+        ensures { HasBack [] result }
     {
         Returned {
             racers: Vec::new(alloc),
@@ -125,16 +124,8 @@ impl Returned {
     ///
     /// Returns `NoMemory` if a growth of a list was refused: the member is given up.
     pub(crate) fn place(&mut self, member: Member) -> Result<(), NoMemory>
-        ensures racers { OnOk result
-            (self.new.racers.items ≡ self.old.racers.items ++ filter_map racer_in (member ∷ [])) }
-        ensures senders { OnOk result
-            (self.new.senders.items
-            ≡ self.old.senders.items ++ filter_map sender_in (member ∷ [])) }
-        ensures sweepers { OnOk result
-            (self.new.sweepers.items
-            ≡ self.old.sweepers.items ++ filter_map sweeper_in (member ∷ [])) }
-        ensures takers { OnOk result
-            (self.new.takers.items ≡ self.old.takers.items ++ filter_map taker_in (member ∷ [])) }
+        ensures { OnOk result ((members : List Member) → HasBack members self.old
+            → HasBack (members ++ member ∷ []) self.new) }
     {
         match member {
             Member::Racing(racer, sender) => {

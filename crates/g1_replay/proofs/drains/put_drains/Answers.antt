@@ -1,6 +1,6 @@
 use Rattle.std.specs.Prelude.{◌≡◌}
 use Rattle.g1_replay.specs.{◌∙◌, ℕ, arith, subst, Ok, err_from_is_err_and, HasDrained}
-use Rattle.g1_replay.proofs.DrainLemmas.{drained_all, drained_more, drained_none, drained_stopped}
+use Rattle.g1_replay.proofs.DrainLemmas.{drained_more, drained_none, drained_stopped}
 use Rattle.g1_replay.proofs.drains.put_drains.Goals as goal
 
 pub loop-number-init : goal.loop-number-init
@@ -15,8 +15,7 @@ returns-in_err-put_drain-clause-drained g c =
 pub returns-clause-drained : goal.returns-clause-drained
 returns-clause-drained g c =
     let all : c.loop-number.number ≡ c.args.layout.regions = omega (arith, c.loop-number-test.false, c.counts-regions.ensures.regions, c.loop-number.invariant.0) in
-    let done = drained_all g.D.Drains.did g.D.Drains.full g.met.D.Drains.none g.met.D.Drains.then _ _ _ _ _ c.loop-number.invariant.2 in
-    subst (λ (k : ℕ). HasDrained g.D.Drains.did g.D.Drains.full k c.args.left.now c.loop-number.left (g.W.Write.contents c.args.output.now) (g.W.Write.contents c.loop-number.output) (Ok tt)) all done
+    subst (λ (k : ℕ). HasDrained g.D.Drains.did g.D.Drains.full k c.args.left.now c.loop-number.left (g.W.Write.contents c.args.output.now) (g.W.Write.contents c.loop-number.output) (Ok tt)) all c.loop-number.invariant.2
 
 pub loop-number-preserved : goal.loop-number-preserved
 loop-number-preserved g c =

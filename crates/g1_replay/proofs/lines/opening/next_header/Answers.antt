@@ -1,5 +1,5 @@
-use Rattle.g1_replay.specs.{err_from_is_err_and}
-use Rattle.g1_replay.proofs.ReadingLemmas.{line_stopped, no_header, header_read, header_faulty}
+use Rattle.g1_replay.specs.{[], refl, None, err_from_is_err_and}
+use Rattle.g1_replay.proofs.ReadingLemmas.{line_stopped, no_header, line_read, line_faulty}
 use Rattle.g1_replay.proofs.lines.opening.next_header.Goals as goal
 
 pub returns-in_err-next_line-clause-read : goal.returns-in_err-next_line-clause-read
@@ -17,10 +17,10 @@ returns-in_err-heap-clause-read g c =
     let p = err_from_is_err_and c.from_residual-in_err-heap.result c.from_residual-in_err-heap.ensures.1 in
     let line = rw c.if-not-branch.false at c.in_ok-next_line.ensures.line in
     let read = rw c.as_slice.ensures.value at c.in_err-heap.ensures in
-    rw (p.1, p.2) (λ d. header_faulty d _ _ _ _ _ line read)
+    rw (p.1, p.2) (λ d. line_faulty d None _ _ _ _ _ line (rw (← read) refl))
 
 pub returns-clause-read : goal.returns-clause-read
 returns-clause-read g c =
     let line = rw c.if-not-branch.false at c.in_ok-next_line.ensures.line in
     let read = rw c.as_slice.ensures.value at c.in_ok-heap.ensures in
-    λ d. header_read d _ _ _ _ _ line read
+    λ d. line_read d None _ _ _ _ _ [] line (rw (← read) refl)

@@ -1,7 +1,8 @@
 use Rattle.std.specs.Prelude.{◌≡◌, ◌+◌, ◌++◌}
 use Rattle.g1_replay.specs.{ℕ, suc, map, ap, ◌∙◌, sym, subst, arith, All, into_iter_items, All-nil, All-push, All-same, slot_count, race_layout, ScriptFits, Member, is_racer, AllFrom, IsNewMember, IsRaceJob}
 use Rattle.g1_race.specs.declared.race.Race.{Race}
-use Rattle.g1_replay.proofs.{all_from_next, all_from_rest, all_moved, list_moves}
+use Rattle.g1_steps.proofs.WorkerLemmas.{started_more}
+use Rattle.g1_replay.proofs.{all_from_next, all_from_rest, all_moved}
 use Rattle.g1_replay.proofs.RanRaceLemmas.{race_script_fits}
 use Rattle.g1_replay.proofs.races.jobs.jobs_of.Goals as goal
 
@@ -23,7 +24,7 @@ loop-member-preserved g c =
       len = omega (arith, was.len, steps.1, c.push_reserved.ensures.len);
       number = omega (arith, was.number, c.push_reserved.ensures.len);
       room = omega (arith, was.room, c.push_reserved.ensures.capacity);
-      same = list_moves (λ job. job.desk.member) _ _ _ _ _ _ _ c.push_reserved.ensures.items steps.0 c.new.ensures.member was.same;
+      same = started_more (λ job. job.desk.member) _ _ _ _ _ _ _ was.same steps.0 c.push_reserved.ensures.items c.new.ensures.member;
       rest = subst (λ (n : ℕ). AllFrom (IsNewMember race line mutators) n (into_iter_items c.next.new.self)) next first.1;
       jobs = all_from_next (λ i job. IsRaceJob race line mutators rounds commands i job.desk.member job.script) _ _ k _ c.push_reserved.ensures.items (omega (arith, was.number, c.loop-member.jobs.ok.0)) was.jobs
           (subst (λ (m : Member). IsRaceJob race line mutators rounds commands k m script) (sym c.new.ensures.member) (record { new = first.0; script = c.in_ok-script.ensures }));
