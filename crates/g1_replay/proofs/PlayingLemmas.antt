@@ -102,10 +102,7 @@ take_then n m xs =
 -- lines at the front of what is shown: none, and then more
 pub front_none : {S : Type 0} (did : S → List Command → List ℕ → S → Type 0) (full : S → Type 0) (d : Dialect) (l : Shape) (n : ℕ) (s : S) (shown : List ℕ) (out : Option (List ℕ)) → did s [] [] s
     → FollowsFront did full d l n n s s (take 0 shown) out out (Ok true)
-front_none did full d l n s shown out none = λ rd rd' moved. line_passed did full d l n n s rd rd' out true none (reads_nothing rd rd' moved)
-  where
-    reads_nothing : (rd rd' : Option (List ℕ)) → Consumes rd rd' (take 0 shown) → Reads d (Some l) n n rd rd' (Some l) [] (Ok true)
-    reads_nothing rd rd' moved = record { lines = []; rest = []; consumed = moved; passed = λ x. refl; met = refl }
+front_none did full d l n s shown out none = λ rd rd' moved. line_passed did full d l n n s rd rd' out true none (record { lines = []; rest = []; consumed = moved; passed = λ x. refl; met = refl })
 
 pub front_then : {S : Type 0} (did : S → List Command → List ℕ → S → Type 0) (full : S → Type 0)
     (then : (s t u : S) (cs ds : List Command) (xs ys : List ℕ) → did s cs xs t → did t ds ys u → did s (cs ++ ds) (xs ++ ys) u)

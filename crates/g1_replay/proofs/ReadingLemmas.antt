@@ -70,11 +70,7 @@ command_read d l n rd rd' line o h e = line_read d (Some l) (Some l) n rd rd' li
 
 -- a line has a byte at least, its line feed
 pub takes_some : (n : ℕ) (bytes line : List ℕ) → take n bytes ≡ line ++ 10 ∷ [] → 0 < n
-takes_some zero bytes line e = absurd (no_feed line e)
-  where
-    no_feed : (line : List ℕ) → [] ≡ line ++ 10 ∷ [] → ⊥
-    no_feed [] e = cc
-    no_feed (x ∷ line) e = cc
+takes_some zero bytes line e = let some = ap length e ∙ length-append line (10 ∷ []) in absurd (omega arith)
 takes_some (suc n) bytes line e = omega arith
 
 -- a line at the front of what a reader shows

@@ -9,10 +9,6 @@ use Rattle.g1_replay.proofs.ReadingLemmas.{reads_then}
 abbrev pub Lists : Listing → List Command → List ℕ → Listing → Type 0
 Lists s cs text t = (t.commands.items ≡ s.commands.items ++ cs) × (text ≡ [])
 
--- its book is never full
-abbrev pub Never : Listing → Type 0
-Never s = ⊥
-
 -- what is written where reading was stopped
 abbrev WrittenAt : Option (List ℕ) → Option (List ℕ) → Stop → Type 0
 WrittenAt out out' stop = Puts out out' (written_by {V = Bool} (Err stop)) []
@@ -68,9 +64,6 @@ pub listed : (d : Dialect) (n n' : ℕ) (l : Shape) (old new : Listing) (rd rd' 
 listed d n n' l old new rd rd' none r =
     let kept : r.0 ≡ new.commands.items = sym (r.2.0 ∙ ap (λ (cs : List Command). cs ++ r.0) none) in
     subst (λ (cs : List Command). Reads d None n n' rd rd' (Some l) cs (Ok false)) kept r.1
-
-pub lists_silent : (s t : Listing) (cs : List Command) (text : List ℕ) → Lists s cs text t → text ≡ []
-lists_silent s t cs text h = h.1
 
 puts_silent : {V E : Type 0} (a b : Option (List ℕ)) (r : Result V E) → Appends a b [] → Puts a b r []
 puts_silent a b (Ok v) w = w

@@ -1,7 +1,7 @@
 -- The calls that each command of a trace makes, and the line that is printed of them.
 use Rattle.std.specs.Prelude.{◌≡◌, ◌≤◌, ◌⊎◌, ◌||◌, ◌∷◌, ◌++◌, if◌then◌else◌}
-use Rattle.g1_replay.specs.Prelude.{ℕ, Bool, true, false, List, [], All, sum_by, length, Kind}
-use Rattle.g1_replay.specs.Prelude.{Logged, Fill, No, Full, Helped, Entry, Reply, Settings}
+use Rattle.g1_replay.specs.Prelude.{ℕ, Bool, true, false, List, [], All, flat_map, sum_by, length}
+use Rattle.g1_replay.specs.Prelude.{Kind, Logged, Fill, No, Full, Helped, Entry, Reply, Settings}
 use Rattle.g1_replay.specs.Prelude.{round_size, Command, stored_line, flushed_line, refined_line}
 use Rattle.g1_replay.specs.Prelude.{worked_line, call_line, FlushReply}
 use Rattle.g1_core.specs.declared.entry.Call.{Call}
@@ -184,8 +184,7 @@ AreSetBy s (c ∷ commands) [] = Unit {0}
 AreSetBy s (c ∷ commands) (p ∷ pieces) = IsSetBy s c p.entries × AreSetBy s commands pieces
 
 abbrev pub entries_of : List Piece → List Entry
-entries_of [] = []
-entries_of (p ∷ pieces) = p.entries ++ entries_of pieces
+entries_of pieces = flat_map (λ p. p.entries) pieces
 
 -- one line a command
 abbrev pub lines_of : List Command → List Piece → List ℕ

@@ -1,7 +1,7 @@
 -- What a race writes: how many stores were made, and what the drains that follow answer.
 use Rattle.std.specs.Prelude.{◌≡◌, ◌≢◌, ◌⊎◌, ◌<◌, ◌==◌, ◌&&◌, if◌then◌else◌, ◌∷◌, ◌++◌}
 use Rattle.g1_replay.specs.Prelude.{ℕ, List, [], Bool, true, false, Result, Ok, Err, Option, Some}
-use Rattle.g1_replay.specs.Prelude.{None, Contains, codes, count_by, length, slice_index_or}
+use Rattle.g1_replay.specs.Prelude.{None, Contains, codes, flat_map, count_by, length, slice_index_or}
 use Rattle.g1_replay.specs.Prelude.{option_or, Shape, slot_count, card_of, region_of}
 use Rattle.g1_replay.specs.Prelude.{region_of_card, Table, Holds, Drained, Cards, Short, Command}
 use Rattle.g1_replay.specs.Prelude.{Drain, Store, Call, drained_line, stores_text}
@@ -72,8 +72,7 @@ drain_text (Cards cards refined) = drained_line cards
 drain_text (Short refined) = codes "drained short\n"
 
 abbrev pub drained_text : List Drained → List ℕ
-drained_text [] = []
-drained_text (answer ∷ answers) = drain_text answer ++ drained_text answers
+drained_text answers = flat_map drain_text answers
 
 -- The race left these references, and the drains of the first `drained` regions gave these answers.
 pub record HasRaced (l : Shape) (mutators : ℕ) (commands : List Command) (drained : ℕ)
