@@ -1,6 +1,6 @@
 -- The calls of a command, and the line of what they answer.
 use Rattle.std.specs.Prelude.{◌||◌, if◌then◌else◌, ◌∷◌, ◌≡◌, ◌≢◌, ◌≤◌, ◌⊎◌}
-use Rattle.g1_replay.specs.{ap, sum_by, ◌∙◌, flat_map, All-head, All-tail, Kind, Logged, Fill, No, Entry, IsOwnFill, IsRefinementBy, taken_in, hot_in, skipped_in, is_any_short, ℕ, List, [], Option, Some, None, true, false, inl, inr, refl, subst, sym, length, map, arith, Bool, Result, Ok, Err, IsSome, All, All-nil, All-cons, length-map, Appends, Full, Helped, StoreReply, RefineReply, Reply, store_entry, refine_entry, State, FlushReply, Refusal, History, CallMade, Stored, Refined, AreCalls, Grows, IsBookCall, Help, IsStored, help_calls, store_answer, flush_answer, nothing_flushed, filled, called, IsRound, Turn, round_calls, replies_of, round_size, Command, AppendsFront, store_text, refine_text, work_text, call_line, Stop, WriteFailed, played_one, HasPlayed, IsCallRefused, IsDone, IsBookFull, Does, stop_of, flush_text, plain_piece, IsOfBuffer, IsOfNone, IsLineOf}
+use Rattle.g1_replay.specs.{ap, sum_by, ◌∙◌, flat_map, All-head, All-tail, Kind, Logged, Fill, No, Entry, IsOwnFill, IsRefinementBy, counts_in, is_any_short, ℕ, List, [], Option, Some, None, true, false, inl, inr, refl, subst, sym, length, map, arith, Bool, Result, Ok, Err, IsSome, All, All-nil, All-cons, length-map, Appends, Full, Helped, StoreReply, RefineReply, Reply, store_entry, refine_entry, State, FlushReply, Refusal, History, CallMade, Stored, Refined, AreCalls, Grows, IsBookCall, Help, IsStored, help_calls, store_answer, flush_answer, nothing_flushed, filled, called, IsRound, Turn, round_calls, replies_of, round_size, Command, AppendsFront, store_text, refine_text, work_text, call_line, Stop, WriteFailed, played_one, HasPlayed, IsCallRefused, IsDone, IsBookFull, Does, stop_of, flush_text, plain_piece, IsOfBuffer, IsOfNone, IsLineOf}
 use Rattle.g1_core.specs.declared.entry.Call.{Call}
 use Rattle.g1_core.specs.Refinement.{IsRefined}
 use Rattle.g1_log.specs.declared.parcel.Parcel.{Parcel}
@@ -46,11 +46,11 @@ work_says : (replies : List RefineReply) (r : RefineReply) → r.taken ≡ sum_b
     → r.skipped ≡ sum_by (λ (one : RefineReply). one.skipped) replies → (r.short ≡ false → All (λ (one : RefineReply). one.short ≡ false) replies) → All Takes replies
     → IsLineOf command.Work (record { entries = map (refine_entry 0) replies; shown = record { cards = 0; left = r.left; refused = r.short } }) (work_text r)
 work_says replies r taken refined hot skipped whole takes =
-    let a : r.taken ≡ sum_by (λ (e : Entry). taken_in e.reply) (map (refine_entry 0) replies) = taken ∙ sym (sum_by-map (λ (e : Entry). taken_in e.reply) (refine_entry 0) replies) in
+    let a : r.taken ≡ sum_by (λ (e : Entry). (counts_in e.reply).0) (map (refine_entry 0) replies) = taken ∙ sym (sum_by-map (λ (e : Entry). (counts_in e.reply).0) (refine_entry 0) replies) in
     let b : length r.refined ≡ sum_by (λ (e : Entry). length e.refined) (map (refine_entry 0) replies) =
     ap (λ l. length l) refined ∙ length-flat_map (λ (one : RefineReply). one.refined) replies ∙ sym (sum_by-map (λ (e : Entry). length e.refined) (refine_entry 0) replies) in
-    let d : r.hot ≡ sum_by (λ (e : Entry). hot_in e.reply) (map (refine_entry 0) replies) = hot ∙ sym (sum_by-map (λ (e : Entry). hot_in e.reply) (refine_entry 0) replies) in
-    let s : r.skipped ≡ sum_by (λ (e : Entry). skipped_in e.reply) (map (refine_entry 0) replies) = skipped ∙ sym (sum_by-map (λ (e : Entry). skipped_in e.reply) (refine_entry 0) replies) in
+    let d : r.hot ≡ sum_by (λ (e : Entry). (counts_in e.reply).1) (map (refine_entry 0) replies) = hot ∙ sym (sum_by-map (λ (e : Entry). (counts_in e.reply).1) (refine_entry 0) replies) in
+    let s : r.skipped ≡ sum_by (λ (e : Entry). (counts_in e.reply).2) (map (refine_entry 0) replies) = skipped ∙ sym (sum_by-map (λ (e : Entry). (counts_in e.reply).2) (refine_entry 0) replies) in
     let f : r.short ≡ is_any_short (map (refine_entry 0) replies) || r.short = short_in_all replies r.short whole in
     record { piece = are_refinements replies takes; line = cc }
 

@@ -1,6 +1,7 @@
 -- Scripts of a crew and a race: they fit the heap that their commands are of, and are kept as their trace is read.
 use Rattle.std.specs.Prelude.{◌≡◌, ◌≢◌, ◌==◌, ◌<◌, ◌≤◌, ◌+◌, ◌∷◌, ◌++◌, ◌-◌, if◌then◌else◌}
 use Rattle.g1_replay.specs.{false, take, IfSome, take_more, filter_map-append, ℕ, List, [], suc, add-one, add-zero, length, get_or, set, drop, drop-cons, refl, sym, subst, ap, ◌∙◌, append-nil, inl, inr, Option, Some, None, true, nat_lt, Bool, arith, rules, All, unwrap_or, filter_map, cons_option, cases_Bool, eq-eqb, eqb-true, ne_eqb, false≢true, get_or-set_same, get_or-set_other, length-set, length-drop, Shape, slot_count, StepFits, ScriptFits, Step, Script, Mutate, Refine, Command, Store, IsCommandOf, AllFrom, AreKept, IsScriptAt, asked_in, own_step, step_for}
+use Rattle.std.proofs.lemmas.List.{nil_from_length}
 use Rattle.g1_steps.specs.declared.crew.desk.Step.TheVariants as step
 use Rattle.g1_trace.specs.declared.command.Command.TheVariants.{Flush}
 use Rattle.g1_replay.specs.declared.crews.listing.Scripts.{Scripts}
@@ -69,14 +70,10 @@ module _ {E : Type 0} (steps : E → List Step) where
 
 -- what is left of a list from a place on
 module _ {E : Type 0} where
-  no_item : (xs : List E) → length xs ≡ 0 → xs ≡ []
-  no_item [] h = refl
-  no_item (x ∷ xs) h = absurd (omega arith)
-
   pub none_left : (k : ℕ) (all now : List E) → now ≡ drop k all → length now ≡ 0 → (length all ≤ k) × (now ≡ drop (k + 1) all)
   none_left k all now e none =
       let long : length all - k ≡ 0 = sym (length-drop k all) ∙ ap length (sym e) ∙ none in
-      (omega arith, no_item now none ∙ sym (no_item (drop (k + 1) all) (length-drop (k + 1) all ∙ omega arith)))
+      (omega arith, nil_from_length now none ∙ sym (nil_from_length (drop (k + 1) all) (length-drop (k + 1) all ∙ omega arith)))
 
   pub some_left : (k : ℕ) (all now rest : List E) (item : E) → now ≡ drop k all → 0 < length now → item ≡ get_or now 0 item → rest ≡ drop 1 now
       → (k < length all) × ((d : E) → get_or all k d ≡ item) × (rest ≡ drop (k + 1) all)

@@ -1,6 +1,7 @@
 -- Lists whose items fit their places, and lists of members, by kinds.
 use Rattle.std.specs.Prelude.{◌≡◌, ◌+◌, ◌∷◌, ◌++◌}
 use Rattle.g1_replay.specs.{Some, None, IfSome, cons_option, ℕ, suc, List, [], length, map, ap, sym, subst, ◌∙◌, refl, arith, append_assoc, All, Option, append-nil, sum_by, filter_map, filter_map-append, All-nil, All-cons, All-head, All-tail, sum_by-cons, sum_by_push, Line, sender_rights, taker_rights, IsSenderOf, IsTakerOf, null_of, race_id, racer_race, racer_start, sweeper_race, sweeper_start, Member, Racing, Sweeping, IsMemberOf, member_rights, AllFrom, racer_in, sender_in, sweeper_in, taker_in}
+use Rattle.std.proofs.lemmas.List.{nil_from_length}
 use Rattle.g1_race.specs.declared.race.Race.{Race}
 
 module _ {A : Type 0} (P : ℕ → A → Type 0) where
@@ -17,8 +18,7 @@ module _ {A : Type 0} (P : ℕ → A → Type 0) where
 
 -- no item is left
 pub all_moved : {B : Type 0} (old rest all : List B) → length rest ≡ 0 → old ++ rest ≡ all → old ≡ all
-all_moved old [] all e was = sym (append-nil old) ∙ was
-all_moved old (y ∷ rest) all e was = absurd (omega (arith, e))
+all_moved old rest all e was = sym (append-nil old) ∙ ap (λ l. old ++ l) (sym (nil_from_length rest e)) ∙ was
 
 -- one member more is back
 pub back_more : {B : Type 0} (kind : Member → Option B) (old new one : List B) (members : List Member) (m : Member) → old ≡ filter_map kind members → new ≡ old ++ one → filter_map kind (m ∷ []) ≡ one → new ≡ filter_map kind (members ++ m ∷ [])

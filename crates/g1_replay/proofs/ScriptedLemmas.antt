@@ -1,6 +1,6 @@
 -- A trace that is read to its end before its scripts are run: how it is read, what that comes to, and the whole output where it has a fault.
 use Rattle.std.specs.Prelude.{◌≡◌, ◌++◌, ◌⊎◌}
-use Rattle.g1_replay.specs.{ℕ, List, [], refl, sym, subst, ap, ◌∙◌, Option, Some, None, inl, inr, ⊎_elim, true, false, Bool, Result, Ok, Err, Appends, Consumes-nil, Shape, Command, Dialect, TraceFault, Puts, puts_then, End, Listing, Stop, Fault, NoMemory, WriteFailed, Follows, Writes, written_by, WritesSome, IsEndWritten, ending_line, IsReadStop, Reads, IsRunEnd, IsScriptReplayed, Outcome, WasUnread, IfSome}
+use Rattle.g1_replay.specs.{ℕ, List, [], refl, sym, subst, ap, ◌∙◌, Option, Some, None, inl, inr, ⊎_elim, true, false, Bool, Result, Ok, Err, Appends, Consumes-nil, Shape, Command, Dialect, TraceFault, Puts, puts_none, puts_then, End, Listing, Stop, Fault, NoMemory, WriteFailed, Follows, Writes, written_by, WritesSome, IsEndWritten, ending_line, IsReadStop, Reads, IsRunEnd, IsScriptReplayed, Outcome, WasUnread, IfSome}
 use Rattle.g1_replay.specs.Scripted.{Scripted}
 use Rattle.g1_replay.proofs.EndLemmas.{ReadsAs, all_done, replayed}
 use Rattle.g1_replay.proofs.ReadingLemmas.{reads_then}
@@ -9,11 +9,8 @@ use Rattle.g1_replay.proofs.ReadingLemmas.{reads_then}
 abbrev pub Lists : Listing → List Command → List ℕ → Listing → Type 0
 Lists s cs text t = (t.commands.items ≡ s.commands.items ++ cs) × (text ≡ [])
 
--- what is written where reading was stopped
-abbrev WrittenAt : Option (List ℕ) → Option (List ℕ) → Stop → Type 0
-WrittenAt out out' stop = Puts out out' (written_by {V = Bool} (Err stop)) []
-
-stop_silent : (stop : Stop) (out out' : Option (List ℕ)) → IsReadStop stop ⊎ (stop ≡ NoMemory) → WrittenAt out out' stop → Appends out out' []
+-- nothing is written where reading was stopped
+stop_silent : (stop : Stop) (out out' : Option (List ℕ)) → IsReadStop stop ⊎ (stop ≡ NoMemory) → Puts out out' (written_by {V = Bool} (Err stop)) [] → Appends out out' []
 stop_silent WriteFailed out out' (inl h) w = absurd h
 stop_silent WriteFailed out out' (inr e) w = cc
 stop_silent (Fault f) out out' h w = w
@@ -65,15 +62,11 @@ listed d n n' l old new rd rd' none r =
     let kept : r.0 ≡ new.commands.items = sym (r.2.0 ∙ ap (λ (cs : List Command). cs ++ r.0) none) in
     subst (λ (cs : List Command). Reads d None n n' rd rd' (Some l) cs (Ok false)) kept r.1
 
-puts_silent : {V E : Type 0} (a b : Option (List ℕ)) (r : Result V E) → Appends a b [] → Puts a b r []
-puts_silent a b (Ok v) w = w
-puts_silent a b (Err v) w = ([], [], w, refl)
-
 -- a trace that was not read to its end
 pub scripts_unread : (Ran : Outcome) (d : Dialect) (n n' : ℕ) (rd rd' out out' : Option (List ℕ)) (stop : Stop) → WasUnread d n n' rd rd' (Err stop) [] → Appends out out' []
     → (text : List ℕ) × Scripted Ran d n n' rd rd' (Err stop) text × Writes {V = Unit {0}} out out' (Err stop) text
 scripts_unread Ran d n n' rd rd' out out' stop s w =
-    ([], inl s, puts_silent out out' (written_by {V = Unit {0}} (Err stop)) w)
+    ([], inl s, puts_then out out' out' (written_by {V = Unit {0}} (Err stop)) [] [] w (puts_none out' (written_by {V = Unit {0}} (Err stop))))
 
 -- a trace that was read to its end, and what its scripts came to
 pub scripts_run : (Ran : Outcome) (d : Dialect) (n n' : ℕ) (l : Shape) (cs : List Command) (rd rd' out mid_out out' : Option (List ℕ)) (r : Result (Unit {0}) Stop) → Reads d None n n' rd rd' (Some l) cs (Ok false) → Appends out mid_out []

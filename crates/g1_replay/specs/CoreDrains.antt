@@ -1,7 +1,8 @@
 -- Drains of a core, one after another.
 use Rattle.std.specs.Prelude.{◌≡◌, ◌∷◌, ◌++◌}
-use Rattle.g1_replay.specs.Prelude.{ℕ, List, [], refl, sym, ap, ◌∙◌, subst, flat_map-append, Drained}
-use Rattle.g1_replay.specs.Prelude.{drain_entry, Machine, IsStep, Table, Command, Drain, Call}
+use Rattle.g1_replay.specs.Prelude.{ℕ, List, [], refl, sym, ap, ◌∙◌, subst, flat_map-append}
+use Rattle.g1_replay.specs.Prelude.{Drained, drain_entry, Machine, IsStep, Table, Command, Drain}
+use Rattle.g1_replay.specs.Prelude.{Call}
 use Rattle.g1_replay.specs.Race.{drain_text, drained_text}
 
 -- from one table to another just these drains were made, and they answered so

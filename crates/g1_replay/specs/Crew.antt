@@ -1,8 +1,7 @@
 -- What a crew writes: how many stores its run has, and the drains that end it.
 use Rattle.std.specs.Prelude.{◌≡◌, ◌≢◌, ◌≤◌, ◌⊎◌, ◌++◌}
-use Rattle.g1_replay.specs.Prelude.{ℕ, List, [], Result, Ok, Err, length, count_by}
-use Rattle.g1_replay.specs.Prelude.{Shape, opening, Entry, IsPermitted, is_store, Command}
-use Rattle.g1_replay.specs.Prelude.{stores_text}
+use Rattle.g1_replay.specs.Prelude.{ℕ, List, [], Result, Ok, Err, length, count_by, Shape, opening}
+use Rattle.g1_replay.specs.Prelude.{Entry, IsPermitted, is_store, Command, stores_text}
 use Rattle.g1_replay.specs.declared.stop.Stop.{Stop}
 use Rattle.g1_replay.specs.declared.stop.Stop.TheVariants.{BookFull, NoThread}
 use Rattle.g1_replay.specs.Drains.{drains}

@@ -1,8 +1,8 @@
 -- Pieces behind pieces, and plays that follow each other.
 use Rattle.std.specs.Prelude.{◌≡◌, ◌∷◌, ◌++◌}
 use Rattle.g1_replay.specs.Prelude.{ℕ, List, [], refl, sym, ◌∙◌, ap, subst, append_assoc}
-use Rattle.g1_replay.specs.Prelude.{append-nil, flat_map-append, Settings, Entry, History, Terms, layout_in}
-use Rattle.g1_replay.specs.Prelude.{Grows, grows_none, grows_then, Command}
+use Rattle.g1_replay.specs.Prelude.{append-nil, flat_map-append, Settings, Entry, History, Terms}
+use Rattle.g1_replay.specs.Prelude.{layout_in, Grows, grows_none, grows_then, Command}
 use Rattle.g1_replay.specs.Playing.{HasPlayed}
 use Rattle.g1_replay.specs.Pieces.{Piece, IsPieceOf, IsSetBy, AreSetBy, Walks, line_of, lines_of}
 use Rattle.g1_replay.specs.Pieces.{entries_of}

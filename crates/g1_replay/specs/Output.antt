@@ -78,6 +78,14 @@ end_of (Err NoThread) = Stopped
 end_of (Err ReadFailed) = EndReadFailed
 end_of (Err WriteFailed) = EndWriteFailed
 
+-- the exit status of each end
+abbrev pub exit_status : End → ℕ
+exit_status Whole = 0
+exit_status Refused = 2
+exit_status Stopped = 3
+exit_status EndReadFailed = 4
+exit_status EndWriteFailed = 5
+
 -- the end, and what was written of the text with its line
 abbrev pub IsEndWritten : Option (List ℕ) → Option (List ℕ) → Result (Unit {0}) Stop → List ℕ → End
     → Type 0

@@ -1,8 +1,8 @@
 -- What comes of a trace that is read to its end before its scripts are run.
 use Rattle.std.specs.Prelude.{◌≡◌, ◌⊎◌, ◌++◌}
-use Rattle.g1_replay.specs.Prelude.{ℕ, List, [], false, Result, Ok, Option, Some, None}
-use Rattle.g1_replay.specs.Prelude.{IfSome, IfErr, IsErrAnd, refl, sym, ap, ◌∙◌, subst}
-use Rattle.g1_replay.specs.Prelude.{append-nil, append_assoc, Shape, Command, Dialect}
+use Rattle.g1_replay.specs.Prelude.{ℕ, List, [], false, Result, Ok, Option, Some, None, IfSome}
+use Rattle.g1_replay.specs.Prelude.{IfErr, IsErrAnd, refl, sym, ap, ◌∙◌, subst, append-nil}
+use Rattle.g1_replay.specs.Prelude.{append_assoc, Shape, Command, Dialect}
 use Rattle.g1_replay.specs.declared.end.End.{End}
 use Rattle.g1_replay.specs.declared.stop.Stop.{Stop}
 use Rattle.g1_replay.specs.declared.stop.Stop.TheVariants.{NoMemory, NoThread}

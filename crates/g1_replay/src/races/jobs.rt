@@ -1,9 +1,9 @@
 //! The jobs of a race, and the table that they leave.
 ghost use Rattle.std.specs.Prelude.{◌≡◌, ◌≤◌, ◌+◌, ◌<◌};
-ghost use Rattle.g1_replay.specs.{All, IfErr, IfOk, OnOk, None, map, vec_len};
-ghost use Rattle.g1_replay.specs.{slot_count, race_layout, ScriptFits, IsCommandOf, is_racer};
-ghost use Rattle.g1_replay.specs.{AllFrom, HasBack, IsNewMember, IsRaceJob, IsRaceScript};
-ghost use Rattle.g1_replay.specs.{IsTableLeftBy, IsUnstarted, first_refusal};
+ghost use Rattle.g1_replay.specs.{All, IfErr, IfOk, OnOk, None, map, vec_len, slot_count};
+ghost use Rattle.g1_replay.specs.{race_layout, ScriptFits, IsCommandOf, is_racer, AllFrom, HasBack};
+ghost use Rattle.g1_replay.specs.{IsNewMember, IsRaceJob, IsRaceScript, IsTableLeftBy, IsUnstarted};
+ghost use Rattle.g1_replay.specs.{first_refusal};
 
 use crate::races::desk::{Member, RaceDesk};
 use crate::races::members::{Returned, members_of};
