@@ -32,7 +32,7 @@ asked_fits l m c a h e = cc
 
 -- what one command asks of a mutator
 pub asks_one : (k : ℕ) (c : Command) (o : Option Step) → step_for k c ≡ o → filter_map (step_for k) (c ∷ []) ≡ cons_option o []
-asks_one k c o e = ap (λ (o : Option Step). cons_option o []) e
+asks_one k c o e = ap (λ (asked : Option Step). cons_option asked []) e
 
 -- an item within a list is the same whatever stands for one outside
 same_item : {E : Type 0} (xs : List E) (i : ℕ) (d e : E) → i < length xs → get_or xs i d ≡ get_or xs i e

@@ -1,4 +1,4 @@
--- A trace that is read to its end before its scripts are run: how it is read, what that comes to, and the whole output where it has a fault.
+-- A trace that is read to its end before its scripts are run: how it is read, what that comes to, and its whole output.
 use Rattle.std.specs.Prelude.{◌≡◌, ◌++◌, ◌⊎◌}
 use Rattle.g1_replay.specs.{ℕ, List, [], refl, sym, subst, ap, ◌∙◌, Option, Some, None, inl, inr, ⊎_elim, true, false, Bool, Result, Ok, Err, Appends, Consumes-nil, Shape, Command, Dialect, TraceFault, Puts, puts_none, puts_then, End, Listing, Stop, Fault, NoMemory, WriteFailed, Follows, Writes, written_by, WritesSome, IsEndWritten, ending_line, IsReadStop, Reads, IsRunEnd, IsScriptReplayed, Outcome, WasUnread, IfSome}
 use Rattle.g1_replay.specs.Scripted.{Scripted}
