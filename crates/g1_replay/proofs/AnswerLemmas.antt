@@ -1,6 +1,6 @@
 -- The calls of a command, and the line of what they answer.
 use Rattle.std.specs.Prelude.{◌||◌, if◌then◌else◌, ◌∷◌, ◌≡◌, ◌≢◌, ◌≤◌, ◌⊎◌}
-use Rattle.g1_replay.specs.{ap, sum_by, ◌∙◌, flat_map, All-head, All-tail, Kind, Logged, Fill, No, Entry, worked_line, IsOwnFill, IsRefinementBy, taken_in, hot_in, skipped_in, is_any_short, ℕ, List, [], Option, Some, None, true, false, inl, inr, refl, subst, sym, length, map, arith, Bool, Result, Ok, Err, IsSome, All, All-nil, All-cons, length-map, Appends, Full, Helped, StoreReply, RefineReply, Reply, store_entry, refine_entry, State, FlushReply, Refusal, History, CallMade, Stored, Refined, AreCalls, Grows, IsBookCall, Help, IsStored, help_calls, store_answer, flush_answer, nothing_flushed, filled, called, IsRound, Turn, round_calls, replies_of, round_size, Command, AppendsFront, store_text, refine_text, work_text, call_line, Stop, WriteFailed, played_one, HasPlayed, IsCallRefused, IsBookFull, Does, stop_of, flush_text, Piece, plain_piece, IsOfBuffer, IsOfNone, IsLineOf, IsSetBy}
+use Rattle.g1_replay.specs.{ap, sum_by, ◌∙◌, flat_map, All-head, All-tail, Kind, Logged, Fill, No, Entry, IsOwnFill, IsRefinementBy, counts_in, is_any_short, ℕ, List, [], Option, Some, None, true, false, inl, inr, refl, subst, sym, length, map, arith, Bool, Result, Ok, Err, IsSome, All, All-nil, All-cons, length-map, Appends, Full, Helped, StoreReply, RefineReply, Reply, store_entry, refine_entry, State, FlushReply, Refusal, History, CallMade, Stored, Refined, AreCalls, Grows, IsBookCall, Help, IsStored, help_calls, store_answer, flush_answer, nothing_flushed, filled, called, IsRound, Turn, round_calls, replies_of, round_size, Command, AppendsFront, store_text, refine_text, work_text, call_line, Stop, WriteFailed, played_one, HasPlayed, IsCallRefused, IsDone, IsBookFull, Does, stop_of, flush_text, plain_piece, IsOfBuffer, IsOfNone, IsLineOf}
 use Rattle.g1_core.specs.declared.entry.Call.{Call}
 use Rattle.g1_core.specs.Refinement.{IsRefined}
 use Rattle.g1_log.specs.declared.parcel.Parcel.{Parcel}
@@ -40,26 +40,19 @@ short_in_all : (replies : List RefineReply) (short : Bool) → (short ≡ false 
 short_in_all replies true h = sym (or_true (is_any_short (map (refine_entry 0) replies)))
 short_in_all replies false h = sym (ap (λ b. b || false) (none_short replies (h refl)))
 
-same_line : {a b d s : ℕ} {a2 b2 d2 s2 : ℕ} {f f2 : Bool} → a ≡ a2 → b ≡ b2 → d ≡ d2 → s ≡ s2 → (left : ℕ) → f ≡ f2 → worked_line a b d s left f ≡ worked_line a2 b2 d2 s2 left f2
-same_line ea eb ed es left ef = cc
-
 -- A round answers the sums of its calls, is short where one of them is, and shows how many buffers it saw last.
 work_says : (replies : List RefineReply) (r : RefineReply) → r.taken ≡ sum_by (λ (one : RefineReply). one.taken) replies
     → r.refined ≡ flat_map (λ (one : RefineReply). one.refined) replies → r.hot ≡ sum_by (λ (one : RefineReply). one.hot) replies
     → r.skipped ≡ sum_by (λ (one : RefineReply). one.skipped) replies → (r.short ≡ false → All (λ (one : RefineReply). one.short ≡ false) replies) → All Takes replies
     → IsLineOf command.Work (record { entries = map (refine_entry 0) replies; shown = record { cards = 0; left = r.left; refused = r.short } }) (work_text r)
 work_says replies r taken refined hot skipped whole takes =
-    let a : r.taken ≡ sum_by (λ (e : Entry). taken_in e.reply) (map (refine_entry 0) replies) = taken ∙ sym (sum_by-map (λ (e : Entry). taken_in e.reply) (refine_entry 0) replies) in
+    let a : r.taken ≡ sum_by (λ (e : Entry). (counts_in e.reply).0) (map (refine_entry 0) replies) = taken ∙ sym (sum_by-map (λ (e : Entry). (counts_in e.reply).0) (refine_entry 0) replies) in
     let b : length r.refined ≡ sum_by (λ (e : Entry). length e.refined) (map (refine_entry 0) replies) =
     ap (λ l. length l) refined ∙ length-flat_map (λ (one : RefineReply). one.refined) replies ∙ sym (sum_by-map (λ (e : Entry). length e.refined) (refine_entry 0) replies) in
-    let d : r.hot ≡ sum_by (λ (e : Entry). hot_in e.reply) (map (refine_entry 0) replies) = hot ∙ sym (sum_by-map (λ (e : Entry). hot_in e.reply) (refine_entry 0) replies) in
-    let s : r.skipped ≡ sum_by (λ (e : Entry). skipped_in e.reply) (map (refine_entry 0) replies) = skipped ∙ sym (sum_by-map (λ (e : Entry). skipped_in e.reply) (refine_entry 0) replies) in
+    let d : r.hot ≡ sum_by (λ (e : Entry). (counts_in e.reply).1) (map (refine_entry 0) replies) = hot ∙ sym (sum_by-map (λ (e : Entry). (counts_in e.reply).1) (refine_entry 0) replies) in
+    let s : r.skipped ≡ sum_by (λ (e : Entry). (counts_in e.reply).2) (map (refine_entry 0) replies) = skipped ∙ sym (sum_by-map (λ (e : Entry). (counts_in e.reply).2) (refine_entry 0) replies) in
     let f : r.short ≡ is_any_short (map (refine_entry 0) replies) || r.short = short_in_all replies r.short whole in
-    record { piece = are_refinements replies takes; line = same_line a b d s r.left f }
-
--- some calls of the command, with a line
-abbrev pub Says : History → History → Command → List ℕ → Type 0
-Says old new c text = (p : Piece) × Grows old p.entries new × IsLineOf c p text × IsSetBy old.machine.settings c p.entries
+    record { piece = are_refinements replies takes; line = cc }
 
 -- a help takes the buffer that it refines, unless it is short
 abbrev HelpTakes : Help → Type 0
@@ -86,44 +79,44 @@ turns_take m old new (t ∷ u ∷ turns) (Some e) h = All-cons Takes t.reply (re
 
 -- a store whose own answer was the first
 store_calls : (old new : History) (m slot : ℕ) (target : Option ℕ) (cards : List ℕ) (first : StoreReply) (help : Help) → Grows old (store_entry m slot target first ∷ calls_entries m (help_calls cards help)) new → HelpTakes help
-    → (first.refined ≡ []) × (first.short ≡ false) → first.fill ≢ Helped → (first.fill ≡ Full → first ≡ filled) → (IsSome help → first.fill ≡ Full) → Says old new (command.Store m slot target) (store_text (store_answer first help))
+    → (first.refined ≡ []) × (first.short ≡ false) → first.fill ≢ Helped → (first.fill ≡ Full → first ≡ filled) → (IsSome help → first.fill ≡ Full) → IsDone (λ (t : List ℕ). t) old new (command.Store m slot target) (store_text (store_answer first help))
 store_calls old new m slot target cards first None g takes plain own full helps = (plain_piece (store_entry m slot target first ∷ []), g, record { piece = ((refl, refl), (own_fill first.kind first.fill own (λ e. ap (λ (r : StoreReply). r.kind) (full e)), plain.1, plain.0)); line = refl }, tt)
 store_calls old new m slot target cards first (Some (Ok reply)) g takes plain own full helps =
     let is = full (helps refl) in
-    subst (λ (r : StoreReply). Says old new (command.Store m slot target) (store_text (store_answer r (Some (Ok reply))))) (sym is)
+    subst (λ (r : StoreReply). IsDone (λ (t : List ℕ). t) old new (command.Store m slot target) (store_text (store_answer r (Some (Ok reply))))) (sym is)
     (plain_piece (store_entry m slot target filled ∷ refine_entry m reply ∷ []), subst (λ (r : StoreReply). Grows old (store_entry m slot target r ∷ refine_entry m reply ∷ []) new) is g, record { piece = (((refl, refl), (refl, refl, refl)), tt, ((refl, refl), takes)); line = refl }, tt)
 store_calls old new m slot target cards first (Some (Err e)) g takes plain own full helps =
     let is = full (helps refl) in
-    subst (λ (r : StoreReply). Says old new (command.Store m slot target) (store_text (store_answer r (Some (Err e))))) (sym is)
+    subst (λ (r : StoreReply). IsDone (λ (t : List ℕ). t) old new (command.Store m slot target) (store_text (store_answer r (Some (Err e))))) (sym is)
     (record { entries = store_entry m slot target filled ∷ []; shown = record { cards = 0; left = 0; refused = true } }, subst (λ (r : StoreReply). Grows old (store_entry m slot target r ∷ []) new) is g, record { piece = ((refl, refl), (refl, refl, refl)); line = refl }, tt)
 
 pub store_made : {S : Type 0} (did : S → List CallMade → S → Type 0) (s t : S) (old new : History) (m slot : ℕ) (target : Option ℕ) (cards : List ℕ) (reply : StoreReply) (h : IsStored did s slot target cards reply t)
-    → AreCalls (IsBookCall m) old (Stored slot target h.first ∷ help_calls cards h.help) new → Says old new (command.Store m slot target) (store_text reply)
+    → AreCalls (IsBookCall m) old (Stored slot target h.first ∷ help_calls cards h.help) new → IsDone (λ (t : List ℕ). t) old new (command.Store m slot target) (store_text reply)
 store_made did s t old new m slot target cards reply h made =
-    subst (λ (r : StoreReply). Says old new (command.Store m slot target) (store_text r)) (sym h.answer)
+    subst (λ (r : StoreReply). IsDone (λ (t : List ℕ). t) old new (command.Store m slot target) (store_text r)) (sym h.answer)
     (store_calls old new m slot target cards h.first h.help (calls_grow m old new (Stored slot target h.first ∷ help_calls cards h.help) made) (store_takes m old new slot target h.first cards h.help made) h.plain h.own h.full h.helps)
 
 -- a flush of a log with cards
-flush_calls : (old new : History) (m n : ℕ) (cards : List ℕ) (help : Help) → Grows old (calls_entries m (help_calls cards help)) new → HelpTakes help → Says old new (command.Flush m) (flush_text (flush_answer n help))
+flush_calls : (old new : History) (m n : ℕ) (cards : List ℕ) (help : Help) → Grows old (calls_entries m (help_calls cards help)) new → HelpTakes help → IsDone (λ (t : List ℕ). t) old new (command.Flush m) (flush_text (flush_answer n help))
 flush_calls old new m n cards None g takes = (record { entries = []; shown = record { cards = n; left = 0; refused = false } }, g, record { piece = tt; line = refl }, tt)
 flush_calls old new m n cards (Some (Ok reply)) g takes = (record { entries = refine_entry m reply ∷ []; shown = record { cards = n; left = 0; refused = false } }, g, record { piece = ((refl, refl), takes); line = refl }, tt)
 flush_calls old new m n cards (Some (Err e)) g takes = (record { entries = []; shown = record { cards = n; left = 0; refused = true } }, g, record { piece = tt; line = refl }, tt)
 
-pub flush_nothing : (old new : History) (m : ℕ) (reply : FlushReply) → reply ≡ nothing_flushed → new ≡ old → Says old new (command.Flush m) (flush_text reply)
+pub flush_nothing : (old new : History) (m : ℕ) (reply : FlushReply) → reply ≡ nothing_flushed → new ≡ old → IsDone (λ (t : List ℕ). t) old new (command.Flush m) (flush_text reply)
 flush_nothing old new m reply is same =
     let g : Grows old [] new = subst (λ (b : History). Grows old [] b) (sym same) (grows_none old) in
-    subst (λ (r : FlushReply). Says old new (command.Flush m) (flush_text r)) (sym is) (plain_piece [], g, record { piece = tt; line = refl }, tt)
+    subst (λ (r : FlushReply). IsDone (λ (t : List ℕ). t) old new (command.Flush m) (flush_text r)) (sym is) (plain_piece [], g, record { piece = tt; line = refl }, tt)
 
-pub flush_made : (old new : History) (m : ℕ) (cards : List ℕ) (reply : FlushReply) (help : Help) → AreCalls (IsBookCall m) old (help_calls cards help) new → reply ≡ flush_answer (length cards) help → Says old new (command.Flush m) (flush_text reply)
+pub flush_made : (old new : History) (m : ℕ) (cards : List ℕ) (reply : FlushReply) (help : Help) → AreCalls (IsBookCall m) old (help_calls cards help) new → reply ≡ flush_answer (length cards) help → IsDone (λ (t : List ℕ). t) old new (command.Flush m) (flush_text reply)
 flush_made old new m cards reply help h is =
-    subst (λ (r : FlushReply). Says old new (command.Flush m) (flush_text r)) (sym is) (flush_calls old new m (length cards) cards help (calls_grow m old new (help_calls cards help) h) (flush_takes m old new cards help h))
+    subst (λ (r : FlushReply). IsDone (λ (t : List ℕ). t) old new (command.Flush m) (flush_text r)) (sym is) (flush_calls old new m (length cards) cards help (calls_grow m old new (help_calls cards help) h) (flush_takes m old new cards help h))
 
 -- a refinement of what the line gave
 refine_finds : (old new : State) (buffer : Option (List ℕ)) (reply : RefineReply) → IsRefined old buffer reply new → IsOfBuffer (refine_entry 0 reply).reply ⊎ IsOfNone (refine_entry 0 reply).reply reply.refined
 refine_finds old new None reply h = inr (h.0.taken, h.0.hot, h.0.skipped, h.0.short, h.0.refined)
 refine_finds old new (Some cards) reply h = inl h.taken
 
-pub refine_made : (old new : History) (buffer : Option (List ℕ)) (reply : RefineReply) → AreCalls (IsBookCall 0) old (Refined buffer (called reply) ∷ []) new → Says old new command.Refine (refine_text reply)
+pub refine_made : (old new : History) (buffer : Option (List ℕ)) (reply : RefineReply) → AreCalls (IsBookCall 0) old (Refined buffer (called reply) ∷ []) new → IsDone (λ (t : List ℕ). t) old new command.Refine (refine_text reply)
 refine_made old new buffer reply h =
     (plain_piece (refine_entry 0 (called reply) ∷ []), calls_grow 0 old new (Refined buffer (called reply) ∷ []) h, record { piece = ((refl, refl), refine_finds old.machine.state new.machine.state buffer (called reply) h.1.refined); line = refl }, tt)
 
@@ -134,7 +127,7 @@ rounds_within turns most size h is =
     omega (arith, a, b, h, is)
 
 pub work_made : {S : Type 0} (did : S → List CallMade → S → Type 0) (s : S) (before : List Parcel) (most : ℕ) (reply : RefineReply) (after : List Parcel) (t : S) (r : IsRound did s before most reply after t) (old new : History)
-    (seen : ℕ) → seen ≤ old.machine.settings.limit → most ≡ round_size old.machine.settings.start seen → AreCalls (IsBookCall 0) old (round_calls r.turns r.refused) new → Says old new command.Work (work_text reply)
+    (seen : ℕ) → seen ≤ old.machine.settings.limit → most ≡ round_size old.machine.settings.start seen → AreCalls (IsBookCall 0) old (round_calls r.turns r.refused) new → IsDone (λ (t : List ℕ). t) old new command.Work (work_text reply)
 work_made did s before most reply after t r old new seen within is h = (
   record { entries = map (refine_entry 0) (replies_of r.turns); shown = record { cards = 0; left = reply.left; refused = reply.short } },
   subst (λ es. Grows old es new) (round_entries 0 r.turns r.refused) (calls_grow 0 old new (round_calls r.turns r.refused) h),
@@ -143,7 +136,7 @@ work_made did s before most reply after t r old new seen within is h = (
 )
 
 -- one call of the first caller, and the line of its reply
-pub call_says : (old new : History) (call : Call) (reply : Reply) → MadeAsked true old 0 call reply new → Says old new (command.Call call) (call_line call reply)
+pub call_says : (old new : History) (call : Call) (reply : Reply) → MadeAsked true old 0 call reply new → IsDone (λ (t : List ℕ). t) old new (command.Call call) (call_line call reply)
 call_says old new call reply p = let e = asked_entry 0 call reply p.0 in (plain_piece (e ∷ []), grows_entered old e new p.1.entered, record { piece = (refl, refl); line = refl }, tt)
 
 -- a call that was refused left the book, and its history was full if that is why
@@ -151,7 +144,7 @@ pub call_refused : (old new : History) (refusal : Refusal) → new ≡ old → (
 call_refused old new NoMemory same full = subst (λ (b : History). Grows old [] b) (sym same) (grows_none old)
 call_refused old new BookFull same full = subst (λ (b : History). Grows old [] b × IsBookFull b) (sym same) (grows_none old, full refl)
 
-played_by : (old new : History) (c : Command) (text : List ℕ) → Says old new c text → HasPlayed old (c ∷ []) text new
+played_by : (old new : History) (c : Command) (text : List ℕ) → IsDone (λ (t : List ℕ). t) old new c text → HasPlayed old (c ∷ []) text new
 played_by old new c text p = subst (λ (t : List ℕ). HasPlayed old (c ∷ []) t new) (sym p.2.line) (played_one old new c p.0 p.2.piece p.3 p.1)
 
 nothing_played : (old new : History) → Grows old [] new → HasPlayed old [] [] new
@@ -163,10 +156,10 @@ module _ {S : Type 0} (book_of : S → History) where
   PlaysBook c old new out out' r = Does (λ s cs text t. HasPlayed (book_of s) cs text (book_of t)) (λ s. IsBookFull (book_of s)) (c ∷ []) old new out out' r
 
   -- a command whose answer was written, or a beginning of it
-  pub does_answer : (old new : S) (c : Command) (text : List ℕ) (out out' : Option (List ℕ)) → Says (book_of old) (book_of new) c text → Appends out out' text → PlaysBook c old new out out' (Ok true)
+  pub does_answer : (old new : S) (c : Command) (text : List ℕ) (out out' : Option (List ℕ)) → IsDone (λ (t : List ℕ). t) (book_of old) (book_of new) c text → Appends out out' text → PlaysBook c old new out out' (Ok true)
   does_answer old new c text out out' p w = one_done _ _ old new c text out out' (Ok true) (played_by (book_of old) (book_of new) c text p) refl (λ e. cc) w
 
-  pub does_front : (old new : S) (c : Command) (text : List ℕ) (out out' : Option (List ℕ)) → Says (book_of old) (book_of new) c text → AppendsFront out out' text → PlaysBook c old new out out' (Err WriteFailed)
+  pub does_front : (old new : S) (c : Command) (text : List ℕ) (out out' : Option (List ℕ)) → IsDone (λ (t : List ℕ). t) (book_of old) (book_of new) c text → AppendsFront out out' text → PlaysBook c old new out out' (Err WriteFailed)
   does_front old new c text out out' p w = one_done _ _ old new c text out out' (Err WriteFailed) (played_by (book_of old) (book_of new) c text p) refl (λ e. cc) w
 
   -- a command that was refused

@@ -1,11 +1,11 @@
 -- Drains of the core that a race has become.
 use Rattle.std.specs.Prelude.{◌≡◌, ◌≢◌, ◌⊎◌, ◌∷◌}
-use Rattle.g1_replay.specs.{ℕ, List, [], append-nil, ap, sym, subst, ◌∙◌, refl, inl, inr, ⊎_elim, Option, true, Contains, arith, Bool, Result, Ok, Err, Appends, true≢false, Shape, card_of, region_of, region_of_card, Drained, Cards, Short, drain_entry, drain_reply, Machine, IsStep, Table, Holds, IsCovered, IsRecorded, held, refined, Ended, refs_of, table_of, Command, Drain, Call, AppendsFront, call_line, Stop, NoMemory, WriteFailed, AreDrains, CoreDrained, core_drained_none, Does, AreExact, IsExactByStores, drain_text, referring, IsTableLeftBy}
+use Rattle.g1_replay.specs.{ℕ, List, [], append-nil, ap, sym, subst, ◌∙◌, refl, inl, inr, ⊎_elim, Option, true, Contains, arith, Bool, Result, Err, true≢false, Shape, card_of, region_of, region_of_card, Drained, Cards, Short, drain_entry, drain_reply, Machine, IsStep, Table, Holds, IsCovered, IsRecorded, held, refined, Ended, refs_of, table_of, Command, Drain, Call, call_line, Stop, NoMemory, BookFull, Writes, AreDrains, CoreDrained, core_drained_none, Does, AreExact, IsExactByStores, drain_text, referring, IsTableLeftBy}
 use Rattle.std.specs.FinSet as set
 use Rattle.std.specs.Ordering.{nat_cmp}
 use Rattle.g1_layout.specs.Sets.{CardSet}
 use Rattle.g1_core.proofs.TableLemmas.{refined_covered, recorded_cases, region_of_slot, Holds_from_held}
-use Rattle.g1_replay.proofs.PlayingLemmas.{one_done, one_undone}
+use Rattle.g1_replay.proofs.PlayingLemmas.{none_undone, one_done, one_undone}
 
 -- what one drain of a core does
 abbrev pub Drives : ℕ → Machine → Machine → Option (List ℕ) → Option (List ℕ) → Result Bool Stop → Type 0
@@ -31,11 +31,8 @@ one_drain old new region answer s = record {
   heap = step_layout old.state.table new.state.table region answer (s 0);
 }
 
-pub drives_whole : (old new : Machine) (region : ℕ) (answer : Drained) (out out' : Option (List ℕ)) → Steps region old answer new → Appends out out' (call_line (Drain region) (drain_reply answer)) → Drives region old new out out' (Ok true)
-drives_whole old new region answer out out' s w = one_done CoreDrained (λ m. ⊥) old new _ _ out out' (Ok true) (one_drain old new region answer s) refl (λ e. cc) w
-
-pub drives_front : (old new : Machine) (region : ℕ) (answer : Drained) (out out' : Option (List ℕ)) → Steps region old answer new → AppendsFront out out' (call_line (Drain region) (drain_reply answer)) → Drives region old new out out' (Err WriteFailed)
-drives_front old new region answer out out' s w = one_done CoreDrained (λ m. ⊥) old new _ _ out out' (Err WriteFailed) (one_drain old new region answer s) refl (λ e. cc) w
+pub drives_said : (old new : Machine) (region : ℕ) (answer : Drained) (out out' : Option (List ℕ)) (r : Result Bool Stop) → r ≢ Err BookFull → Steps region old answer new → Writes out out' r (call_line (Drain region) (drain_reply answer)) → Drives region old new out out' r
+drives_said old new region answer out out' r no_book s w = one_done CoreDrained (λ m. ⊥) old new _ _ out out' r (one_drain old new region answer s) (none_undone r no_book) no_book w
 
 pub drives_refused : (old new : Machine) (region : ℕ) (out : Option (List ℕ)) → new ≡ old → Drives region old new out out (Err NoMemory)
 drives_refused old new region out same = one_undone CoreDrained (λ m. ⊥) old new _ out (Err NoMemory) (subst (λ (m : Machine). CoreDrained old [] [] m) (sym same) (core_drained_none old)) (omega arith) (λ e. cc)

@@ -1,6 +1,7 @@
 -- Scripts of a crew and a race: they fit the heap that their commands are of, and are kept as their trace is read.
 use Rattle.std.specs.Prelude.{◌≡◌, ◌≢◌, ◌==◌, ◌<◌, ◌≤◌, ◌+◌, ◌∷◌, ◌++◌, ◌-◌, if◌then◌else◌}
-use Rattle.g1_replay.specs.{false, take, IfSome, take_more, filter_map-append, ℕ, List, [], suc, add-one, add-zero, length, get_or, set, drop, drop-cons, refl, sym, subst, ap, ◌∙◌, append-nil, inl, inr, Option, Some, None, true, nat_lt, Bool, arith, rules, All, unwrap_or, filter_map, cons_option, cases_Bool, eq-eqb, eqb-true, ne_eqb, false≢true, get_or-set_same, get_or-set_other, length-set, length-drop, Shape, slot_count, StepFits, ScriptFits, Step, Script, Mutate, Refine, Command, Store, IsCommandOf, AllFrom, AreKept, IsScriptAt, asked_in, step_for}
+use Rattle.g1_replay.specs.{false, take, IfSome, take_more, filter_map-append, ℕ, List, [], suc, add-one, add-zero, length, get_or, set, drop, drop-cons, refl, sym, subst, ap, ◌∙◌, append-nil, inl, inr, Option, Some, None, true, nat_lt, Bool, arith, rules, All, unwrap_or, filter_map, cons_option, cases_Bool, eq-eqb, eqb-true, ne_eqb, false≢true, get_or-set_same, get_or-set_other, length-set, length-drop, Shape, slot_count, StepFits, ScriptFits, Step, Script, Mutate, Refine, Command, Store, IsCommandOf, AllFrom, AreKept, IsScriptAt, asked_in, own_step, step_for}
+use Rattle.std.proofs.lemmas.List.{nil_from_length}
 use Rattle.g1_steps.specs.declared.crew.desk.Step.TheVariants as step
 use Rattle.g1_trace.specs.declared.command.Command.TheVariants.{Flush}
 use Rattle.g1_replay.specs.declared.crews.listing.Scripts.{Scripts}
@@ -14,21 +15,13 @@ other_at : (by k : ℕ) (s : Step) → k ≢ by → (if by == k then Some s else
 other_at by k s differ = rw (ne_eqb by k (λ e. differ (sym e))) refl
 
 pub asked_own : (c : Command) (a : ℕ × Step) → asked_in c ≡ Some a → step_for a.0 c ≡ Some a.1
-asked_own (Store by slot target) a e =
-    subst (λ (p : ℕ × Step). step_for p.0 (Store by slot target) ≡ Some p.1) (ap (λ (o : Option (ℕ × Step)). unwrap_or o a) e) (own_at by (step.Store slot target))
-asked_own (Flush by) a e = subst (λ (p : ℕ × Step). step_for p.0 (Flush by) ≡ Some p.1) (ap (λ (o : Option (ℕ × Step)). unwrap_or o a) e) (own_at by step.Flush)
-asked_own c a e = cc
+asked_own c a e = ap (own_step a.0) e ∙ own_at a.0 a.1
 
 pub asked_other : (c : Command) (a : ℕ × Step) (k : ℕ) → asked_in c ≡ Some a → k ≢ a.0 → step_for k c ≡ None
-asked_other (Store by slot target) a k e =
-    subst (λ (p : ℕ × Step). k ≢ p.0 → step_for k (Store by slot target) ≡ None) (ap (λ (o : Option (ℕ × Step)). unwrap_or o a) e) (other_at by k (step.Store slot target))
-asked_other (Flush by) a k e = subst (λ (p : ℕ × Step). k ≢ p.0 → step_for k (Flush by) ≡ None) (ap (λ (o : Option (ℕ × Step)). unwrap_or o a) e) (other_at by k step.Flush)
-asked_other c a k e = λ differ. refl
+asked_other c a k e differ = ap (own_step k) e ∙ other_at a.0 k a.1 differ
 
 pub asked_none : (c : Command) (k : ℕ) → asked_in c ≡ None → step_for k c ≡ None
-asked_none (Store by slot target) k e = cc
-asked_none (Flush by) k e = cc
-asked_none c k e = refl
+asked_none c k e = ap (own_step k) e
 
 -- the call of a command of the heap fits there
 pub asked_fits : (l : Shape) (m : ℕ) (c : Command) (a : ℕ × Step) → IsCommandOf l m c → asked_in c ≡ Some a → (a.0 < m) × StepFits (slot_count l) true a.1
@@ -37,12 +30,9 @@ asked_fits l m (Store by slot target) a h e =
 asked_fits l m (Flush by) a h e = subst (λ (p : ℕ × Step). (p.0 < m) × StepFits (slot_count l) true p.1) (ap (λ (o : Option (ℕ × Step)). unwrap_or o a) e) (h, refl)
 asked_fits l m c a h e = cc
 
--- what a mutator is asked for: nothing
-pub nothing_own : (k : ℕ) (c : Command) → step_for k c ≡ None → filter_map (step_for k) (c ∷ []) ≡ []
-nothing_own k c e = ap (λ (o : Option Step). cons_option o []) e
-
-pub one_own : (k : ℕ) (c : Command) (s : Step) → step_for k c ≡ Some s → filter_map (step_for k) (c ∷ []) ≡ s ∷ []
-one_own k c s e = ap (λ (o : Option Step). cons_option o []) e
+-- what one command asks of a mutator
+pub asks_one : (k : ℕ) (c : Command) (o : Option Step) → step_for k c ≡ o → filter_map (step_for k) (c ∷ []) ≡ cons_option o []
+asks_one k c o e = ap (λ (asked : Option Step). cons_option asked []) e
 
 -- an item within a list is the same whatever stands for one outside
 same_item : {E : Type 0} (xs : List E) (i : ℕ) (d e : E) → i < length xs → get_or xs i d ≡ get_or xs i e
@@ -80,14 +70,10 @@ module _ {E : Type 0} (steps : E → List Step) where
 
 -- what is left of a list from a place on
 module _ {E : Type 0} where
-  no_item : (xs : List E) → length xs ≡ 0 → xs ≡ []
-  no_item [] h = refl
-  no_item (x ∷ xs) h = absurd (omega arith)
-
   pub none_left : (k : ℕ) (all now : List E) → now ≡ drop k all → length now ≡ 0 → (length all ≤ k) × (now ≡ drop (k + 1) all)
   none_left k all now e none =
       let long : length all - k ≡ 0 = sym (length-drop k all) ∙ ap length (sym e) ∙ none in
-      (omega arith, no_item now none ∙ sym (no_item (drop (k + 1) all) (length-drop (k + 1) all ∙ omega arith)))
+      (omega arith, nil_from_length now none ∙ sym (nil_from_length (drop (k + 1) all) (length-drop (k + 1) all ∙ omega arith)))
 
   pub some_left : (k : ℕ) (all now rest : List E) (item : E) → now ≡ drop k all → 0 < length now → item ≡ get_or now 0 item → rest ≡ drop 1 now
       → (k < length all) × ((d : E) → get_or all k d ≡ item) × (rest ≡ drop (k + 1) all)
@@ -112,21 +98,10 @@ module _ {E : Type 0} where
 abbrev pub Kept : Scripts → List Command → List ℕ → Scripts → Type 0
 Kept s cs text t = AreKept (λ script. script.items) s.steps.items cs t.steps.items × (text ≡ [])
 
-abbrev pub Unfilled : Scripts → Type 0
-Unfilled s = ⊥
-
-pub kept_silent : (s t : Scripts) (cs : List Command) (text : List ℕ) → Kept s cs text t → text ≡ []
-kept_silent s t cs text h = h.1
-
 -- one command more
-kept_more : (mutator : ℕ) (cs : List Command) (i : ℕ) (d : Command) → i < length cs → filter_map (step_for mutator) (take (i + 1) cs) ≡ filter_map (step_for mutator) (take i cs) ++ cons_option (step_for mutator (get_or cs i d)) []
-kept_more mutator cs i d h = ap (filter_map (step_for mutator)) (take_more cs i d h) ∙ filter_map-append (step_for mutator) (take i cs) (get_or cs i d ∷ [])
-
-pub step_more : (mutator : ℕ) (cs : List Command) (i : ℕ) (d : Command) (s : Step) → i < length cs → step_for mutator (get_or cs i d) ≡ Some s → filter_map (step_for mutator) (take (i + 1) cs) ≡ filter_map (step_for mutator) (take i cs) ++ s ∷ []
-step_more mutator cs i d s h e = kept_more mutator cs i d h ∙ ap (λ o. filter_map (step_for mutator) (take i cs) ++ cons_option o []) e
-
-pub no_step_more : (mutator : ℕ) (cs : List Command) (i : ℕ) (d : Command) → i < length cs → step_for mutator (get_or cs i d) ≡ None → filter_map (step_for mutator) (take (i + 1) cs) ≡ filter_map (step_for mutator) (take i cs)
-no_step_more mutator cs i d h e = kept_more mutator cs i d h ∙ ap (λ o. filter_map (step_for mutator) (take i cs) ++ cons_option o []) e ∙ append-nil (filter_map (step_for mutator) (take i cs))
+pub steps_more : (mutator : ℕ) (cs : List Command) (i : ℕ) (d : Command) (o : Option Step) → i < length cs → step_for mutator (get_or cs i d) ≡ o → filter_map (step_for mutator) (take (i + 1) cs) ≡ filter_map (step_for mutator) (take i cs) ++ cons_option o []
+steps_more mutator cs i d o h e =
+    ap (filter_map (step_for mutator)) (take_more cs i d h) ∙ filter_map-append (step_for mutator) (take i cs) (get_or cs i d ∷ []) ∙ ap (λ o. filter_map (step_for mutator) (take i cs) ++ cons_option o []) e
 
 if_fits : (slots : ℕ) (b : Bool) (s : Step) → StepFits slots true s → IfSome (if b then Some s else None) (StepFits slots true)
 if_fits slots true s h = h

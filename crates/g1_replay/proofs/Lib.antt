@@ -7,7 +7,6 @@ pub mod AnswerLemmas
 pub mod DrainLemmas
 pub mod RanLemmas
 pub mod ScriptedLemmas
-pub mod CrewLemmas
 pub mod CrewScriptLemmas
 pub mod SweptLemmas
 pub mod TakenLemmas
@@ -18,7 +17,6 @@ pub mod LeftLemmas
 pub mod CoreDrainLemmas
 pub mod RaceLemmas
 pub mod JobLemmas
-pub mod Rules
 use AnswerLemmas.*
 use CrewScriptLemmas.*
 use PartLemmas.*
@@ -26,5 +24,4 @@ use PlacedLemmas.*
 use PlayingLemmas.*
 use RaceLemmas.*
 use RanLemmas.*
-use Rules.*
 use ScriptedLemmas.*

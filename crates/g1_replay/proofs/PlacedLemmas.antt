@@ -1,6 +1,7 @@
 -- Lists whose items fit their places, and lists of members, by kinds.
 use Rattle.std.specs.Prelude.{◌≡◌, ◌+◌, ◌∷◌, ◌++◌}
-use Rattle.g1_replay.specs.{Some, None, IfSome, cons_option, ℕ, suc, List, [], length, map, ap, sym, subst, ◌∙◌, refl, arith, append_assoc, All, Option, append-nil, sum_by, filter_map, map-append, filter_map-append, All-nil, All-cons, All-head, All-tail, sum_by-cons, sum_by_push, Line, sender_rights, taker_rights, IsSenderOf, IsTakerOf, null_of, race_id, racer_race, racer_start, sweeper_race, sweeper_start, Member, Racing, Sweeping, IsMemberOf, member_rights, AllFrom, racer_in, sender_in, sweeper_in, taker_in}
+use Rattle.g1_replay.specs.{Some, None, IfSome, cons_option, ℕ, suc, List, [], length, map, ap, sym, subst, ◌∙◌, refl, arith, append_assoc, All, Option, append-nil, sum_by, filter_map, filter_map-append, All-nil, All-cons, All-head, All-tail, sum_by-cons, sum_by_push, Line, sender_rights, taker_rights, IsSenderOf, IsTakerOf, null_of, race_id, racer_race, racer_start, sweeper_race, sweeper_start, Member, Racing, Sweeping, IsMemberOf, member_rights, AllFrom, racer_in, sender_in, sweeper_in, taker_in}
+use Rattle.std.proofs.lemmas.List.{nil_from_length}
 use Rattle.g1_race.specs.declared.race.Race.{Race}
 
 module _ {A : Type 0} (P : ℕ → A → Type 0) where
@@ -15,30 +16,18 @@ module _ {A : Type 0} (P : ℕ → A → Type 0) where
   pub all_from_rest : (k : ℕ) (x : A) (rest xs : List A) → xs ≡ x ∷ rest → AllFrom P k xs → P k x × AllFrom P (suc k) rest
   all_from_rest k x rest xs e all = subst (AllFrom P k) e all
 
--- one item goes from a list into another
-pub list_moves : {A B : Type 0} (f : A → B) (xs now : List A) (ys rest : List B) (x : A) (y : B) (all : List B) → now ≡ xs ++ x ∷ [] → ys ≡ y ∷ rest → f x ≡ y → map f xs ++ ys ≡ all → map f now ++ rest ≡ all
-list_moves f xs now ys rest x y all p q e was =
-    ap (λ l. map f l ++ rest) p ∙ ap (λ l. l ++ rest) (map-append f xs (x ∷ [])) ∙ append_assoc (map f xs) (f x ∷ []) rest ∙ ap (λ z. map f xs ++ z ∷ rest) e ∙ ap (λ l. map f xs ++ l) (sym q) ∙ was
-
+-- no item is left
 pub all_moved : {B : Type 0} (old rest all : List B) → length rest ≡ 0 → old ++ rest ≡ all → old ≡ all
-all_moved old [] all e was = sym (append-nil old) ∙ was
-all_moved old (y ∷ rest) all e was = absurd (omega (arith, e))
+all_moved old rest all e was = sym (append-nil old) ∙ ap (λ l. old ++ l) (sym (nil_from_length rest e)) ∙ was
 
--- the first of the members that are left is sorted in behind those that were
-pub sorted_more : {D B : Type 0} (member : D → Member) (kind : Member → Option B) (old new all : List B) (ds rest : List D) (d : D) (m : Member) → new ≡ old ++ filter_map kind (m ∷ []) → ds ≡ d ∷ rest → m ≡ member d
-    → old ++ filter_map kind (map member ds) ≡ all → new ++ filter_map kind (map member rest) ≡ all
-sorted_more member kind old new all ds rest d m p q e was =
-    ap (λ l. l ++ filter_map kind (map member rest)) p ∙ append_assoc old (filter_map kind (m ∷ [])) (filter_map kind (map member rest))
-    ∙ ap (λ l. old ++ l) (sym (filter_map-append kind (m ∷ []) (map member rest)))
-    ∙ ap (λ (x : Member). old ++ filter_map kind (x ∷ map member rest)) e ∙ ap (λ l. old ++ filter_map kind (map member l)) (sym q) ∙ was
+-- one member more is back
+pub back_more : {B : Type 0} (kind : Member → Option B) (old new one : List B) (members : List Member) (m : Member) → old ≡ filter_map kind members → new ≡ old ++ one → filter_map kind (m ∷ []) ≡ one → new ≡ filter_map kind (members ++ m ∷ [])
+back_more kind old new one members m was e is = e ∙ ap (λ l. l ++ one) was ∙ ap (λ l. filter_map kind members ++ l) (sym is) ∙ sym (filter_map-append kind members (m ∷ []))
 
--- at first no member is sorted, and at the end none is left
-pub sorted_none : {D B : Type 0} (member : D → Member) (kind : Member → Option B) (old : List B) (ds all : List D) → old ≡ [] → ds ≡ all → old ++ filter_map kind (map member ds) ≡ filter_map kind (map member all)
-sorted_none member kind old ds all p q = ap (λ l. l ++ filter_map kind (map member ds)) p ∙ ap (λ l. filter_map kind (map member l)) q
-
-pub sorted_all : {D B : Type 0} (member : D → Member) (kind : Member → Option B) (old all : List B) (ds : List D) → length ds ≡ 0 → old ++ filter_map kind (map member ds) ≡ all → old ≡ all
-sorted_all member kind old all [] e was = sym (append-nil old) ∙ was
-sorted_all member kind old all (d ∷ ds) e was = absurd (omega (arith, e))
+-- the first of the jobs that are left is behind those that were
+pub next_behind : {D : Type 0} (member : D → Member) (members : List Member) (ds rest : List D) (d : D) (m : Member) (all : List Member) → ds ≡ d ∷ rest → m ≡ member d → members ++ map member ds ≡ all → (members ++ m ∷ []) ++ map member rest ≡ all
+next_behind member members ds rest d m all q e was =
+    append_assoc members (m ∷ []) (map member rest) ∙ ap (λ x. members ++ x ∷ map member rest) e ∙ ap (λ l. members ++ map member l) (sym q) ∙ was
 
 -- what is chosen from a list whose items give what it is to be
 chosen_before : {B : Type 0} (Q : B → Type 0) (o : Option B) (ys : List B) → IfSome o Q → All Q ys → All Q (cons_option o ys)

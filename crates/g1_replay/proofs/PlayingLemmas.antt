@@ -1,17 +1,14 @@
 -- Lines that were played: one, and one after another.
-use Rattle.std.specs.Prelude.{◌≡◌, ◌+◌, ◌∷◌, ◌++◌, ◌<◌, ◌≤◌, ◌⊎◌}
-use Rattle.g1_replay.specs.{ℕ, List, [], refl, sym, ap, subst, ◌∙◌, append_assoc, append-nil, take, drop, length, Option, Some, None, true, arith, Bool, Result, Ok, Err, IfErr, OnOk, Consumes, take-take, drop-take, take-append-drop, Shape, Command, Dialect, puts_none, puts_then, Stop, Fault, NoMemory, BookFull, NoThread, ReadFailed, WriteFailed, IsUndone, Does, MayStop, Follows, FollowsFront, PlaysFirst, Writes, written_by, IsReadStop, Reads, more_may_come}
+use Rattle.std.specs.Prelude.{◌≡◌, ◌≢◌, ◌+◌, ◌∷◌, ◌++◌, ◌<◌, ◌≤◌, ◌⊎◌}
+use Rattle.g1_replay.specs.{ℕ, List, [], refl, sym, ap, subst, ◌∙◌, append_assoc, append-nil, take, drop, length, Option, Some, None, true, arith, Bool, Result, Ok, Err, IfErr, OnOk, Consumes, take-take, drop-take, take-append-drop, Shape, Command, Dialect, puts_none, puts_then, Stop, Fault, NoMemory, BookFull, WriteFailed, IsUndone, Does, MayStop, Follows, FollowsFront, PlaysFirst, Writes, written_by, IsReadStop, Reads, more_may_come}
 use Rattle.g1_replay.proofs.ReadingLemmas.{reads_none, reads_then}
 
 -- nothing to be done
-none_undone : (r : Result Bool Stop) → (r ≡ Err BookFull → ⊥) → IsUndone r []
-none_undone (Ok b) h = refl
-none_undone (Err (Fault f)) h = refl
+pub none_undone : {V : Type 0} (r : Result V Stop) → r ≢ Err BookFull → IsUndone r []
 none_undone (Err NoMemory) h = omega arith
 none_undone (Err BookFull) h = absurd (h refl)
-none_undone (Err NoThread) h = refl
-none_undone (Err ReadFailed) h = refl
-none_undone (Err WriteFailed) h = refl
+none_undone (Err (Fault f)) h = refl
+none_undone r h = refl
 
 does_none : {S : Type 0} (did : S → List Command → List ℕ → S → Type 0) (full : S → Type 0) (s : S) (out : Option (List ℕ)) (r : Result Bool Stop) → did s [] [] s → (r ≡ Err BookFull → ⊥) → Does did full [] s s out out r
 does_none did full s out r none no_book = record {
@@ -73,9 +70,7 @@ line_passed did full d l n n' s rd rd' out more none read = record { commands = 
 -- a line that stopped the reading
 pub line_unread : {S : Type 0} (did : S → List Command → List ℕ → S → Type 0) (full : S → Type 0) (d : Dialect) (l : Shape) (n n' : ℕ) (s : S) (rd rd' out : Option (List ℕ)) (stop : Stop) → did s [] [] s → IsReadStop stop
     → Reads d (Some l) n n' rd rd' (Some l) [] (Err stop) → Follows did full d l n n' s s rd rd' out out (Err stop)
-line_unread did full d l n n' s rd rd' out (Fault f) none h read = record { commands = []; read = read; done = does_none did full s out (Err (Fault f)) none (λ e. cc) }
-line_unread did full d l n n' s rd rd' out ReadFailed none h read = record { commands = []; read = read; done = does_none did full s out (Err ReadFailed) none (λ e. cc) }
-line_unread did full d l n n' s rd rd' out stop none h read = absurd h
+line_unread did full d l n n' s rd rd' out stop none h read = record { commands = []; read = read; done = does_none did full s out (Err stop) none (λ e. let same : stop ≡ BookFull = cc in subst IsReadStop same h) }
 
 pub line_stopped : {S : Type 0} (did : S → List Command → List ℕ → S → Type 0) (full : S → Type 0) (d : Dialect) (l : Shape) (n n' : ℕ) (c : Command) (old new : S) (rd rd' out out' : Option (List ℕ)) (stop : Stop) → MayStop stop
     → Reads d (Some l) n n' rd rd' (Some l) (c ∷ []) (Ok true) → Does did full (c ∷ []) old new out out' (Err stop) → Follows did full d l n n' old new rd rd' out out' (Err stop)
@@ -107,10 +102,7 @@ take_then n m xs =
 -- lines at the front of what is shown: none, and then more
 pub front_none : {S : Type 0} (did : S → List Command → List ℕ → S → Type 0) (full : S → Type 0) (d : Dialect) (l : Shape) (n : ℕ) (s : S) (shown : List ℕ) (out : Option (List ℕ)) → did s [] [] s
     → FollowsFront did full d l n n s s (take 0 shown) out out (Ok true)
-front_none did full d l n s shown out none = λ rd rd' moved. line_passed did full d l n n s rd rd' out true none (reads_nothing rd rd' moved)
-  where
-    reads_nothing : (rd rd' : Option (List ℕ)) → Consumes rd rd' (take 0 shown) → Reads d (Some l) n n rd rd' (Some l) [] (Ok true)
-    reads_nothing rd rd' moved = record { lines = []; rest = []; consumed = moved; passed = λ x. refl; met = refl }
+front_none did full d l n s shown out none = λ rd rd' moved. line_passed did full d l n n s rd rd' out true none (record { lines = []; rest = []; consumed = moved; passed = λ x. refl; met = refl })
 
 pub front_then : {S : Type 0} (did : S → List Command → List ℕ → S → Type 0) (full : S → Type 0)
     (then : (s t u : S) (cs ds : List Command) (xs ys : List ℕ) → did s cs xs t → did t ds ys u → did s (cs ++ ds) (xs ++ ys) u)

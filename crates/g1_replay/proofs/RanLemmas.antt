@@ -1,9 +1,9 @@
 -- What the jobs of a crew come to, by its book.
-use Rattle.std.specs.Prelude.{◌≡◌, ◌≤◌, ◌++◌}
-use Rattle.g1_replay.specs.{ℕ, List, [], length, refl, sym, subst, ap, ◌∙◌, append-nil, Option, inl, inr, arith, Result, Ok, Err, IfErr, count_by, Shape, opening, Entry, IsPermitted, is_store, History, IsHistory, Terms, layout_in, AppendsFront, stores_text, front_more, puts_none, puts_then, Stop, Fault, NoMemory, BookFull, NoThread, WriteFailed, CrewRan, drains, HasDrained, played_none, StartsNoThread, entries_of, HasPlayed, IsBookFull, MayStop, Writes, written_by, IsRunEnd, IsUnstarted, Appends}
+use Rattle.std.specs.Prelude.{◌≡◌, ◌≢◌, ◌≤◌, ◌++◌}
+use Rattle.g1_replay.specs.{ℕ, List, [], length, refl, sym, subst, ap, ◌∙◌, append-nil, Option, inl, inr, arith, Result, Ok, Err, IfErr, count_by, Shape, opening, Entry, IsPermitted, is_store, History, IsHistory, Terms, layout_in, AppendsFront, stores_text, front_more, puts_none, puts_then, Stop, BookFull, NoThread, WriteFailed, CrewRan, drains, HasDrained, played_none, entries_of, HasPlayed, IsBookFull, MayStop, Writes, written_by, IsRunEnd, IsUnstarted, Appends}
 
 -- a book with drains behind it is a run, and its text counts the stores in front of them
-ran_book : (old new : History) (k : ℕ) (r : Result (Unit {0}) Stop) (text : List ℕ) → HasPlayed old (drains k) text new → IsHistory new → IsRunEnd r → StartsNoThread r → (r ≡ Err BookFull → IsBookFull new) → (r ≡ Ok tt → k ≡ (layout_in old).regions)
+ran_book : (old new : History) (k : ℕ) (r : Result (Unit {0}) Stop) (text : List ℕ) → HasPlayed old (drains k) text new → IsHistory new → IsRunEnd r → r ≢ Err NoThread → (r ≡ Err BookFull → IsBookFull new) → (r ≡ Ok tt → k ≡ (layout_in old).regions)
     → CrewRan (layout_in old) old.limit r (stores_text (count_by is_store old.entries) ++ text)
 ran_book old new k r text p h ends alone full all =
     let es : new.entries ≡ old.entries ++ entries_of p.pieces = p.grows.entries in
@@ -22,25 +22,19 @@ ran_book old new k r text p h ends alone full all =
       said = inr (alone, ap (λ t. stores_text (count_by is_store old.entries) ++ t) p.said);
     }
 
-may_end : (r : Result (Unit {0}) Stop) → IfErr r MayStop → IsRunEnd r
+pub may_end : (r : Result (Unit {0}) Stop) → IfErr r MayStop → IsRunEnd r
 may_end (Ok done) h = tt
-may_end (Err NoMemory) h = tt
-may_end (Err BookFull) h = tt
-may_end (Err WriteFailed) h = tt
-may_end (Err stop) h = absurd h
+may_end (Err stop) h = inr h
 
 -- drains start no thread
-pub drains_alone : (r : Result (Unit {0}) Stop) → IfErr r MayStop → StartsNoThread r
-drains_alone (Ok done) h = tt
-drains_alone (Err NoThread) h = absurd h
-drains_alone (Err (Fault f)) h = tt
-drains_alone (Err stop) h = tt
+pub drains_alone : (r : Result (Unit {0}) Stop) → IfErr r MayStop → r ≢ Err NoThread
+drains_alone r h e = subst (λ r. IfErr r MayStop) e h
 
 -- the count could not be written
 pub stores_failed : (h : History) (out out' : Option (List ℕ)) → IsHistory h → AppendsFront out out' (stores_text (count_by is_store h.entries))
     → (text : List ℕ) × CrewRan (layout_in h) h.limit (Err WriteFailed) text × Writes {V = Unit {0}} out out' (Err WriteFailed) text
 stores_failed h out out' history w =
-    (stores_text (count_by is_store h.entries) ++ [], ran_book h h 0 (Err WriteFailed) [] (played_none h) history tt tt (λ e. cc) (λ e. cc), front_more out out' (stores_text (count_by is_store h.entries)) [] w)
+    (stores_text (count_by is_store h.entries) ++ [], ran_book h h 0 (Err WriteFailed) [] (played_none h) history (inr tt) (λ e. cc) (λ e. cc) (λ e. cc), front_more out out' (stores_text (count_by is_store h.entries)) [] w)
 
 -- the count was written, and drains behind it
 pub book_written : (old new : History) (out mid_out out' : Option (List ℕ)) (r : Result (Unit {0}) Stop) → IfErr r MayStop → IsHistory new → Appends out mid_out (stores_text (count_by is_store old.entries))
@@ -70,13 +64,8 @@ stopped_with l history entries stop out ends permitted within full = (
 
 -- a job was refused
 pub job_refused : (h : History) (stop : Stop) (out : Option (List ℕ)) → IsHistory h → MayStop stop → (stop ≡ BookFull → IsBookFull h) → (text : List ℕ) × CrewRan (layout_in h) h.limit (Err stop) text × Writes {V = Unit {0}} out out (Err stop) text
-job_refused h stop out history may full = stopped_with (layout_in h) h.limit h.entries stop out (may_end (Err stop) may) history.run history.within full
-
-unstarted_end : (stop : Stop) → IsUnstarted stop → IsRunEnd (Err stop)
-unstarted_end NoMemory h = tt
-unstarted_end NoThread h = tt
-unstarted_end stop h = absurd h
+job_refused h stop out history may full = stopped_with (layout_in h) h.limit h.entries stop out (inr may) history.run history.within full
 
 -- no job was run
 pub not_started : (l : Shape) (history : ℕ) (stop : Stop) (out : Option (List ℕ)) → IsUnstarted stop → (text : List ℕ) × CrewRan l history (Err stop) text × Writes {V = Unit {0}} out out (Err stop) text
-not_started l history stop out h = stopped_with l history [] stop out (unstarted_end stop h) tt (omega arith) (λ e. absurd (subst IsUnstarted e h))
+not_started l history stop out h = stopped_with l history [] stop out (inl h) tt (omega arith) (λ e. absurd (subst IsUnstarted e h))

@@ -2,6 +2,7 @@
 use Rattle.std.specs.Prelude.{◌≡◌, ◌<◌, ◌≤◌, ◌+◌, ◌∷◌}
 use Rattle.g1_replay.specs.{ℕ, suc, List, [], length, map, ap, sym, subst, ◌∙◌, refl, arith, nat_lt, true, false, append-nil, Option, Some, None, inl, inr, Bool, Result, Ok, Err, All, sum_by, filter_map, AllZip, option_or, true≢false, false≢true, le-ltb, lt-ltb, All-nil, All-cons, All-push, sum_by-cons, Shape, slot_count, Line, View, StoreHistory, In, histories_of, Among, racer_view, Job, Script, Mutate, Refine, Refusal, Step, Ask, ScriptFits, StepFits, asks_in, asks_of, Ran, Command, IsCommandOf, Member, Racing, Sweeping, IsMemberOf, MemberDid, histories_after, is_racer, member_rights, AllFrom, IsRaceJob, IsRaceScript, racer_in, first_refusal, refusal_in}
 use native.Mathlib.Decide.{ℕ_discrete}
+use Rattle.std.proofs.lemmas.List.{nil_from_length}
 use Rattle.g1_race.specs.declared.race.Race.{Race}
 use Rattle.g1_steps.specs.declared.crew.desk.Step.TheVariants as step
 use Rattle.g1_replay.proofs.CrewScriptLemmas.{steps_fit}
@@ -49,8 +50,7 @@ first_left {D = D} outcome ds rest d total e none was = ap (λ (o : Option Refus
 
 -- where no job is left, none was refused
 pub none_left : {D : Type 0} (outcome : D → Option (Result ℕ (ℕ × Refusal))) (ds : List D) (total : Option Refusal) → length ds ≡ 0 → first_refusal (map outcome ds) ≡ total → total ≡ None
-none_left outcome [] total e was = sym was
-none_left outcome (d ∷ ds) total e was = absurd (omega (arith, e))
+none_left outcome ds total e was = sym was ∙ ap (λ l. first_refusal (map outcome l)) (nil_from_length ds e)
 
 module _ {D : Type 0} (member : D → Member) where
   abbrev pub Did : D → List Ask → D → Type 0

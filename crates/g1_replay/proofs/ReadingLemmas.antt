@@ -1,6 +1,6 @@
 -- Lines that were read: one, and one after another.
 use Rattle.std.specs.Prelude.{◌≡◌, ◌≢◌, ◌+◌, ◌<◌, ◌≤◌, ◌∷◌, ◌++◌}
-use Rattle.g1_replay.specs.{ℕ, List, [], refl, length, take, sym, ap, ◌∙◌, subst, arith, append_assoc, append-nil, Option, Some, None, true, false, rules, Bool, Result, Ok, Err, nat_lt, option_to_list, zero, suc, Consumes-nil, Consumes-trans, ne_eqb, length-append, Consumes, IsAtEnd, Shape, Command, Dialect, TraceFault, TooLong, Cut, NoHeader, read_command, read_header, read_on, read_line, after_line, at_end, before, faulty, IsPart, Stop, Fault, ReadFailed, ReadsLine, IsLeftToRead, Reads}
+use Rattle.g1_replay.specs.{ℕ, List, [], refl, length, take, sym, ap, ◌∙◌, subst, arith, append_assoc, append-nil, Option, Some, None, true, false, rules, Bool, Result, Ok, Err, nat_lt, option_to_list, zero, suc, Consumes-nil, Consumes-trans, ne_eqb, length-append, Consumes, IsAtEnd, Shape, Command, Dialect, TraceFault, TooLong, Cut, NoHeader, read_command, read_on, read_line, after_line, at_end, before, faulty, IsPart, Stop, Fault, ReadFailed, ReadsLine, IsLeftToRead, Reads}
 use Rattle.g1_trace.specs.Plain.{IsLineBefore}
 
 -- bytes of one line
@@ -54,7 +54,7 @@ pub no_line : (d : Dialect) (l : Shape) (n : ℕ) (rd rd' : Option (List ℕ)) (
 no_line d l n rd rd' line h = record { lines = []; rest = []; consumed = h.0; passed = λ x. refl; met = (refl, h.1, refl) }
 
 -- a whole line without a fault
-line_read : (d : Dialect) (heap opened : Option Shape) (n : ℕ) (rd rd' : Option (List ℕ)) (line : List ℕ) (cs : List Command)
+pub line_read : (d : Dialect) (heap opened : Option Shape) (n : ℕ) (rd rd' : Option (List ℕ)) (line : List ℕ) (cs : List Command)
     → ReadsLine rd rd' (Ok true) line → Ok (opened, cs) ≡ read_line d heap line → Reads d heap n (n + 1) rd rd' opened cs (Ok true)
 line_read d heap opened n rd rd' line cs h e = record {
   lines = line ++ 10 ∷ [];
@@ -64,20 +64,13 @@ line_read d heap opened n rd rd' line cs h e = record {
   met = refl;
 }
 
-pub header_read : (d : Dialect) (heap : Option Shape) (n : ℕ) (rd rd' : Option (List ℕ)) (line : List ℕ) → ReadsLine rd rd' (Ok true) line → Ok heap ≡ read_header line → Reads d None n (n + 1) rd rd' heap [] (Ok true)
-header_read d heap n rd rd' line h e = line_read d None heap n rd rd' line [] h (rw (← e) refl)
-
 pub command_read : (d : Dialect) (l : Shape) (n : ℕ) (rd rd' : Option (List ℕ)) (line : List ℕ) (o : Option Command) → ReadsLine rd rd' (Ok true) line → Ok o ≡ read_command l d line
     → Reads d (Some l) n (n + 1) rd rd' (Some l) (option_to_list o) (Ok true)
 command_read d l n rd rd' line o h e = line_read d (Some l) (Some l) n rd rd' line (option_to_list o) h (rw (← e) refl)
 
 -- a line has a byte at least, its line feed
 pub takes_some : (n : ℕ) (bytes line : List ℕ) → take n bytes ≡ line ++ 10 ∷ [] → 0 < n
-takes_some zero bytes line e = absurd (no_feed line e)
-  where
-    no_feed : (line : List ℕ) → [] ≡ line ++ 10 ∷ [] → ⊥
-    no_feed [] e = cc
-    no_feed (x ∷ line) e = cc
+takes_some zero bytes line e = let some = ap length e ∙ length-append line (10 ∷ []) in absurd (omega arith)
 takes_some (suc n) bytes line e = omega arith
 
 -- a line at the front of what a reader shows
@@ -86,7 +79,7 @@ pub shown_read : (d : Dialect) (l : Shape) (n : ℕ) (rd rd' : Option (List ℕ)
 shown_read d l n rd rd' shown c count p moved = command_read d l n rd rd' p.line (Some c) (subst (Consumes rd rd') p.front moved, p.part, p.short) p.asks
 
 -- a whole line with a fault
-line_faulty : (d : Dialect) (heap : Option Shape) (n : ℕ) (rd rd' : Option (List ℕ)) (line : List ℕ) (f : TraceFault) → ReadsLine rd rd' (Ok true) line → Err f ≡ read_line d heap line
+pub line_faulty : (d : Dialect) (heap : Option Shape) (n : ℕ) (rd rd' : Option (List ℕ)) (line : List ℕ) (f : TraceFault) → ReadsLine rd rd' (Ok true) line → Err f ≡ read_line d heap line
     → Reads d heap n n rd rd' heap [] (Err (Fault f))
 line_faulty d heap n rd rd' line f h e = record {
   lines = [];
@@ -95,9 +88,6 @@ line_faulty d heap n rd rd' line f h e = record {
   passed = λ x. refl;
   met = λ x _. line_done line d heap n h.1 h.2 x ∙ ap (λ r. after_line heap n r (λ to. read_on d to (n + 1) [] x)) (sym e);
 }
-
-pub header_faulty : (d : Dialect) (n : ℕ) (rd rd' : Option (List ℕ)) (line : List ℕ) (f : TraceFault) → ReadsLine rd rd' (Ok true) line → Err f ≡ read_header line → Reads d None n n rd rd' None [] (Err (Fault f))
-header_faulty d n rd rd' line f h e = line_faulty d None n rd rd' line f h (rw (← e) refl)
 
 pub command_faulty : (d : Dialect) (l : Shape) (n : ℕ) (rd rd' : Option (List ℕ)) (line : List ℕ) (f : TraceFault) → ReadsLine rd rd' (Ok true) line → Err f ≡ read_command l d line
     → Reads d (Some l) n n rd rd' (Some l) [] (Err (Fault f))

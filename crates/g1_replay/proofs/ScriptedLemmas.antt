@@ -1,44 +1,28 @@
--- A trace that is read to its end before its scripts are run: how it is read, what that comes to, and the whole output where it has a fault.
+-- A trace that is read to its end before its scripts are run: how it is read, what that comes to, and its whole output.
 use Rattle.std.specs.Prelude.{◌≡◌, ◌++◌, ◌⊎◌}
-use Rattle.g1_replay.specs.{ℕ, List, [], refl, sym, subst, ap, ◌∙◌, Option, Some, None, inl, inr, ⊎_elim, true, false, Bool, Result, Ok, Err, Appends, Consumes-nil, Shape, Command, Dialect, TraceFault, Puts, fault_line, puts_then, Refused, Listing, Stop, Fault, NoMemory, ReadFailed, Follows, Writes, written_by, IsReadStop, Reads, IsUnread, IsRunEnd, IsRefusedTrace, Outcome, WasUnread}
+use Rattle.g1_replay.specs.{ℕ, List, [], refl, sym, subst, ap, ◌∙◌, Option, Some, None, inl, inr, ⊎_elim, true, false, Bool, Result, Ok, Err, Appends, Consumes-nil, Shape, Command, Dialect, TraceFault, Puts, puts_none, puts_then, End, Listing, Stop, Fault, NoMemory, WriteFailed, Follows, Writes, written_by, WritesSome, IsEndWritten, ending_line, IsReadStop, Reads, IsRunEnd, IsScriptReplayed, Outcome, WasUnread, IfSome}
 use Rattle.g1_replay.specs.Scripted.{Scripted}
-use Rattle.g1_replay.proofs.EndLemmas.{Says, all_done, faulty_trace, says_refused}
+use Rattle.g1_replay.proofs.EndLemmas.{ReadsAs, all_done, replayed}
 use Rattle.g1_replay.proofs.ReadingLemmas.{reads_then}
 
 -- what a list of commands did with some of them
 abbrev pub Lists : Listing → List Command → List ℕ → Listing → Type 0
 Lists s cs text t = (t.commands.items ≡ s.commands.items ++ cs) × (text ≡ [])
 
--- its book is never full
-abbrev pub Never : Listing → Type 0
-Never s = ⊥
-
-read_end : (stop : Stop) → IsReadStop stop → IsUnread (Err stop)
-read_end (Fault f) h = tt
-read_end ReadFailed h = tt
-read_end stop h = absurd h
-
-list_end : (stop : Stop) → IsReadStop stop ⊎ (stop ≡ NoMemory) → IsUnread (Err stop)
-list_end stop (inl h) = read_end stop h
-list_end stop (inr e) = subst (λ s. IsUnread (Err s)) (sym e) tt
-
--- what is written where reading was stopped
-abbrev WrittenAt : Option (List ℕ) → Option (List ℕ) → Stop → Type 0
-WrittenAt out out' stop = Puts out out' (written_by {V = Bool} (Err stop)) []
-
-stop_silent : (stop : Stop) (out out' : Option (List ℕ)) → IsUnread (Err stop) → WrittenAt out out' stop → Appends out out' []
+-- nothing is written where reading was stopped
+stop_silent : (stop : Stop) (out out' : Option (List ℕ)) → IsReadStop stop ⊎ (stop ≡ NoMemory) → Puts out out' (written_by {V = Bool} (Err stop)) [] → Appends out out' []
+stop_silent WriteFailed out out' (inl h) w = absurd h
+stop_silent WriteFailed out out' (inr e) w = cc
 stop_silent (Fault f) out out' h w = w
-stop_silent NoMemory out out' h w = w
-stop_silent ReadFailed out out' h w = w
-stop_silent stop out out' h w = absurd h
+stop_silent stop out out' h w = w
 
 -- memory was refused before anything was read
 pub stops_unread : (d : Dialect) (n : ℕ) (rd : Option (List ℕ)) → WasUnread d n n rd rd (Err NoMemory) []
-stops_unread d n rd = record { heap = None; commands = []; ends = tt; read = record { lines = []; rest = []; consumed = Consumes-nil rd; passed = λ x. refl; met = refl }; silent = refl }
+stops_unread d n rd = record { heap = None; commands = []; ends = inr refl; read = record { lines = []; rest = []; consumed = Consumes-nil rd; passed = λ x. refl; met = refl }; silent = refl }
 
 -- a trace without a header
 pub head_stops : (d : Dialect) (n n' : ℕ) (rd rd' : Option (List ℕ)) (stop : Stop) → IsReadStop stop → Reads d None n n' rd rd' None [] (Err stop) → WasUnread d n n' rd rd' (Err stop) []
-head_stops d n n' rd rd' stop h read = record { heap = None; commands = []; ends = read_end stop h; read = read; silent = refl }
+head_stops d n n' rd rd' stop h read = record { heap = None; commands = []; ends = inl h; read = read; silent = refl }
 
 -- what takes the commands of lines and writes nothing
 module _ {S : Type 0} (Did : S → List Command → List ℕ → S → Type 0) (Full : S → Type 0) (silent : (s t : S) (cs : List Command) (text : List ℕ) → Did s cs text t → text ≡ []) where
@@ -50,11 +34,11 @@ module _ {S : Type 0} (Did : S → List Command → List ℕ → S → Type 0) (
         record {
           heap = Some l;
           commands = f.commands;
-          ends = list_end stop h;
+          ends = h;
           read = reads_then d None (Some l) (Some l) n n1 n' rd rd1 rd' [] f.commands (Err stop) head f.read;
           silent = refl;
         },
-        stop_silent stop out out' (list_end stop h) (subst (λ (x : List ℕ). Puts out out' (written_by {V = Bool} (Err stop)) x) (silent old new f.done.done f.done.text f.done.made) f.done.written),
+        stop_silent stop out out' h (subst (λ (x : List ℕ). Puts out out' (written_by {V = Bool} (Err stop)) x) (silent old new f.done.done f.done.text f.done.made) f.done.written),
       )
 
   -- a header, and then lines that were
@@ -78,34 +62,25 @@ listed d n n' l old new rd rd' none r =
     let kept : r.0 ≡ new.commands.items = sym (r.2.0 ∙ ap (λ (cs : List Command). cs ++ r.0) none) in
     subst (λ (cs : List Command). Reads d None n n' rd rd' (Some l) cs (Ok false)) kept r.1
 
-pub lists_silent : (s t : Listing) (cs : List Command) (text : List ℕ) → Lists s cs text t → text ≡ []
-lists_silent s t cs text h = h.1
-
-puts_silent : {V E : Type 0} (a b : Option (List ℕ)) (r : Result V E) → Appends a b [] → Puts a b r []
-puts_silent a b (Ok v) w = w
-puts_silent a b (Err v) w = ([], [], w, refl)
-
 -- a trace that was not read to its end
 pub scripts_unread : (Ran : Outcome) (d : Dialect) (n n' : ℕ) (rd rd' out out' : Option (List ℕ)) (stop : Stop) → WasUnread d n n' rd rd' (Err stop) [] → Appends out out' []
     → (text : List ℕ) × Scripted Ran d n n' rd rd' (Err stop) text × Writes {V = Unit {0}} out out' (Err stop) text
 scripts_unread Ran d n n' rd rd' out out' stop s w =
-    ([], inl s, puts_silent out out' (written_by {V = Unit {0}} (Err stop)) w)
+    ([], inl s, puts_then out out' out' (written_by {V = Unit {0}} (Err stop)) [] [] w (puts_none out' (written_by {V = Unit {0}} (Err stop))))
 
 -- a trace that was read to its end, and what its scripts came to
 pub scripts_run : (Ran : Outcome) (d : Dialect) (n n' : ℕ) (l : Shape) (cs : List Command) (rd rd' out mid_out out' : Option (List ℕ)) (r : Result (Unit {0}) Stop) → Reads d None n n' rd rd' (Some l) cs (Ok false) → Appends out mid_out []
     → (text : List ℕ) × Ran l cs r text × Writes mid_out out' r text → (text : List ℕ) × Scripted Ran d n n' rd rd' r text × Writes out out' r text
 scripts_run Ran d n n' l cs rd rd' out mid_out out' r read w t = (t.0, inr (record { layout = l; commands = cs; read = read; ran = t.1 }), puts_then out mid_out out' (written_by r) [] t.0 w t.2)
 
-pub refused_trace : (Ran : Outcome) → ((l : Shape) (cs : List Command) (r : Result (Unit {0}) Stop) (text : List ℕ) → Ran l cs r text → IsRunEnd r) → (d : Dialect) → Says (Scripted Ran d) Refused (IsRefusedTrace d)
-refused_trace Ran ends d = says_refused (Scripted Ran d) (IsRefusedTrace d) refused
+pub scripts_replayed : (Ran : Outcome) → ((l : Shape) (cs : List Command) (r : Result (Unit {0}) Stop) (text : List ℕ) → Ran l cs r text → IsRunEnd r) → (d : Dialect) (first n : ℕ) (rd rd' out out1 out' : Option (List ℕ)) (r : Result (Unit {0}) Stop) (end : End) → first ≡ 1
+    → WritesSome (Scripted Ran d first n rd rd') out out1 r → IsEndWritten out1 out' r (ending_line n r) end → IsScriptReplayed Ran d rd rd' out out' end
+scripts_replayed Ran ends d first n rd rd' out out1 out' r end one t w = replayed d (Scripted Ran) _ _ whole refused n rd' out out' t.0 first rd out1 r end one t.1 t.2 w
   where
-    refused : (n : ℕ) (xs : List ℕ) (rd' out out' : Option (List ℕ)) (f : TraceFault) (text : List ℕ) → Scripted Ran d 1 n (Some xs) rd' (Err (Fault f)) text → Appends out out' (text ++ fault_line n f) → IsRefusedTrace d xs out out'
-    refused n xs rd' out out' f text (inl t) w = record {
-      heap = t.heap;
-      commands = t.commands;
-      number = n;
-      fault = f;
-      trace = faulty_trace d xs rd' n t.heap t.commands f t.read;
-      written = subst (λ (w : List ℕ). Appends out out' w) (ap (λ w. w ++ fault_line n f) t.silent) w;
-    }
-    refused n xs rd' out out' f text (inr t) w = absurd (ends t.layout t.commands (Err (Fault f)) text t.ran)
+    whole : ReadsAs d (Scripted Ran d) (Ok tt) (λ heap cs text. IfSome heap (λ l. Ran l cs (Ok tt) text))
+    whole n rd rd' text (inl t) = absurd t.ends
+    whole n rd rd' text (inr t) = (Some t.layout, t.commands, t.read, t.ran)
+
+    refused : (f : TraceFault) → ReadsAs d (Scripted Ran d) (Err (Fault f)) (λ _ _ text. text ≡ [])
+    refused f n rd rd' text (inl t) = (t.heap, t.commands, t.read, t.silent)
+    refused f n rd rd' text (inr t) = absurd (⊎_elim (λ x. x) (λ x. x) (ends t.layout t.commands (Err (Fault f)) text t.ran))

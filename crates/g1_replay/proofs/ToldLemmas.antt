@@ -1,6 +1,7 @@
 -- From what was read and played to the text of a permitted run.
-use Rattle.std.specs.Prelude.{◌≡◌, ◌≤◌, ◌++◌, ◌⊎◌}
-use Rattle.g1_replay.specs.{ℕ, List, [], refl, length, sym, ap, ◌∙◌, subst, arith, Option, Some, None, true, inl, inr, Result, Ok, Err, IfErr, IfSome, IfNone, Appends-nil, Shape, Settings, opening, Entry, IsPermitted, History, IsHistory, Terms, layout_in, Command, Dialect, Options, Stop, Fault, NoMemory, BookFull, NoThread, ReadFailed, StartsNoThread, Told, end_met, AreSetBy, entries_of, IsOpened, IsBookFull, IsUndone, HasPlayed, Follows, MayStop, Writes, IsReadStop, Reads}
+use Rattle.std.specs.Prelude.{◌≡◌, ◌≢◌, ◌≤◌, ◌++◌, ◌⊎◌}
+use Rattle.g1_replay.specs.{Bool, ℕ, List, [], refl, length, sym, ap, ◌∙◌, subst, arith, Option, Some, None, true, Result, Ok, Err, IfErr, IfSome, IfNone, Shape, Settings, opening, Entry, IsPermitted, History, IsHistory, Terms, layout_in, Command, Dialect, Options, Stop, Fault, NoMemory, BookFull, NoThread, Told, WritesSome, written_by, puts_none, ⊎_elim, end_met, AreSetBy, entries_of, IsOpened, IsBookFull, HasPlayed, Follows, MayStop, Writes, IsReadStop, Reads}
+use Rattle.g1_replay.proofs.PlayingLemmas.{none_undone}
 use Rattle.g1_replay.proofs.ReadingLemmas.{reads_then}
 
 abbrev no_command : List Command
@@ -14,50 +15,35 @@ nothing_permitted : (heap : Option Shape) → IfSome heap (λ l. IsPermitted (op
 nothing_permitted None = tt
 nothing_permitted (Some l) = tt
 
-nothing_full : (history : ℕ) (stop : Stop) → IsUndone {V = Unit {0}} (Err stop) [] → stop ≡ BookFull → 0 ≡ history
-nothing_full history BookFull none e = cc
-nothing_full history stop none e = cc
-
 -- nothing was done
-told_nothing : (d : Dialect) (s : Settings) (history n n' : ℕ) (rd rd' : Option (List ℕ)) (heap : Option Shape) (stop : Stop) → StartsNoThread (Err stop) → IsUndone {V = Unit {0}} (Err stop) [] → Reads d None n n' rd rd' heap [] (Err stop)
-    → Told d s history n n' rd rd' (Err stop) []
-told_nothing d s history n n' rd rd' heap stop ends none read = record {
-  heap = heap;
-  commands = [];
-  done = [];
-  undone = [];
-  pieces = [];
-  ends = ends;
-  read = read;
-  all = refl;
-  stopped = none;
-  walked = tt;
-  set = tt;
-  unopened = no_commands heap;
-  permitted = nothing_permitted heap;
-  within = omega arith;
-  full = λ e. nothing_full history stop none cc;
-  said = refl;
-}
+pub told_nothing : (d : Dialect) (s : Settings) (history n n' : ℕ) (rd rd' out : Option (List ℕ)) (heap : Option Shape) (stop : Stop) → stop ≢ NoThread → stop ≢ BookFull → Reads d None n n' rd rd' heap [] (Err stop) → WritesSome (Told d s history n n' rd rd') out out (Err stop)
+told_nothing d s history n n' rd rd' out heap stop no_thread no_book read = (
+  [],
+  record {
+    heap = heap;
+    commands = [];
+    done = [];
+    undone = [];
+    ends = λ e. let same : stop ≡ NoThread = cc in no_thread same;
+    read = read;
+    all = refl;
+    stopped = none_undone {V = Bool} (Err stop) (λ e. let same : stop ≡ BookFull = cc in no_book same);
+    unopened = no_commands heap;
+    run = record { pieces = []; walked = tt; set = tt; unopened = no_commands heap; permitted = nothing_permitted heap; said = refl };
+    within = omega arith;
+    full = λ e. let same : stop ≡ BookFull = cc in absurd (no_book same);
+  },
+  puts_none out (written_by {V = Unit {0}} (Err stop)),
+)
 
 -- a trace without a header
-pub head_told : (d : Dialect) (s : Settings) (history n n' : ℕ) (rd rd' out : Option (List ℕ)) (stop : Stop) → IsReadStop stop → Reads d None n n' rd rd' None [] (Err stop)
-    → (text : List ℕ) × Told d s history n n' rd rd' (Err stop) text × Writes {V = Unit {0}} out out (Err stop) text
-head_told d s history n n' rd rd' out (Fault f) h read = ([], told_nothing d s history n n' rd rd' None (Fault f) tt refl read, Appends-nil out)
-head_told d s history n n' rd rd' out ReadFailed h read = ([], told_nothing d s history n n' rd rd' None ReadFailed tt refl read, Appends-nil out)
-head_told d s history n n' rd rd' out stop h read = absurd h
+pub head_told : (d : Dialect) (s : Settings) (history n n' : ℕ) (rd rd' out : Option (List ℕ)) (stop : Stop) → IsReadStop stop → Reads d None n n' rd rd' None [] (Err stop) → WritesSome (Told d s history n n' rd rd') out out (Err stop)
+head_told d s history n n' rd rd' out stop h read = told_nothing d s history n n' rd rd' out None stop (λ e. subst IsReadStop e h) (λ e. subst IsReadStop e h) read
 
 -- a header, and no memory for what it asks for
-pub unopened_told : (d : Dialect) (s : Settings) (history n n' : ℕ) (l : Shape) (rd rd' out : Option (List ℕ)) → Reads d None n n' rd rd' (Some l) [] (Ok true)
-    → (text : List ℕ) × Told d s history n n' rd rd' (Err NoMemory) text × Writes {V = Unit {0}} out out (Err NoMemory) text
+pub unopened_told : (d : Dialect) (s : Settings) (history n n' : ℕ) (l : Shape) (rd rd' out : Option (List ℕ)) → Reads d None n n' rd rd' (Some l) [] (Ok true) → WritesSome (Told d s history n n' rd rd') out out (Err NoMemory)
 unopened_told d s history n n' l rd rd' out read =
-    let table_at : Reads d None n n' rd rd' (Some l) [] (Err NoMemory) = record { lines = read.lines; rest = read.rest; consumed = read.consumed; passed = read.passed; met = read.met } in
-    ([], told_nothing d s history n n' rd rd' (Some l) NoMemory tt (omega arith) table_at, Appends-nil out)
-
-undone_as : (r : Result (Unit {0}) Stop) (undone : List Command) → IsUndone (end_met r) undone → IsUndone r undone
-undone_as (Ok done) undone h = h
-undone_as (Err (Fault f)) undone h = h
-undone_as (Err stop) undone h = h
+    told_nothing d s history n n' rd rd' out (Some l) NoMemory (λ e. cc) (λ e. cc) (record { lines = read.lines; rest = read.rest; consumed = read.consumed; passed = read.passed; met = read.met })
 
 pub written_as : (out out' : Option (List ℕ)) (r : Result (Unit {0}) Stop) (text : List ℕ) → Writes out out' (end_met r) text → Writes out out' r text
 written_as out out' (Ok done) text w = w
@@ -65,18 +51,14 @@ written_as out out' (Err (Fault f)) text w = w
 written_as out out' (Err stop) text w = w
 
 -- neither a line nor a command starts a thread
-starts_none : (r : Result (Unit {0}) Stop) → IfErr r (λ stop. IsReadStop stop ⊎ MayStop stop) → StartsNoThread r
-starts_none (Ok done) h = tt
-starts_none (Err (Fault f)) h = tt
-starts_none (Err NoThread) (inl h) = absurd h
-starts_none (Err NoThread) (inr h) = absurd h
-starts_none (Err stop) h = tt
+starts_none : (r : Result (Unit {0}) Stop) → IfErr r (λ stop. IsReadStop stop ⊎ MayStop stop) → r ≢ Err NoThread
+starts_none r h e = ⊎_elim (λ x. x) (λ x. x) (subst (λ r. IfErr r (λ stop. IsReadStop stop ⊎ MayStop stop)) e h)
 
 -- what was read and played behind the header is the text of a permitted run
 pub played_told : {S : Type 0} (book_of : S → History) (d : Dialect) (o : Options) (n n1 n' : ℕ) (l : Shape) (old new : S) (rd rd1 rd' out out' : Option (List ℕ)) (r : Result (Unit {0}) Stop)
     → IsOpened l o (book_of old) → Reads d None n n1 rd rd1 (Some l) [] (Ok true)
     → Follows (λ s cs text t. HasPlayed (book_of s) cs text (book_of t)) (λ s. IsBookFull (book_of s)) d l n1 n' old new rd1 rd' out out' (end_met r) → IfErr r (λ stop. IsReadStop stop ⊎ MayStop stop) → IsHistory (book_of new)
-    → (text : List ℕ) × Told d o.config o.history n n' rd rd' r text × Writes out out' r text
+    → WritesSome (Told d o.config o.history n n' rd rd') out out' r
 played_told book_of d o n n1 n' l old new rd rd1 rd' out out' r is head f stops h =
     let p = f.done.made in
     let es : (book_of new).entries ≡ entries_of p.pieces = p.grows.entries ∙ ap (λ (h : History). h.entries ++ entries_of p.pieces) is in
@@ -88,18 +70,21 @@ played_told book_of d o n n1 n' l old new rd rd1 rd' out out' r is head f stops 
         commands = f.commands;
         done = f.done.done;
         undone = f.done.undone;
-        pieces = p.pieces;
         ends = starts_none r stops;
         read = reads_then d None (Some l) (Some l) n n1 n' rd rd1 rd' [] f.commands (end_met r) head f.read;
         all = f.done.all;
-        stopped = undone_as r f.done.undone f.done.stopped;
-        walked = p.walked;
-        set = subst (λ (h : History). AreSetBy h.machine.settings f.done.done p.pieces) is p.set;
+        stopped = f.done.stopped;
         unopened = tt;
-        permitted = subst (λ (xs : List Entry). IsPermitted (opening l) xs) es (subst (λ (s : Shape). IsPermitted (opening s) (book_of new).entries) shape h.run);
+        run = record {
+          pieces = p.pieces;
+          walked = p.walked;
+          set = subst (λ (h : History). AreSetBy h.machine.settings f.done.done p.pieces) is p.set;
+          unopened = tt;
+          permitted = subst (λ (xs : List Entry). IsPermitted (opening l) xs) es (subst (λ (s : Shape). IsPermitted (opening s) (book_of new).entries) shape h.run);
+          said = p.said;
+        };
         within = subst (λ (xs : List Entry). length xs ≤ o.history) es (subst (λ (k : ℕ). length (book_of new).entries ≤ k) most h.within);
         full = λ e. ap (λ (xs : List Entry). length xs) (sym es) ∙ f.done.filled (ap end_met e) ∙ most;
-        said = p.said;
       },
       written_as out out' r f.done.text f.done.written,
     )

@@ -1,7 +1,8 @@
 -- Drains of a core, one after another.
 use Rattle.std.specs.Prelude.{◌≡◌, ◌∷◌, ◌++◌}
-use Rattle.g1_replay.specs.Prelude.{ℕ, List, [], refl, sym, ap, ◌∙◌, subst, append_assoc, Drained}
-use Rattle.g1_replay.specs.Prelude.{drain_entry, Machine, IsStep, Table, Command, Drain, Call}
+use Rattle.g1_replay.specs.Prelude.{ℕ, List, [], refl, sym, ap, ◌∙◌, subst, flat_map-append}
+use Rattle.g1_replay.specs.Prelude.{Drained, drain_entry, Machine, IsStep, Table, Command, Drain}
+use Rattle.g1_replay.specs.Prelude.{Call}
 use Rattle.g1_replay.specs.Race.{drain_text, drained_text}
 
 -- from one table to another just these drains were made, and they answered so
@@ -27,12 +28,6 @@ drains_then a b c (Call (Drain region) ∷ cs) ds (x ∷ xs) ys p q =
     (p.0, p.1, drains_then p.0 b c cs ds xs ys p.2 q)
 drains_then a b c cs ds xs ys p q = absurd p
 
-text_then : (xs ys : List Drained) → drained_text (xs ++ ys) ≡ drained_text xs ++ drained_text ys
-text_then [] ys = refl
-text_then (x ∷ xs) ys =
-    ap (λ l. drain_text x ++ l) (text_then xs ys)
-    ∙ sym (append_assoc (drain_text x) (drained_text xs) (drained_text ys))
-
 pub core_drained_none : (m : Machine) → CoreDrained m [] [] m
 core_drained_none m = record { answers = []; made = refl; said = refl; heap = refl }
 
@@ -43,7 +38,7 @@ core_drained_then a b c cs ds xs ys p q = record {
   made = drains_then a.state.table b.state.table c.state.table cs ds p.answers q.answers p.made
       q.made;
   said = ap (λ l. l ++ ys) p.said ∙ ap (λ l. drained_text p.answers ++ l) q.said
-      ∙ sym (text_then p.answers q.answers);
+      ∙ sym (flat_map-append drain_text p.answers q.answers);
   heap = q.heap ∙ p.heap;
 }
 

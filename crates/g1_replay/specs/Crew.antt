@@ -1,14 +1,12 @@
 -- What a crew writes: how many stores its run has, and the drains that end it.
-use Rattle.std.specs.Prelude.{◌≡◌, ◌≤◌, ◌⊎◌, ◌++◌}
-use Rattle.g1_replay.specs.Prelude.{ℕ, List, [], Result, Ok, Err, Option, Some, None, count_by}
-use Rattle.g1_replay.specs.Prelude.{length, Appends, Shape, opening, Entry, IsPermitted, is_store}
-use Rattle.g1_replay.specs.Prelude.{Command, Dialect, stores_text, read_trace}
+use Rattle.std.specs.Prelude.{◌≡◌, ◌≢◌, ◌≤◌, ◌⊎◌, ◌++◌}
+use Rattle.g1_replay.specs.Prelude.{ℕ, List, [], Result, Ok, Err, length, count_by, Shape, opening}
+use Rattle.g1_replay.specs.Prelude.{Entry, IsPermitted, is_store, Command, stores_text}
 use Rattle.g1_replay.specs.declared.stop.Stop.{Stop}
-use Rattle.g1_replay.specs.declared.stop.Stop.TheVariants.{BookFull}
+use Rattle.g1_replay.specs.declared.stop.Stop.TheVariants.{BookFull, NoThread}
 use Rattle.g1_replay.specs.Drains.{drains}
-use Rattle.g1_replay.specs.Output.{StartsNoThread}
 use Rattle.g1_replay.specs.Pieces.{Piece, Walks, lines_of, entries_of}
-use Rattle.g1_replay.specs.Scripted.{IsRunEnd, Scripted}
+use Rattle.g1_replay.specs.Scripted.{IsRunEnd, Outcome}
 
 -- Nothing was drained or written, since something stopped the crew; or how many stores a run has
 -- was, and the lines of the drains behind it.
@@ -16,7 +14,7 @@ abbrev pub IsCrewText : List Entry → List Command → List Piece → Result (U
     → Type 0
 IsCrewText entries commands pieces r text =
     ((stop : Stop) × (r ≡ Err stop) × (commands ≡ []) × (text ≡ []))
-    ⊎ (StartsNoThread r
+    ⊎ ((r ≢ Err NoThread)
     × (text ≡ stores_text (count_by is_store entries) ++ lines_of commands pieces))
 
 -- The scripts came to a permitted run, which drains of the first regions end; at the whole end
@@ -35,22 +33,6 @@ pub record CrewRan (l : Shape) (history : ℕ) (r : Result (Unit {0}) Stop)
   pub all : r ≡ Ok tt → drained ≡ l.regions
   pub said : IsCrewText entries (drains drained) pieces r text
 
--- what a crew reads and writes, but for the line of its end
-abbrev pub Crewed : Dialect → ℕ → ℕ → ℕ → Option (List ℕ) → Option (List ℕ) → Result (Unit {0}) Stop
-    → List ℕ → Type 0
-Crewed d history n n' rd rd' r text = Scripted (λ l _. CrewRan l history) d n n' rd rd' r text
-
--- The whole output: the trace has no fault, and this is how many stores a permitted run has, with
--- the lines of the drains of all regions that end it.
-pub record IsWholeCrew (d : Dialect) (history : ℕ) (bytes : List ℕ)
-    (out out' : Option (List ℕ)) : Type 0 where
-  pub layout : Shape
-  pub commands : List Command
-  pub entries : List Entry
-  pub pieces : List Piece
-  pub trace : read_trace d bytes ≡ record { heap = Some layout; commands = commands; fault = None }
-  pub walked : Walks (drains layout.regions) pieces
-  pub permitted : IsPermitted (opening layout) (entries ++ entries_of pieces)
-  pub within : length (entries ++ entries_of pieces) ≤ history
-  pub written : Appends out out' (stores_text (count_by is_store entries)
-      ++ lines_of (drains layout.regions) pieces)
+-- what the scripts of a crew come to
+abbrev pub CrewRuns : ℕ → Outcome
+CrewRuns history l commands r text = CrewRan l history r text

@@ -1,8 +1,8 @@
 -- Pieces behind pieces, and plays that follow each other.
 use Rattle.std.specs.Prelude.{◌≡◌, ◌∷◌, ◌++◌}
 use Rattle.g1_replay.specs.Prelude.{ℕ, List, [], refl, sym, ◌∙◌, ap, subst, append_assoc}
-use Rattle.g1_replay.specs.Prelude.{append-nil, Settings, Entry, History, Terms, layout_in, Grows}
-use Rattle.g1_replay.specs.Prelude.{Command}
+use Rattle.g1_replay.specs.Prelude.{append-nil, flat_map-append, Settings, Entry, History, Terms}
+use Rattle.g1_replay.specs.Prelude.{layout_in, Grows, grows_none, grows_then, Command}
 use Rattle.g1_replay.specs.Playing.{HasPlayed}
 use Rattle.g1_replay.specs.Pieces.{Piece, IsPieceOf, IsSetBy, AreSetBy, Walks, line_of, lines_of}
 use Rattle.g1_replay.specs.Pieces.{entries_of}
@@ -19,12 +19,6 @@ set_then s [] ds [] qs w a b = b
 set_then s (c ∷ cs) ds (p ∷ ps) qs w a b = (a.0, set_then s cs ds ps qs w.1 a.1 b)
 set_then s cs ds ps qs w a b = absurd w
 
-pub entries_then : (ps qs : List Piece) → entries_of (ps ++ qs) ≡ entries_of ps ++ entries_of qs
-entries_then [] qs = refl
-entries_then (p ∷ ps) qs =
-    ap (λ l. p.entries ++ l) (entries_then ps qs)
-    ∙ sym (append_assoc p.entries (entries_of ps) (entries_of qs))
-
 lines_then : (cs ds : List Command) (ps qs : List Piece) → Walks cs ps
     → lines_of (cs ++ ds) (ps ++ qs) ≡ lines_of cs ps ++ lines_of ds qs
 lines_then [] ds [] qs w = refl
@@ -33,19 +27,8 @@ lines_then (c ∷ cs) ds (p ∷ ps) qs w =
     ∙ sym (append_assoc (line_of c p) (lines_of cs ps) (lines_of ds qs))
 lines_then cs ds ps qs w = absurd w
 
-grows_nil : (h : History) → Grows h [] h
-grows_nil h = record { entries = sym (append-nil h.entries); terms = refl }
-
-grows_more : (a b c : History) (es fs : List Entry) → Grows a es b → Grows b fs c
-    → Grows a (es ++ fs) c
-grows_more a b c es fs p q =
-    record {
-      entries = q.entries ∙ ap (λ l. l ++ fs) p.entries ∙ append_assoc a.entries es fs;
-      terms = q.terms ∙ p.terms;
-    }
-
 pub played_none : (h : History) → HasPlayed h [] [] h
-played_none h = record { pieces = []; walked = tt; set = tt; grows = grows_nil h; said = refl }
+played_none h = record { pieces = []; walked = tt; set = tt; grows = grows_none h; said = refl }
 
 pub played_then : (a b c : History) (cs ds : List Command) (xs ys : List ℕ) → HasPlayed a cs xs b
     → HasPlayed b ds ys c → HasPlayed a (cs ++ ds) (xs ++ ys) c
@@ -54,8 +37,9 @@ played_then a b c cs ds xs ys p q = record {
   walked = walks_then cs ds p.pieces q.pieces p.walked q.walked;
   set = set_then a.machine.settings cs ds p.pieces q.pieces p.walked p.set
       (subst (λ (t : Terms). AreSetBy t.settings ds q.pieces) p.grows.terms q.set);
-  grows = subst (λ (es : List Entry). Grows a es c) (sym (entries_then p.pieces q.pieces))
-      (grows_more a b c (entries_of p.pieces) (entries_of q.pieces) p.grows q.grows);
+  grows = subst (λ (es : List Entry). Grows a es c)
+      (sym (flat_map-append (λ (x : Piece). x.entries) p.pieces q.pieces))
+      (grows_then a b c (entries_of p.pieces) (entries_of q.pieces) p.grows q.grows);
   said = ap (λ l. l ++ ys) p.said ∙ ap (λ l. lines_of cs p.pieces ++ l) q.said
       ∙ sym (lines_then cs ds p.pieces q.pieces p.walked);
 }

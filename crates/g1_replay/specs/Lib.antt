@@ -5,7 +5,6 @@ pub mod Reading
 pub mod Pieces
 pub mod Output
 pub mod Playing
-pub mod Stops
 pub mod Laws
 pub mod Scripted
 pub mod Drains
@@ -14,7 +13,6 @@ pub mod Race
 pub mod CoreDrains
 pub mod RaceJobs
 pub mod Scripts
-pub mod Status
 pub mod Still
 pub mod Members
 unfoldable pub use Prelude.*
@@ -23,7 +21,6 @@ pub use Reading.*
 pub use Pieces.*
 pub use Output.*
 pub use Playing.*
-pub use Stops.*
 pub use Laws.*
 pub use Scripted.*
 pub use Drains.*
@@ -32,7 +29,6 @@ pub use Race.*
 pub use CoreDrains.*
 pub use RaceJobs.*
 pub use Scripts.*
-pub use Status.*
 pub use Still.*
 pub use Members.*
 pub use declared.end.End.{End}
@@ -43,6 +39,7 @@ pub use declared.lines.line.Part.TheVariants.{Failed, More, Nothing}
 pub use declared.races.desk.Member.{Member}
 pub use declared.races.desk.Member.TheVariants.{Racing, Sweeping}
 pub use declared.races.listing.Listing.{Listing}
+pub use declared.races.members.Returned.{Returned}
 pub use declared.stop.Stop.{Stop}
 pub use declared.stop.Stop.TheVariants.{BookFull, Fault, NoMemory, NoThread, ReadFailed}
 pub use declared.stop.Stop.TheVariants.{WriteFailed}

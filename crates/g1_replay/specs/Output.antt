@@ -1,5 +1,5 @@
 -- What a replay writes: the text of a permitted run of the commands that were read.
-use Rattle.std.specs.Prelude.{◌≡◌, ◌≤◌, ◌++◌}
+use Rattle.std.specs.Prelude.{◌≡◌, ◌≢◌, ◌≤◌, ◌++◌}
 use Rattle.g1_replay.specs.Prelude.{ℕ, List, [], Bool, false, Result, Ok, Err, Option, Some, None}
 use Rattle.g1_replay.specs.Prelude.{IfSome, IfNone, length, Appends, Shape, Settings, opening}
 use Rattle.g1_replay.specs.Prelude.{IsPermitted, Command, Dialect, TraceFault, Options}
@@ -31,10 +31,16 @@ dialect_in mode o = record { mode = mode; mutators = o.mutators }
 abbrev pub Tale : Type 1
 Tale = ℕ → ℕ → Option (List ℕ) → Option (List ℕ) → Result (Unit {0}) Stop → List ℕ → Type 0
 
--- what may end a part of a replay that starts no thread
-abbrev pub StartsNoThread : Result (Unit {0}) Stop → Type 0
-StartsNoThread (Err NoThread) = ⊥
-StartsNoThread r = Unit {0}
+-- The text is that of a permitted run which belongs to these commands of a heap, by a book of these
+-- settings; before the header there are none.
+pub record IsRunText (s : Settings) (heap : Option Shape) (commands : List Command)
+    (text : List ℕ) : Type 0 where
+  pub pieces : List Piece
+  pub walked : Walks commands pieces
+  pub set : AreSetBy s commands pieces
+  pub unopened : IfNone heap (commands ≡ [])
+  pub permitted : IfSome heap (λ l. IsPermitted (opening l) (entries_of pieces))
+  pub said : text ≡ lines_of commands pieces
 
 -- The text is that of a permitted run which belongs to the commands before the end, by a book of
 -- these settings. The run has at most `history` entries, and just as many where the book is full.
@@ -44,18 +50,14 @@ pub record Told (d : Dialect) (s : Settings) (history n n' : ℕ) (rd rd' : Opti
   pub commands : List Command
   pub done : List Command
   pub undone : List Command
-  pub pieces : List Piece
-  pub ends : StartsNoThread r
+  pub ends : r ≢ Err NoThread
   pub read : Reads d None n n' rd rd' heap commands (end_met r)
   pub all : commands ≡ done ++ undone
-  pub stopped : IsUndone r undone
-  pub walked : Walks done pieces
-  pub set : AreSetBy s done pieces
+  pub stopped : IsUndone (end_met r) undone
   pub unopened : IfNone heap (commands ≡ [])
-  pub permitted : IfSome heap (λ l. IsPermitted (opening l) (entries_of pieces))
-  pub within : length (entries_of pieces) ≤ history
-  pub full : r ≡ Err BookFull → length (entries_of pieces) ≡ history
-  pub said : text ≡ lines_of done pieces
+  pub run : IsRunText s heap done text
+  pub within : length (entries_of run.pieces) ≤ history
+  pub full : r ≡ Err BookFull → length (entries_of run.pieces) ≡ history
 
 -- the line of the end
 abbrev pub ending_line : ℕ → Result (Unit {0}) Stop → List ℕ
@@ -76,54 +78,58 @@ end_of (Err NoThread) = Stopped
 end_of (Err ReadFailed) = EndReadFailed
 end_of (Err WriteFailed) = EndWriteFailed
 
+-- the exit status of each end
+abbrev pub exit_status : End → ℕ
+exit_status Whole = 0
+exit_status Refused = 2
+exit_status Stopped = 3
+exit_status EndReadFailed = 4
+exit_status EndWriteFailed = 5
+
 -- the end, and what was written of the text with its line
 abbrev pub IsEndWritten : Option (List ℕ) → Option (List ℕ) → Result (Unit {0}) Stop → List ℕ → End
     → Type 0
 IsEndWritten out out' r text EndWriteFailed = AppendsFront out out' text
 IsEndWritten out out' r text end = (end ≡ end_of r) × Appends out out' text
 
--- A trace was replayed from its first line on, and this is its end. The text and the line of the
--- end were written, and the whole output is known where the trace was done whole or has a fault.
-pub record IsReplayed (Tells : Tale)
-    (IsWhole IsRefused : List ℕ → Option (List ℕ) → Option (List ℕ) → Type 0)
-    (rd rd' out out' : Option (List ℕ)) (end : End) : Type 0 where
-  pub told : (number : ℕ) × (outcome : Result (Unit {0}) Stop) × (text : List ℕ)
-      × Tells 1 number rd rd' outcome text
-      × IsEndWritten out out' outcome (text ++ ending_line number outcome) end
-  pub whole : end ≡ Whole → IfSome rd (λ bytes. IsWhole bytes out out')
-  pub refused : end ≡ Refused → IfSome rd (λ bytes. IsRefused bytes out out')
-
-abbrev pub end_or_failed : {V E : Type 0} → Result V E → End → End
-end_or_failed (Ok v) end = end
-end_or_failed (Err e) end = EndWriteFailed
-
--- The whole output: the trace has these commands and no fault.
-pub record IsWholeOutput (d : Dialect) (s : Settings) (bytes : List ℕ)
-    (out out' : Option (List ℕ)) : Type 0 where
+-- The whole output: the trace has these commands and no fault, and this is their text.
+pub record IsWholeOutput (IsText : Option Shape → List Command → List ℕ → Type 0) (d : Dialect)
+    (bytes : List ℕ) (out out' : Option (List ℕ)) : Type 0 where
   pub layout : Shape
   pub commands : List Command
-  pub pieces : List Piece
+  pub text : List ℕ
   pub trace : read_trace d bytes ≡ record { heap = Some layout; commands = commands; fault = None }
-  pub walked : Walks commands pieces
-  pub set : AreSetBy s commands pieces
-  pub permitted : IsPermitted (opening layout) (entries_of pieces)
-  pub written : Appends out out' (lines_of commands pieces)
+  pub said : IsText (Some layout) commands text
+  pub written : Appends out out' text
 
--- The whole output: the trace has these commands before its first fault.
-pub record IsRefusedOutput (d : Dialect) (s : Settings) (bytes : List ℕ)
-    (out out' : Option (List ℕ)) : Type 0 where
+-- The whole output: the trace has these commands before its first fault, and this is their text,
+-- which the line of the fault follows.
+pub record IsRefusedOutput (IsText : Option Shape → List Command → List ℕ → Type 0) (d : Dialect)
+    (bytes : List ℕ) (out out' : Option (List ℕ)) : Type 0 where
   pub heap : Option Shape
   pub commands : List Command
   pub number : ℕ
   pub fault : TraceFault
-  pub pieces : List Piece
+  pub text : List ℕ
   pub trace : read_trace d bytes ≡ record {
     heap = heap;
     commands = commands;
     fault = Some (number, fault);
   }
-  pub unopened : IfNone heap (commands ≡ [])
-  pub walked : Walks commands pieces
-  pub set : AreSetBy s commands pieces
-  pub permitted : IfSome heap (λ l. IsPermitted (opening l) (entries_of pieces))
-  pub written : Appends out out' (lines_of commands pieces ++ fault_line number fault)
+  pub said : IsText heap commands text
+  pub written : Appends out out' (text ++ fault_line number fault)
+
+-- A trace was replayed from its first line on, and this is its end. The text and the line of the
+-- end were written, and the whole output is known where the trace was done whole or has a fault.
+pub record IsReplayed (d : Dialect) (Tells : Dialect → Tale)
+    (IsWhole IsRefused : Option Shape → List Command → List ℕ → Type 0)
+    (rd rd' out out' : Option (List ℕ)) (end : End) : Type 0 where
+  pub told : (number : ℕ) × (outcome : Result (Unit {0}) Stop) × (text : List ℕ)
+      × Tells d 1 number rd rd' outcome text
+      × IsEndWritten out out' outcome (text ++ ending_line number outcome) end
+  pub whole : end ≡ Whole → IfSome rd (λ bytes. IsWholeOutput IsWhole d bytes out out')
+  pub refused : end ≡ Refused → IfSome rd (λ bytes. IsRefusedOutput IsRefused d bytes out out')
+
+abbrev pub end_or_failed : {V E : Type 0} → Result V E → End → End
+end_or_failed (Ok v) end = end
+end_or_failed (Err e) end = EndWriteFailed

@@ -1,7 +1,7 @@
 -- The calls that each command of a trace makes, and the line that is printed of them.
 use Rattle.std.specs.Prelude.{◌≡◌, ◌≤◌, ◌⊎◌, ◌||◌, ◌∷◌, ◌++◌, if◌then◌else◌}
-use Rattle.g1_replay.specs.Prelude.{ℕ, Bool, true, false, List, [], All, sum_by, length, Kind}
-use Rattle.g1_replay.specs.Prelude.{Logged, Fill, No, Full, Helped, Entry, Reply, Settings}
+use Rattle.g1_replay.specs.Prelude.{ℕ, Bool, true, false, List, [], All, flat_map, sum_by, length}
+use Rattle.g1_replay.specs.Prelude.{Kind, Logged, Fill, No, Full, Helped, Entry, Reply, Settings}
 use Rattle.g1_replay.specs.Prelude.{round_size, Command, stored_line, flushed_line, refined_line}
 use Rattle.g1_replay.specs.Prelude.{worked_line, call_line, FlushReply}
 use Rattle.g1_core.specs.declared.entry.Call.{Call}
@@ -105,25 +105,15 @@ abbrev pub refine_line : List Entry → List ℕ
 refine_line (e ∷ []) = lone_refine_line e.reply e.refined
 refine_line _ = []
 
-abbrev pub taken_in : Reply → ℕ
-taken_in (reply.Refined taken hot skipped left short) = taken
-taken_in _ = 0
-
-abbrev pub hot_in : Reply → ℕ
-hot_in (reply.Refined taken hot skipped left short) = hot
-hot_in _ = 0
-
-abbrev pub skipped_in : Reply → ℕ
-skipped_in (reply.Refined taken hot skipped left short) = skipped
-skipped_in _ = 0
-
-abbrev pub is_short : Reply → Bool
-is_short (reply.Refined taken hot skipped left short) = short
-is_short _ = false
+-- how many buffers a refinement took, how many of their cards were hot and how many it skipped, and
+-- whether it is short; nothing of another reply
+abbrev pub counts_in : Reply → ℕ × ℕ × ℕ × Bool
+counts_in (reply.Refined taken hot skipped left short) = (taken, hot, skipped, short)
+counts_in _ = (0, 0, 0, false)
 
 abbrev pub is_any_short : List Entry → Bool
 is_any_short [] = false
-is_any_short (e ∷ entries) = is_short e.reply || is_any_short entries
+is_any_short (e ∷ entries) = (counts_in e.reply).3 || is_any_short entries
 
 -- a store that did not help; a help was refused only where the log was filled
 abbrev pub lone_store_line : (refused : Bool) → Reply → List ℕ → List ℕ
@@ -137,7 +127,7 @@ lone_store_line _ _ _ = []
 abbrev pub store_line : List Entry → Shown → List ℕ
 store_line (e ∷ []) shown = lone_store_line shown.refused e.reply e.refined
 store_line (e ∷ help ∷ []) shown =
-    stored_line Logged Helped (length help.refined) (is_short help.reply)
+    stored_line Logged Helped (length help.refined) (counts_in help.reply).3
 store_line _ _ = []
 
 -- a flush that did not help, or whose help was refused
@@ -148,15 +138,15 @@ lone_flush_line cards true = flushed_line cards Helped 0 true
 abbrev pub flush_line : List Entry → Shown → List ℕ
 flush_line [] shown = lone_flush_line shown.cards shown.refused
 flush_line (help ∷ []) shown =
-    flushed_line shown.cards Helped (length help.refined) (is_short help.reply)
+    flushed_line shown.cards Helped (length help.refined) (counts_in help.reply).3
 flush_line _ _ = []
 
 -- the sums over the calls of a round
 abbrev pub work_line : List Entry → Shown → List ℕ
 work_line entries shown =
-    worked_line (sum_by (λ e. taken_in e.reply) entries) (sum_by (λ e. length e.refined) entries)
-    (sum_by (λ e. hot_in e.reply) entries)
-    (sum_by (λ e. skipped_in e.reply) entries) shown.left (is_any_short entries || shown.refused)
+    worked_line (sum_by (λ e. (counts_in e.reply).0) entries)
+    (sum_by (λ e. length e.refined) entries) (sum_by (λ e. (counts_in e.reply).1) entries)
+    (sum_by (λ e. (counts_in e.reply).2) entries) shown.left (is_any_short entries || shown.refused)
 
 -- the output line of a command, with its line feed
 abbrev pub line_of : Command → Piece → List ℕ
@@ -184,8 +174,7 @@ AreSetBy s (c ∷ commands) [] = Unit {0}
 AreSetBy s (c ∷ commands) (p ∷ pieces) = IsSetBy s c p.entries × AreSetBy s commands pieces
 
 abbrev pub entries_of : List Piece → List Entry
-entries_of [] = []
-entries_of (p ∷ pieces) = p.entries ++ entries_of pieces
+entries_of pieces = flat_map (λ p. p.entries) pieces
 
 -- one line a command
 abbrev pub lines_of : List Command → List Piece → List ℕ

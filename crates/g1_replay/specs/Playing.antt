@@ -26,6 +26,11 @@ IsReady book mutators line layout dialect =
 abbrev pub IsBookFull : History → Type 0
 IsBookFull book = length book.entries ≡ book.limit
 
+-- what a refused call makes of a replay
+abbrev pub stop_of : Refusal → Stop
+stop_of refusal.NoMemory = NoMemory
+stop_of refusal.BookFull = BookFull
+
 -- A call was refused, and nothing was entered.
 abbrev pub IsCallRefused : History → History → Refusal → Type 0
 IsCallRefused old new refusal.NoMemory = Grows old [] new

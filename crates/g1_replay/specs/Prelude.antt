@@ -1,17 +1,18 @@
 -- What the crate takes from the libraries below it.
 pub use Rattle.std.proofs.BufReadLemmas.{Consumes_shown}
-pub use Rattle.std.proofs.Common.{add-one, add-zero, ap, append-nil, append_assoc, ap₂, arith, cond}
+pub use Rattle.std.proofs.Common.{add-one, add-zero, ap, append-nil, append_assoc, arith, cond}
 pub use Rattle.std.proofs.Common.{Contains, drop, drop-cons, eqb, false, get_or, inl, inr, length}
 pub use Rattle.std.proofs.Common.{length-take-le, List, map, nat_lt, None, Option, refl, rules, set}
 pub use Rattle.std.proofs.Common.{Some, subst, suc, sym, take, true, vec_capacity, vec_len}
 pub use Rattle.std.proofs.Common.{zero-add, ℕ, ⊎_elim, ◌∙◌}
 pub use Rattle.std.proofs.KnownBytes.{Appends-nil, Appends-trans, Consumes-nil, Consumes-trans}
 pub use Rattle.std.proofs.Props.{props}
-pub use Rattle.std.proofs.lemmas.Bool.{cases_Bool, cases_lt, cond-false, cond-true, eq-eqb}
+pub use Rattle.std.proofs.lemmas.Bool.{cases_Bool, cond-false, cond-true, eq-eqb}
 pub use Rattle.std.proofs.lemmas.Bool.{eqb-true, false≢true, le-ltb, lt-ltb, ne_eqb, true≢false}
 pub use Rattle.std.proofs.lemmas.List.{drop-take, get_or-map, get_or-set_other, get_or-set_same}
 pub use Rattle.std.proofs.lemmas.List.{length-append, length-drop, length-map, length-set}
-pub use Rattle.std.proofs.lemmas.List.{map-append, take-append-drop, take-take, take_all, take_more}
+pub use Rattle.std.proofs.lemmas.List.{take-append-drop, take-take, take_all, take_more}
+pub use Rattle.std.proofs.lemmas.List.Concat.{flat_map-append}
 pub use Rattle.std.proofs.lemmas.List.Elements.{All-cons, All-contains, All-head, All-nil, All-pop}
 pub use Rattle.std.proofs.lemmas.List.Elements.{All-push, All-rest, All-same, All-set, All-tail}
 pub use Rattle.std.proofs.lemmas.List.Elements.{filter_map-append, length_all_zip}
@@ -23,8 +24,9 @@ pub use Rattle.std.specs.Iterator.{YieldsFirst}
 pub use Rattle.std.specs.List.{AllZip, cons_option, filter_map, flat_map}
 pub use Rattle.std.specs.Option.{option_or}
 pub use Rattle.std.specs.Prelude.{[], All, Bool, codes, count_by, Err, IfErr, IfNone, IfOk, IfSome}
-pub use Rattle.std.specs.Prelude.{IsNone, IsSome, MatchResult, Ok, OnOk, option_to_list, Result}
-pub use Rattle.std.specs.Prelude.{slice_index, slice_index_or, sum_by, unwrap_or, zero}
+pub use Rattle.std.specs.Prelude.{IsErrAnd, IsNone, IsSome, MatchResult, Ok, OnOk}
+pub use Rattle.std.specs.Prelude.{option_to_list, Result, slice_index, slice_index_or, sum_by}
+pub use Rattle.std.specs.Prelude.{unwrap_or, zero}
 pub use Rattle.std.specs.Vec.Iter.{into_iter_items, into_iter_len}
 pub use Rattle.arrayvec.specs.ArrayVec.{array_vec_len}
 pub use Rattle.g1_core.specs.Adoption.{IsPairOf}
@@ -73,6 +75,7 @@ pub use Rattle.g1_race_words.specs.Steps.{gains_store}
 pub use Rattle.g1_race_words.specs.declared.view.View.{View}
 pub use Rattle.g1_shared.specs.Callers.{CallerState, IsCallerOf}
 pub use Rattle.g1_shared.specs.Counts.{CallerCounts, is_store, kept_terms, shared_terms}
+pub use Rattle.g1_steps.proofs.StepLemmas.{grows_none, grows_then}
 pub use Rattle.g1_steps.specs.Ask.{Ask, AskFlush, asks_in, asks_of, AskStore, AskWork, is_store_ask}
 pub use Rattle.g1_steps.specs.Ask.{ScriptFits, StepFits}
 pub use Rattle.g1_steps.specs.Lent.{Grows, IsBookCall}
@@ -103,5 +106,5 @@ pub use Rattle.g1_trace.specs.declared.dialect.Dialect.{Dialect}
 pub use Rattle.g1_trace.specs.declared.fault.TraceFault.{TraceFault}
 pub use Rattle.g1_trace.specs.declared.fault.TraceFault.TheVariants.{Cut, NoHeader, TooLong}
 pub use Rattle.g1_trace.specs.declared.mode.Mode.TheVariants.{Run}
-pub use Rattle.memchr.specs.Find.{is_byte, IsFirst, IsFirstByte, NoneBefore, Nowhere, places}
+pub use Rattle.memchr.specs.Find.{is_byte}
 unfoldable pub use Rattle.memchr.specs.Find.{places_from}

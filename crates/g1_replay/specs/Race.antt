@@ -1,18 +1,16 @@
 -- What a race writes: how many stores were made, and what the drains that follow answer.
 use Rattle.std.specs.Prelude.{◌≡◌, ◌≢◌, ◌⊎◌, ◌<◌, ◌==◌, ◌&&◌, if◌then◌else◌, ◌∷◌, ◌++◌}
 use Rattle.g1_replay.specs.Prelude.{ℕ, List, [], Bool, true, false, Result, Ok, Err, Option, Some}
-use Rattle.g1_replay.specs.Prelude.{None, Contains, codes, count_by, length, slice_index_or}
-use Rattle.g1_replay.specs.Prelude.{Appends, option_or, Shape, slot_count, card_of, region_of}
-use Rattle.g1_replay.specs.Prelude.{region_of_card, Table, Holds, Drained, Cards, Short, Command}
-use Rattle.g1_replay.specs.Prelude.{Drain, Store, Call, Dialect, drained_line, stores_text}
-use Rattle.g1_replay.specs.Prelude.{read_trace}
+use Rattle.g1_replay.specs.Prelude.{None, Contains, codes, flat_map, count_by, length}
+use Rattle.g1_replay.specs.Prelude.{slice_index_or, option_or, Shape, slot_count, card_of}
+use Rattle.g1_replay.specs.Prelude.{region_of, region_of_card, Table, Holds, Drained, Cards, Short}
+use Rattle.g1_replay.specs.Prelude.{Command, Drain, Store, Call, drained_line, stores_text}
 use Rattle.std.specs.List.Sorted.{IsStrictlyIncreasing}
 use Rattle.std.specs.FinSet as set
 use Rattle.g1_replay.specs.declared.stop.Stop.{Stop}
-use Rattle.g1_replay.specs.declared.stop.Stop.TheVariants.{BookFull}
+use Rattle.g1_replay.specs.declared.stop.Stop.TheVariants.{BookFull, NoThread}
 use Rattle.g1_replay.specs.Drains.{drains}
-use Rattle.g1_replay.specs.Output.{StartsNoThread}
-use Rattle.g1_replay.specs.Scripted.{IsRunEnd, Scripted}
+use Rattle.g1_replay.specs.Scripted.{IsRunEnd, Outcome}
 
 abbrev pub is_store_command : Command → Bool
 is_store_command (Store mutator slot target) = true
@@ -74,8 +72,7 @@ drain_text (Cards cards refined) = drained_line cards
 drain_text (Short refined) = codes "drained short\n"
 
 abbrev pub drained_text : List Drained → List ℕ
-drained_text [] = []
-drained_text (answer ∷ answers) = drain_text answer ++ drained_text answers
+drained_text answers = flat_map drain_text answers
 
 -- The race left these references, and the drains of the first `drained` regions gave these answers.
 pub record HasRaced (l : Shape) (mutators : ℕ) (commands : List Command) (drained : ℕ)
@@ -84,35 +81,15 @@ pub record HasRaced (l : Shape) (mutators : ℕ) (commands : List Command) (drai
   pub left : AreLeftBy l mutators commands refs
   pub exact : AreExact l commands refs (drains drained) answers
 
--- what may end the race of a trace that was read to its end: it has no book
-abbrev pub IsRaceEnd : Result (Unit {0}) Stop → Type 0
-IsRaceEnd (Err BookFull) = ⊥
-IsRaceEnd r = IsRunEnd r
-
 -- Nothing was written, since something stopped the race; or how many stores there are was, and the
 -- lines of the drains of the first regions behind it, at the end without a stop of all regions.
 abbrev pub IsRaceText : Shape → ℕ → List Command → Result (Unit {0}) Stop → List ℕ → Type 0
 IsRaceText l mutators commands r text = ((stop : Stop) × (r ≡ Err stop) × (text ≡ []))
     ⊎ ((drained : ℕ) × (answers : List Drained) × HasRaced l mutators commands drained answers
-    × StartsNoThread r × (r ≡ Ok tt → drained ≡ l.regions)
+    × (r ≢ Err NoThread) × (r ≡ Ok tt → drained ≡ l.regions)
     × (text ≡ stores_text (count_by is_store_command commands) ++ drained_text answers))
 
--- what racing the scripts of these commands comes to
-abbrev pub RaceRan : ℕ → Shape → List Command → Result (Unit {0}) Stop → List ℕ → Type 0
-RaceRan mutators l commands r text = IsRaceEnd r × IsRaceText l mutators commands r text
-
--- what a race reads and writes, but for the line of its end
-abbrev pub RacedTrace : Dialect → ℕ → ℕ → Option (List ℕ) → Option (List ℕ) → Result (Unit {0}) Stop
-    → List ℕ → Type 0
-RacedTrace d n n' rd rd' r text = Scripted (RaceRan d.mutators) d n n' rd rd' r text
-
--- The whole output: the trace has no fault, and this is how many stores it has, with the lines of
--- the drains of all regions over the references that the race left.
-pub record IsWholeRace (d : Dialect) (bytes : List ℕ) (out out' : Option (List ℕ)) : Type 0 where
-  pub layout : Shape
-  pub commands : List Command
-  pub answers : List Drained
-  pub trace : read_trace d bytes ≡ record { heap = Some layout; commands = commands; fault = None }
-  pub raced : HasRaced layout d.mutators commands layout.regions answers
-  pub written : Appends out out' (stores_text (count_by is_store_command commands)
-      ++ drained_text answers)
+-- what racing the scripts of these commands comes to: a race has no book
+abbrev pub RaceRan : ℕ → Outcome
+RaceRan mutators l commands r text =
+    IsRunEnd r × (r ≢ Err BookFull) × IsRaceText l mutators commands r text

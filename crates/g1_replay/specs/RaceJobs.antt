@@ -7,6 +7,7 @@ use Rattle.g1_replay.specs.Prelude.{Script, Mutate, Refine, Command}
 use Rattle.g1_steps.specs.declared.crew.desk.Step.TheVariants as step
 use Rattle.g1_replay.specs.declared.races.desk.Member.{Member}
 use Rattle.g1_replay.specs.declared.races.desk.Member.TheVariants.{Racing, Sweeping}
+use Rattle.g1_replay.specs.declared.races.members.Returned.{Returned}
 use Rattle.g1_replay.specs.Members.{IsMemberOf, is_racer, member_logged}
 use Rattle.g1_replay.specs.Race.{AreLeftBy, StoresInto}
 use Rattle.g1_replay.specs.Scripts.{step_for}
@@ -57,6 +58,13 @@ sweeper_in (Sweeping w t) = Some w
 abbrev pub taker_in : Member → Option Taker
 taker_in (Racing r s) = None
 taker_in (Sweeping w t) = Some t
+
+-- These members are back, each kind in a list of its own, as are the ends of the queue.
+pub record HasBack (members : List Member) (returned : Returned) : Type 0 where
+  pub racers : returned.racers.items ≡ filter_map racer_in members
+  pub senders : returned.senders.items ≡ filter_map sender_in members
+  pub sweepers : returned.sweepers.items ≡ filter_map sweeper_in members
+  pub takers : returned.takers.items ≡ filter_map taker_in members
 
 -- The table that a race of these commands leaves: its references are those that the stores may
 -- leave; it is covered; each recorded pair is of a card outside its region; and each card that

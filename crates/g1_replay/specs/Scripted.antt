@@ -1,26 +1,14 @@
 -- What comes of a trace that is read to its end before its scripts are run.
 use Rattle.std.specs.Prelude.{◌≡◌, ◌⊎◌, ◌++◌}
-use Rattle.g1_replay.specs.Prelude.{ℕ, List, [], false, Result, Ok, Err, Option, Some, None}
-use Rattle.g1_replay.specs.Prelude.{Appends, refl, sym, ap, ◌∙◌, subst, append-nil, append_assoc}
-use Rattle.g1_replay.specs.Prelude.{Shape, Command, Dialect, TraceFault, fault_line, read_trace}
+use Rattle.g1_replay.specs.Prelude.{ℕ, List, [], false, Result, Ok, Option, Some, None, IfSome}
+use Rattle.g1_replay.specs.Prelude.{IfErr, IsErrAnd, refl, sym, ap, ◌∙◌, subst, append-nil}
+use Rattle.g1_replay.specs.Prelude.{append_assoc, Shape, Command, Dialect}
+use Rattle.g1_replay.specs.declared.end.End.{End}
 use Rattle.g1_replay.specs.declared.stop.Stop.{Stop}
-use Rattle.g1_replay.specs.declared.stop.Stop.TheVariants.{Fault, NoMemory, NoThread, ReadFailed}
-use Rattle.g1_replay.specs.Output.{end_met}
+use Rattle.g1_replay.specs.declared.stop.Stop.TheVariants.{NoMemory, NoThread}
+use Rattle.g1_replay.specs.Output.{IsReplayed, end_met}
 use Rattle.g1_replay.specs.Playing.{MayStop}
-use Rattle.g1_replay.specs.Reading.{Reads}
-
--- what ends a trace that was not read to its end
-abbrev pub IsUnread : Result (Unit {0}) Stop → Type 0
-IsUnread (Err (Fault f)) = Unit {0}
-IsUnread (Err NoMemory) = Unit {0}
-IsUnread (Err ReadFailed) = Unit {0}
-IsUnread r = ⊥
-
--- what ends a trace that was read to its end
-abbrev pub IsRunEnd : Result (Unit {0}) Stop → Type 0
-IsRunEnd (Err (Fault f)) = ⊥
-IsRunEnd (Err ReadFailed) = ⊥
-IsRunEnd r = Unit {0}
+use Rattle.g1_replay.specs.Reading.{IsReadStop, Reads}
 
 -- what stops a trace that was read to its end before one of its jobs is run
 abbrev pub IsUnstarted : Stop → Type 0
@@ -28,12 +16,16 @@ IsUnstarted NoMemory = Unit {0}
 IsUnstarted NoThread = Unit {0}
 IsUnstarted stop = ⊥
 
+-- what ends a trace that was read to its end
+abbrev pub IsRunEnd : Result (Unit {0}) Stop → Type 0
+IsRunEnd r = IfErr r (λ stop. IsUnstarted stop ⊎ MayStop stop)
+
 -- The trace was not read to its end, and nothing was run and nothing written.
 pub record WasUnread (d : Dialect) (n n' : ℕ) (rd rd' : Option (List ℕ))
     (r : Result (Unit {0}) Stop) (text : List ℕ) : Type 0 where
   pub heap : Option Shape
   pub commands : List Command
-  pub ends : IsUnread r
+  pub ends : IsErrAnd r (λ stop. IsReadStop stop ⊎ (stop ≡ NoMemory))
   pub read : Reads d None n n' rd rd' heap commands (end_met r)
   pub silent : text ≡ []
 
@@ -54,18 +46,11 @@ abbrev pub Scripted : Outcome → Dialect → ℕ → ℕ → Option (List ℕ) 
     → Result (Unit {0}) Stop → List ℕ → Type 0
 Scripted Ran d n n' rd rd' r text = WasUnread d n n' rd rd' r text ⊎ WasRun Ran d n n' rd rd' r text
 
--- The whole output: the line of the trace's first fault.
-pub record IsRefusedTrace (d : Dialect) (bytes : List ℕ) (out out' : Option (List ℕ)) : Type 0 where
-  pub heap : Option Shape
-  pub commands : List Command
-  pub number : ℕ
-  pub fault : TraceFault
-  pub trace : read_trace d bytes ≡ record {
-    heap = heap;
-    commands = commands;
-    fault = Some (number, fault);
-  }
-  pub written : Appends out out' (fault_line number fault)
+-- Such a trace was replayed. The whole output is the text of its scripts that were run, or the line
+-- of the trace's first fault.
+abbrev pub IsScriptReplayed : Outcome → Dialect → (rd rd' out out' : Option (List ℕ)) → End → Type 0
+IsScriptReplayed Ran d = IsReplayed d (Scripted Ran)
+    (λ heap commands text. IfSome heap (λ l. Ran l commands (Ok tt) text)) (λ _ _ text. text ≡ [])
 
 abbrev pub no_text : List ℕ
 no_text = []

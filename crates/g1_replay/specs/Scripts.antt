@@ -13,19 +13,14 @@ asked_in (Store by slot target) = Some (by, step.Store slot target)
 asked_in (Flush by) = Some (by, step.Flush)
 asked_in c = None
 
+-- what a call that is asked of some mutator is to this one
+abbrev pub own_step : ℕ → Option (ℕ × Step) → Option Step
+own_step mutator None = None
+own_step mutator (Some asked) = if asked.0 == mutator then Some asked.1 else None
+
 -- what a command asks of this mutator, if it is the mutator's
 abbrev pub step_for : ℕ → Command → Option Step
-step_for mutator (Store by slot target) =
-    if by == mutator then Some (step.Store slot target) else None
-step_for mutator (Flush by) = if by == mutator then Some step.Flush else None
-step_for mutator c = None
-
--- The script of the caller of this number: the calls of its mutator, in the order of the trace, or
--- rounds of refinement.
-abbrev pub IsScriptOf : (mutators rounds number : ℕ) → List Command → Script → Type 0
-IsScriptOf mutators rounds number commands (Mutate steps) =
-    (number < mutators) × (steps.items ≡ filter_map (step_for number) commands)
-IsScriptOf mutators rounds number commands (Refine made) = (mutators ≤ number) × (made ≡ rounds)
+step_for mutator c = own_step mutator (asked_in c)
 
 -- The calls of these commands came behind those of their mutators.
 pub record AreKept {E : Type 0} (steps : E → List Step) (old : List E) (cs : List Command)

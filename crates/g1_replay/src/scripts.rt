@@ -1,11 +1,10 @@
 //! The scripts of a crew or a race: what each of its threads is to do, and why one was refused.
 ghost use Rattle.std.specs.Prelude.{◌≡◌};
-ghost use Rattle.g1_replay.specs.{IfOk, filter_map, asked_in, refusal_in, step_for, IsScriptOf};
+ghost use Rattle.g1_replay.specs.{IfOk, filter_map, asked_in, refusal_in, step_for};
 
 use g1_history::Refusal;
 use g1_layout::NoMemory;
-use g1_options::Options;
-use g1_steps::{Outcome, Script, Step};
+use g1_steps::{Outcome, Step};
 use g1_trace::Command;
 use std::alloc::Global;
 
@@ -34,9 +33,14 @@ fn step_of(mutator: u32, command: Command) -> Option<Step>
     }
 }
 
-// The calls of this mutator, in the order of the trace.
-#[tactic(auto, using(crate::proofs::no_step_more))]
-fn steps_of(alloc: Global, commands: &[Command], mutator: u32) -> Result<Vec<Step>, NoMemory>
+/// The calls of this mutator, in the order of the trace.
+///
+/// Returns `NoMemory` if a growth of the calls was refused.
+pub(crate) fn steps_of(
+    alloc: Global,
+    commands: &[Command],
+    mutator: u32,
+) -> Result<Vec<Step>, NoMemory>
     ensures { IfOk result (λ steps. steps.items ≡ filter_map (step_for mutator) commands.now) }
 {
     let mut steps = Vec::new(alloc);
@@ -48,25 +52,6 @@ fn steps_of(alloc: Global, commands: &[Command], mutator: u32) -> Result<Vec<Ste
         steps.push_reserved(step);
     }
     Ok(steps)
-}
-
-/// What the caller of this number does: the calls of its mutator in the order of the trace, or
-/// rounds of refinement.
-///
-/// Returns `NoMemory` if a growth of the calls was refused.
-pub(crate) fn script_for(
-    alloc: Global,
-    commands: &[Command],
-    number: u32,
-    options: &Options,
-) -> Result<Script, NoMemory>
-    ensures { IfOk result (IsScriptOf options.now.mutators options.now.rounds number commands.now) }
-{
-    if number < options.mutators {
-        let steps = steps_of(alloc, commands, number)?;
-        return Ok(Script::Mutate(steps));
-    }
-    Ok(Script::Refine(options.rounds))
 }
 
 /// Why a job was refused, if it was.

@@ -55,7 +55,7 @@ impl From<AllocError> for Stop {
 }
 
 impl From<Refusal> for Stop {
-    ghost use Rattle.g1_replay.specs.Stops.{stop_of};
+    ghost use Rattle.g1_replay.specs.Playing.{stop_of};
 
     ghost from_gives = { λ refusal stop. stop ≡ stop_of refusal };
 

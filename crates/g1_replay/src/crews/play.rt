@@ -1,8 +1,9 @@
 //! Reads a trace to its end, makes the calls of each mutator in a thread of its own, and prints the
 //! result.
 ghost use Rattle.std.specs.Prelude.{◌≡◌};
-ghost use Rattle.g1_replay.specs.{true, vec_len, All, slot_count, StepFits, Crewed, IsWholeCrew};
-ghost use Rattle.g1_replay.specs.{CrewRan, IsReplayed, dialect_in, WritesSome, IsRefusedTrace};
+ghost use Rattle.g1_replay.specs.{true, vec_len, All, slot_count, StepFits, CrewRan, CrewRuns};
+ghost use Rattle.g1_replay.specs.{IsScriptReplayed, dialect_in, WritesSome};
+ghost use Rattle.g1_replay.specs.Scripted.{Scripted};
 ghost use Rattle.g1_trace.specs.declared.mode.Mode.TheVariants.{Crew};
 
 use crate::crews::jobs::run_jobs;
@@ -64,7 +65,7 @@ fn play_crew<T: Threads + Wait + Sync, R: BufRead, W: Write>(
     output: &mut W,
     options: &Options,
 ) -> Result<(), Stop>
-    ensures { WritesSome (Crewed (dialect_in Crew options.now) options.now.history
+    ensures { WritesSome (Scripted (CrewRuns options.now.history) (dialect_in Crew options.now)
         source.old.number source.new.number (R.remaining input.old) (R.remaining input.new))
         (W.contents output.old) (W.contents output.new) result }
 {
@@ -104,9 +105,7 @@ pub fn crew<T: Threads + Wait + Sync, R: BufRead, W: Write>(
     output: &mut W,
     options: &Options,
 ) -> End
-    ensures { IsReplayed (Crewed (dialect_in Crew options.now) options.now.history)
-        (IsWholeCrew (dialect_in Crew options.now) options.now.history)
-        (IsRefusedTrace (dialect_in Crew options.now))
+    ensures { IsScriptReplayed (CrewRuns options.now.history) (dialect_in Crew options.now)
         (R.remaining input.old) (R.remaining input.new)
         (W.contents output.old) (W.contents output.new) result }
 {

@@ -14,7 +14,6 @@ use g1_trace::{TraceFault, read_header};
 use std::io::BufRead;
 
 // One line before the header, or the header.
-#[tactic(auto, using(crate::proofs::of_a_header))]
 fn next_header<R: BufRead>(source: &mut Source, input: &mut R) -> Result<Option<Layout>, Stop>
     ensures read { (d : Dialect) → Reads d None source.old.number source.new.number
         (R.remaining input.old) (R.remaining input.new) (opened_by result) []

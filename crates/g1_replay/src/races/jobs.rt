@@ -1,14 +1,13 @@
 //! The jobs of a race, and the table that they leave.
 ghost use Rattle.std.specs.Prelude.{◌≡◌, ◌≤◌, ◌+◌, ◌<◌};
-ghost use Rattle.g1_replay.specs.{All, IfErr, IfOk, OnOk, None, map, vec_len, filter_map};
-ghost use Rattle.g1_replay.specs.{slot_count, race_layout, ScriptFits, IsCommandOf, is_racer};
-ghost use Rattle.g1_replay.specs.{racer_in, sender_in, sweeper_in, taker_in, AllFrom, IsNewMember};
-ghost use Rattle.g1_replay.specs.{IsRaceJob, IsRaceScript, IsTableLeftBy, IsUnstarted};
+ghost use Rattle.g1_replay.specs.{All, IfErr, IfOk, OnOk, None, map, vec_len, slot_count};
+ghost use Rattle.g1_replay.specs.{race_layout, ScriptFits, IsCommandOf, is_racer, AllFrom, HasBack};
+ghost use Rattle.g1_replay.specs.{IsNewMember, IsRaceJob, IsRaceScript, IsTableLeftBy, IsUnstarted};
 ghost use Rattle.g1_replay.specs.{first_refusal};
 
 use crate::races::desk::{Member, RaceDesk};
 use crate::races::members::{Returned, members_of};
-use crate::scripts::{refusal_of, script_for};
+use crate::scripts::{refusal_of, steps_of};
 use crate::stop::Stop;
 use g1_layout::{Layout, NoMemory};
 use g1_log::Line;
@@ -31,13 +30,12 @@ fn race_script(
     ensures { IfOk result
         (IsRaceScript options.now.mutators options.now.rounds number commands.now) }
 {
-    match script_for(alloc, commands, number, options)? {
-        Script::Mutate(mut steps) => {
-            steps.push(Step::Flush)?;
-            Ok(Script::Mutate(steps))
-        }
-        Script::Refine(rounds) => Ok(Script::Refine(rounds)),
+    if number < options.mutators {
+        let mut steps = steps_of(alloc, commands, number)?;
+        steps.push(Step::Flush)?;
+        return Ok(Script::Mutate(steps));
     }
+    Ok(Script::Refine(options.rounds))
 }
 
 // One job for each member, in their order.
@@ -81,15 +79,7 @@ fn jobs_of<'a, T>(
 //
 // `NoMemory` is returned if one was, or a growth of the lists.
 fn returned_by<'a, T>(alloc: Global, jobs: Vec<Job<RaceDesk<'a, T>>>) -> Result<Returned, NoMemory>
-    ensures racers { IfOk result (λ back.
-        back.racers.items ≡ filter_map racer_in (map (λ job. job.desk.member) jobs.entry.items)) }
-    ensures senders { IfOk result (λ back.
-        back.senders.items ≡ filter_map sender_in (map (λ job. job.desk.member) jobs.entry.items)) }
-    ensures sweepers { IfOk result (λ back.
-        back.sweepers.items
-        ≡ filter_map sweeper_in (map (λ job. job.desk.member) jobs.entry.items)) }
-    ensures takers { IfOk result (λ back.
-        back.takers.items ≡ filter_map taker_in (map (λ job. job.desk.member) jobs.entry.items)) }
+    ensures back { IfOk result (HasBack (map (λ job. job.desk.member) jobs.entry.items)) }
     ensures whole { OnOk result (first_refusal (map (λ job. job.outcome) jobs.entry.items) ≡ None) }
 {
     let mut returned = Returned::new(alloc);

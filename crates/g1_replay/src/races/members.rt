@@ -1,69 +1,19 @@
 //! The members of a race: each racer with an end of the queue into which it puts its logs, each
 //! sweeper with one from which it takes them.
 ghost use Rattle.std.specs.Prelude.{◌≡◌, ◌+◌, ◌++◌, ◌∷◌};
-ghost use Rattle.g1_replay.specs.Prelude.{[], All, IfOk, OnOk, sum_by, vec_len, filter_map};
+ghost use Rattle.g1_replay.specs.Prelude.{List, [], All, IfOk, OnOk, sum_by, vec_len};
 ghost use Rattle.g1_replay.specs.Prelude.{sender_rights, taker_rights, IsSenderOf, IsTakerOf};
-ghost use Rattle.g1_replay.specs.Prelude.{null_of, race_shape, racer_start, sweeper_start};
-ghost use Rattle.g1_replay.specs.Prelude.{AreFreshRacers, AreFreshSweepers, HaveBegun};
+ghost use Rattle.g1_replay.specs.Prelude.{null_of, race_shape, AreFreshRacers, AreFreshSweepers};
+ghost use Rattle.g1_replay.specs.Prelude.{HaveBegun};
 ghost use Rattle.g1_replay.specs.Members.{member_rights};
-ghost use Rattle.g1_replay.specs.RaceJobs.{racer_in, sender_in, sweeper_in, taker_in, AllFrom};
-ghost use Rattle.g1_replay.specs.RaceJobs.{IsNewMember};
+ghost use Rattle.g1_replay.specs.RaceJobs.{AllFrom, HasBack, IsNewMember};
+ghost use Rattle.g1_replay.specs.declared.races.desk.Member.{Member};
 
 use crate::races::desk::Member;
 use g1_layout::NoMemory;
 use g1_log::{Line, Sender, Taker};
 use g1_race::{Race, Racer, Sweeper};
 use std::alloc::Global;
-
-// Each racer with a sender.
-fn racing(
-    alloc: Global,
-    race: &Race,
-    line: &Line,
-    racers: Vec<Racer>,
-    mut senders: Vec<Sender>,
-) -> Result<Vec<Member>, NoMemory>
-    requires racers { AreFreshRacers race.now (vec_len racers) racers }
-    requires begun { All (λ r. racer_start r ≡ null_of (race_shape race.now)) racers.items }
-    requires senders { (vec_len senders ≡ vec_len racers)
-        × All (IsSenderOf line.now) senders.items }
-    ensures new { IfOk result (λ members.
-        AllFrom (IsNewMember race.now line.now (vec_len racers)) 0 members.items) }
-    ensures len { IfOk result (λ members. vec_len members ≡ vec_len racers) }
-    ensures rights { IfOk result (λ members.
-        sum_by member_rights members.items ≡ sum_by sender_rights senders.items) }
-{
-    let mut members = Vec::new(alloc);
-    for racer in racers {
-        members.push(Member::Racing(racer, senders.take_last()))?;
-    }
-    Ok(members)
-}
-
-// Adds each sweeper with a taker.
-fn add_sweeping(
-    members: &mut Vec<Member>,
-    race: &Race,
-    line: &Line,
-    sweepers: Vec<Sweeper>,
-    mut takers: Vec<Taker>,
-) -> Result<(), NoMemory>
-    requires members { AllFrom (IsNewMember race.now line.now (vec_len members.old)) 0
-        members.old.items }
-    requires sweepers { AreFreshSweepers race.now (vec_len sweepers) sweepers }
-    requires begun { All (λ w. sweeper_start w ≡ null_of (race_shape race.now)) sweepers.items }
-    requires takers { (vec_len takers ≡ vec_len sweepers) × All (IsTakerOf line.now) takers.items }
-    ensures new { OnOk result (AllFrom (IsNewMember race.now line.now (vec_len members.old)) 0
-        members.new.items) }
-    ensures len { OnOk result (vec_len members.new ≡ vec_len members.old + vec_len sweepers) }
-    ensures rights { OnOk result (sum_by member_rights members.new.items
-        ≡ sum_by member_rights members.old.items + sum_by taker_rights takers.items) }
-{
-    for sweeper in sweepers {
-        members.push(Member::Sweeping(sweeper, takers.take_last()))?;
-    }
-    Ok(())
-}
 
 /// The members of a race that has not begun, the racers first.
 ///
@@ -90,10 +40,15 @@ pub(crate) fn members_of(
         sum_by member_rights members.items
         ≡ sum_by sender_rights racing_ends.1.items + sum_by taker_rights sweeping_ends.1.items) }
 {
-    let (racers, senders) = racing_ends;
-    let (sweepers, takers) = sweeping_ends;
-    let mut members = racing(alloc, race, line, racers, senders)?;
-    add_sweeping(&mut members, race, line, sweepers, takers)?;
+    let (racers, mut senders) = racing_ends;
+    let (sweepers, mut takers) = sweeping_ends;
+    let mut members = Vec::new(alloc);
+    for racer in racers {
+        members.push(Member::Racing(racer, senders.take_last()))?;
+    }
+    for sweeper in sweepers {
+        members.push(Member::Sweeping(sweeper, takers.take_last()))?;
+    }
     Ok(members)
 }
 
@@ -110,8 +65,7 @@ pub(crate) struct Returned {
 impl Returned {
     /// No member is back yet.
     pub(crate) fn new(alloc: Global) -> Returned
-        ensures racing { (result.racers.items ≡ []) × (result.senders.items ≡ []) }
-        ensures sweeping { (result.sweepers.items ≡ []) × (result.takers.items ≡ []) }
+        ensures { HasBack [] result }
     {
         Returned {
             racers: Vec::new(alloc),
@@ -125,16 +79,8 @@ impl Returned {
     ///
     /// Returns `NoMemory` if a growth of a list was refused: the member is given up.
     pub(crate) fn place(&mut self, member: Member) -> Result<(), NoMemory>
-        ensures racers { OnOk result
-            (self.new.racers.items ≡ self.old.racers.items ++ filter_map racer_in (member ∷ [])) }
-        ensures senders { OnOk result
-            (self.new.senders.items
-            ≡ self.old.senders.items ++ filter_map sender_in (member ∷ [])) }
-        ensures sweepers { OnOk result
-            (self.new.sweepers.items
-            ≡ self.old.sweepers.items ++ filter_map sweeper_in (member ∷ [])) }
-        ensures takers { OnOk result
-            (self.new.takers.items ≡ self.old.takers.items ++ filter_map taker_in (member ∷ [])) }
+        ensures { OnOk result ((members : List Member) → HasBack members self.old
+            → HasBack (members ++ member ∷ []) self.new) }
     {
         match member {
             Member::Racing(racer, sender) => {

@@ -1,7 +1,8 @@
 //! Reads a trace to its end, makes the stores of each mutator in a race, in a thread of its own,
 //! and prints the result.
-ghost use Rattle.g1_replay.specs.{All, IsCommandOf, IsReplayed, dialect_in, WritesSome};
-ghost use Rattle.g1_replay.specs.{IsWholeRace, RacedTrace, RaceRan, IsRefusedTrace};
+ghost use Rattle.g1_replay.specs.{All, IsCommandOf, RaceRan, IsScriptReplayed, dialect_in};
+ghost use Rattle.g1_replay.specs.{WritesSome};
+ghost use Rattle.g1_replay.specs.Scripted.{Scripted};
 ghost use Rattle.g1_trace.specs.declared.mode.Mode.TheVariants.{Race};
 
 use crate::end::End;
@@ -49,7 +50,7 @@ fn play_race<T: Threads + Wait + Sync, R: BufRead, W: Write>(
     output: &mut W,
     options: &Options,
 ) -> Result<(), Stop>
-    ensures { WritesSome (RacedTrace (dialect_in Race options.now)
+    ensures { WritesSome (Scripted (RaceRan options.now.mutators) (dialect_in Race options.now)
         source.old.number source.new.number (R.remaining input.old) (R.remaining input.new))
         (W.contents output.old) (W.contents output.new) result }
 {
@@ -97,8 +98,7 @@ pub fn race<T: Threads + Wait + Sync, R: BufRead, W: Write>(
     output: &mut W,
     options: &Options,
 ) -> End
-    ensures { IsReplayed (RacedTrace (dialect_in Race options.now))
-        (IsWholeRace (dialect_in Race options.now)) (IsRefusedTrace (dialect_in Race options.now))
+    ensures { IsScriptReplayed (RaceRan options.now.mutators) (dialect_in Race options.now)
         (R.remaining input.old) (R.remaining input.new)
         (W.contents output.old) (W.contents output.new) result }
 {

@@ -1,7 +1,7 @@
 //! A replay by one thread: the header of its trace, its lines, and the line of its end.
 ghost use Rattle.std.specs.Prelude.{◌≡◌};
-ghost use Rattle.g1_replay.specs.{Run, WritesSome, Told, IsEndWritten, IsReplayed, dialect_in};
-ghost use Rattle.g1_replay.specs.{ending_line, IsWholeOutput, IsRefusedOutput, end_or_failed};
+ghost use Rattle.g1_replay.specs.{Run, WritesSome, Told, IsRunText, IsEndWritten, IsReplayed};
+ghost use Rattle.g1_replay.specs.{dialect_in, ending_line, end_or_failed};
 
 use crate::end::End;
 use crate::lines::opening::read_layout;
@@ -93,10 +93,9 @@ pub fn run<T: Wait, R: BufRead, W: Write>(
     output: &mut W,
     options: &Options,
 ) -> End
-    ensures { IsReplayed
-        (Told (dialect_in Run options.now) options.now.config options.now.history)
-        (IsWholeOutput (dialect_in Run options.now) options.now.config)
-        (IsRefusedOutput (dialect_in Run options.now) options.now.config)
+    ensures { IsReplayed (dialect_in Run options.now)
+        (λ d. Told d options.now.config options.now.history)
+        (IsRunText options.now.config) (IsRunText options.now.config)
         (R.remaining input.old) (R.remaining input.new)
         (W.contents output.old) (W.contents output.new) result }
 {

@@ -1,7 +1,8 @@
-use Rattle.std.specs.Prelude.{◌≡◌, ◌+◌}
-use Rattle.g1_replay.specs.{ℕ, suc, sym, subst, arith, into_iter_items, All-push, All-same, slot_count, race_layout, ScriptFits, Member, is_racer, AllFrom, IsNewMember, IsRaceJob}
+use Rattle.std.specs.Prelude.{◌≡◌, ◌+◌, ◌++◌}
+use Rattle.g1_replay.specs.{ℕ, suc, map, ap, ◌∙◌, sym, subst, arith, All, into_iter_items, All-nil, All-push, All-same, slot_count, race_layout, ScriptFits, Member, is_racer, AllFrom, IsNewMember, IsRaceJob}
 use Rattle.g1_race.specs.declared.race.Race.{Race}
-use Rattle.g1_replay.proofs.{all_from_next, all_from_rest, list_moves}
+use Rattle.g1_steps.proofs.WorkerLemmas.{started_more}
+use Rattle.g1_replay.proofs.{all_from_next, all_from_rest, all_moved}
 use Rattle.g1_replay.proofs.RanRaceLemmas.{race_script_fits}
 use Rattle.g1_replay.proofs.races.jobs.jobs_of.Goals as goal
 
@@ -23,7 +24,7 @@ loop-member-preserved g c =
       len = omega (arith, was.len, steps.1, c.push_reserved.ensures.len);
       number = omega (arith, was.number, c.push_reserved.ensures.len);
       room = omega (arith, was.room, c.push_reserved.ensures.capacity);
-      same = list_moves (λ job. job.desk.member) _ _ _ _ _ _ _ c.push_reserved.ensures.items steps.0 c.new.ensures.member was.same;
+      same = started_more (λ job. job.desk.member) _ _ _ _ _ _ _ was.same steps.0 c.push_reserved.ensures.items c.new.ensures.member;
       rest = subst (λ (n : ℕ). AllFrom (IsNewMember race line mutators) n (into_iter_items c.next.new.self)) next first.1;
       jobs = all_from_next (λ i job. IsRaceJob race line mutators rounds commands i job.desk.member job.script) _ _ k _ c.push_reserved.ensures.items (omega (arith, was.number, c.loop-member.jobs.ok.0)) was.jobs
           (subst (λ (m : Member). IsRaceJob race line mutators rounds commands k m script) (sym c.new.ensures.member) (record { new = first.0; script = c.in_ok-script.ensures }));
@@ -32,3 +33,26 @@ loop-member-preserved g c =
           (subst (λ (m : Member). ScriptFits (slot_count (race_layout c.new.result.race.now)) (is_racer m) script) (sym c.new.ensures.member)
           (subst (λ (r : Race). ScriptFits (slot_count (race_layout r)) (is_racer c.in-Some.member) script) (sym c.new.ensures.race) fits)));
     }
+
+-- no member has a job at first
+pub loop-member-init : goal.loop-member-init
+loop-member-init g c =
+    let given : into_iter_items c.into_iter-member-iterator.result ≡ c.args.members.items = c.into_iter-member-iterator.ensures.into_iter_gives.0 in
+    let left = c.into_iter-member-iterator.ensures.into_iter_gives.1 in
+    let none = c.in_ok-jobs.ensures.items in
+    record {
+      len = omega (arith, left, c.in_ok-jobs.ensures.len);
+      number = sym c.in_ok-jobs.ensures.len;
+      room = omega (arith, c.len.ensures, c.in_ok-jobs.ensures.capacity);
+      same = ap (λ jobs. map (λ job. job.desk.member) jobs ++ into_iter_items c.into_iter-member-iterator.result) none ∙ given;
+      rest = subst (AllFrom (IsNewMember c.args.race.now c.args.line.now c.args.options.now.mutators) 0) (sym given) c.requires.members;
+      jobs = subst (λ jobs. AllFrom (λ i job. IsRaceJob c.args.race.now c.args.line.now c.args.options.now.mutators c.args.options.now.rounds c.args.commands.now i job.desk.member job.script) 0 jobs) (sym none) tt;
+      fits = subst (λ jobs. All (λ job. ScriptFits (slot_count (race_layout job.desk.race.now)) (is_racer job.desk.member) job.script) jobs) (sym none) (All-nil (λ job. ScriptFits (slot_count (race_layout job.desk.race.now)) (is_racer job.desk.member) job.script));
+    }
+
+-- and each has one at the end
+pub returns-clause-members : goal.returns-clause-members
+returns-clause-members g c = all_moved _ (into_iter_items c.loop-member.member-iterator) _ (omega (arith, c.in-None.ensures.steps.0, c.loop-member.member-iterator.rest.ok.0)) c.loop-member.invariant.same
+
+pub new-requires-clause-empty : goal.new-requires-clause-empty
+new-requires-clause-empty g c = (all_from_rest (IsNewMember c.args.race.now c.args.line.now c.args.options.now.mutators) c.loop-member.number _ _ _ c.in-Some.ensures.steps.0 c.loop-member.invariant.rest).0.logged

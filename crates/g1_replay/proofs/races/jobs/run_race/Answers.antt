@@ -17,23 +17,23 @@ run g c = are_run (λ d. d.member) c.in_ok-race.race c.in_ok-line.line c.args.op
 
 pub settle-requires-clause-senders : goal.settle-requires-clause-senders
 settle-requires-clause-senders g c =
-    subst (λ (xs : List Sender). All (IsSenderOf c.in_ok-line.line) xs) (sym c.in_ok-returned.ensures.senders) (all_chosen (IsMemberOf c.in_ok-race.race c.in_ok-line.line) (IsSenderOf c.in_ok-line.line) sender_in (sender_of c.in_ok-race.race c.in_ok-line.line) _ (run g c).of)
+    subst (λ (xs : List Sender). All (IsSenderOf c.in_ok-line.line) xs) (sym c.in_ok-returned.ensures.back.senders) (all_chosen (IsMemberOf c.in_ok-race.race c.in_ok-line.line) (IsSenderOf c.in_ok-line.line) sender_in (sender_of c.in_ok-race.race c.in_ok-line.line) _ (run g c).of)
 
 pub settle-requires-clause-takers : goal.settle-requires-clause-takers
 settle-requires-clause-takers g c =
-    subst (λ (xs : List Taker). All (IsTakerOf c.in_ok-line.line) xs) (sym c.in_ok-returned.ensures.takers) (all_chosen (IsMemberOf c.in_ok-race.race c.in_ok-line.line) (IsTakerOf c.in_ok-line.line) taker_in (taker_of c.in_ok-race.race c.in_ok-line.line) _ (run g c).of)
+    subst (λ (xs : List Taker). All (IsTakerOf c.in_ok-line.line) xs) (sym c.in_ok-returned.ensures.back.takers) (all_chosen (IsMemberOf c.in_ok-race.race c.in_ok-line.line) (IsTakerOf c.in_ok-line.line) taker_in (taker_of c.in_ok-race.race c.in_ok-line.line) _ (run g c).of)
 
 pub settle-requires-clause-all : goal.settle-requires-clause-all
 settle-requires-clause-all g c =
-    let senders = ap (λ (xs : List Sender). sum_by sender_rights xs) c.in_ok-returned.ensures.senders in
-    let takers = ap (λ (xs : List Taker). sum_by taker_rights xs) c.in_ok-returned.ensures.takers in
+    let senders = ap (λ (xs : List Sender). sum_by sender_rights xs) c.in_ok-returned.ensures.back.senders in
+    let takers = ap (λ (xs : List Taker). sum_by taker_rights xs) c.in_ok-returned.ensures.back.takers in
     let members = ap (λ (ms : List Member). sum_by member_rights ms) c.in_ok-jobs.ensures.members in
     omega (arith, senders, takers, sorted_rights (map (λ job. job.desk.member) c.in_ok-done.done.items), (run g c).rights, members, c.in_ok-members.ensures.rights, c.in_ok-line.ensures.all)
 
 pub close-requires-clause-racers : goal.close-requires-clause-racers
 close-requires-clause-racers g c =
-    let racers = ap (λ (xs : List Racer). length xs) c.in_ok-returned.ensures.racers in
-    let sweepers = ap (λ (xs : List Sweeper). length xs) c.in_ok-returned.ensures.sweepers in
+    let racers = ap (λ (xs : List Racer). length xs) c.in_ok-returned.ensures.back.racers in
+    let sweepers = ap (λ (xs : List Sweeper). length xs) c.in_ok-returned.ensures.back.sweepers in
     let members = ap (λ (ms : List Member). length ms) c.in_ok-jobs.ensures.members in
     let shape = ap (λ k. k.members) c.in_ok-race.ensures.shape in (
       omega (
@@ -51,12 +51,12 @@ close-requires-clause-racers g c =
         c.in_ok-returned.returned.sweepers.ok.0,
         c.in_ok-members.members.ok.0,
       ),
-      subst (λ (xs : List Racer). All (λ r. racer_race r ≡ race_id c.in_ok-race.race) xs) (sym c.in_ok-returned.ensures.racers) (λ k d lt. (all_chosen (IsMemberOf c.in_ok-race.race c.in_ok-line.line) (λ r. (racer_race r ≡ race_id c.in_ok-race.race) × (racer_start r ≡ null_of c.in_ok-race.race.shape)) racer_in (racer_of c.in_ok-race.race c.in_ok-line.line) _ (run g (goal.at.close-requires-clause-racers g c).In_ok-returned).of k d lt).0),
+      subst (λ (xs : List Racer). All (λ r. racer_race r ≡ race_id c.in_ok-race.race) xs) (sym c.in_ok-returned.ensures.back.racers) (λ k d lt. (all_chosen (IsMemberOf c.in_ok-race.race c.in_ok-line.line) (λ r. (racer_race r ≡ race_id c.in_ok-race.race) × (racer_start r ≡ null_of c.in_ok-race.race.shape)) racer_in (racer_of c.in_ok-race.race c.in_ok-line.line) _ (run g (goal.at.close-requires-clause-racers g c).In_ok-returned).of k d lt).0),
     )
 
 pub close-requires-clause-sweepers : goal.close-requires-clause-sweepers
 close-requires-clause-sweepers g c =
-    subst (λ (xs : List Sweeper). All (λ w. sweeper_race w ≡ race_id c.in_ok-race.race) xs) (sym c.in_ok-returned.ensures.sweepers) (λ k d lt. (all_chosen (IsMemberOf c.in_ok-race.race c.in_ok-line.line) (λ w. (sweeper_race w ≡ race_id c.in_ok-race.race) × (sweeper_start w ≡ null_of c.in_ok-race.race.shape)) sweeper_in (sweeper_of c.in_ok-race.race c.in_ok-line.line) _ (run g (goal.at.close-requires-clause-sweepers g c).In_ok-returned).of k d lt).0)
+    subst (λ (xs : List Sweeper). All (λ w. sweeper_race w ≡ race_id c.in_ok-race.race) xs) (sym c.in_ok-returned.ensures.back.sweepers) (λ k d lt. (all_chosen (IsMemberOf c.in_ok-race.race c.in_ok-line.line) (λ w. (sweeper_race w ≡ race_id c.in_ok-race.race) × (sweeper_start w ≡ null_of c.in_ok-race.race.shape)) sweeper_in (sweeper_of c.in_ok-race.race c.in_ok-line.line) _ (run g (goal.at.close-requires-clause-sweepers g c).In_ok-returned).of k d lt).0)
 
 pub returns-clause-left : goal.returns-clause-left
 returns-clause-left g c =
@@ -73,12 +73,12 @@ returns-clause-left g c =
     let run = run g (goal.at.returns-clause-left g c).In_ok-returned in
     let members = ap (λ (xs : List Member). length xs) c.in_ok-jobs.ensures.members in
     let laid = c.close.ensures.layout ∙ c.in_ok-race.ensures.layout in
-    let racing = subst (λ (xs : List Racer). All (λ r. racer_start r ≡ null_of race.shape) xs) (sym c.in_ok-returned.ensures.racers) (λ k d lt. (all_chosen (IsMemberOf race line) (λ r. (racer_race r ≡ race_id c.in_ok-race.race) × (racer_start r ≡ null_of c.in_ok-race.race.shape)) racer_in (racer_of race line) ms run.of k d lt).1) in
-    let sweeping = subst (λ (xs : List Sweeper). All (λ w. sweeper_start w ≡ null_of race.shape) xs) (sym c.in_ok-returned.ensures.sweepers) (λ k d lt. (all_chosen (IsMemberOf race line) (λ w. (sweeper_race w ≡ race_id c.in_ok-race.race) × (sweeper_start w ≡ null_of c.in_ok-race.race.shape)) sweeper_in (sweeper_of race line) ms run.of k d lt).1) in
-    let some : 0 < length rs + length ws = omega (arith, ap (λ (xs : List Racer). length xs) c.in_ok-returned.ensures.racers, ap (λ (xs : List Sweeper). length xs) c.in_ok-returned.ensures.sweepers, sorted_length ms, run.len, members, c.in_ok-members.ensures.len, c.in_ok-race.ensures.racers.0, c.in_ok-members.members.ok.0, c.args.options.now.mutators_in) in
+    let racing = subst (λ (xs : List Racer). All (λ r. racer_start r ≡ null_of race.shape) xs) (sym c.in_ok-returned.ensures.back.racers) (λ k d lt. (all_chosen (IsMemberOf race line) (λ r. (racer_race r ≡ race_id c.in_ok-race.race) × (racer_start r ≡ null_of c.in_ok-race.race.shape)) racer_in (racer_of race line) ms run.of k d lt).1) in
+    let sweeping = subst (λ (xs : List Sweeper). All (λ w. sweeper_start w ≡ null_of race.shape) xs) (sym c.in_ok-returned.ensures.back.sweepers) (λ k d lt. (all_chosen (IsMemberOf race line) (λ w. (sweeper_race w ≡ race_id c.in_ok-race.race) × (sweeper_start w ≡ null_of c.in_ok-race.race.shape)) sweeper_in (sweeper_of race line) ms run.of k d lt).1) in
+    let some : 0 < length rs + length ws = omega (arith, ap (λ (xs : List Racer). length xs) c.in_ok-returned.ensures.back.racers, ap (λ (xs : List Sweeper). length xs) c.in_ok-returned.ensures.back.sweepers, sorted_length ms, run.len, members, c.in_ok-members.ensures.len, c.in_ok-race.ensures.racers.0, c.in_ok-members.members.ok.0, c.args.options.now.mutators_in) in
     let begun : race_begun race (map racer_view rs) sweepers ≡ null_begun closed.layout count =
     begun_as race (null_of race.shape) rs ws racing sweeping refl some ∙ (ap (λ (k : Shape). beginning (null_of k)) (c.in_ok-race.ensures.shape ∙ ap (λ (l : layout.Shape). shape_of l count) (sym laid)) ∙ begins_null closed.layout count) in
-    let over = subst (λ (xs : List Racer). IsOver (null_begun closed.layout count) closed.words (map racer_view xs) sweepers) c.in_ok-returned.ensures.racers (subst (λ (b : Begun). IsOver b closed.words (map racer_view rs) sweepers) begun c.close.ensures.over) in
+    let over = subst (λ (xs : List Racer). IsOver (null_begun closed.layout count) closed.words (map racer_view xs) sweepers) c.in_ok-returned.ensures.back.racers (subst (λ (b : Begun). IsOver b closed.words (map racer_view rs) sweepers) begun c.close.ensures.over) in
     let low : slot_count c.args.layout < 2 ^ 32 = subst (λ (l : layout.Shape). slot_count l < 2 ^ 32) c.in_ok-race.ensures.layout (subst (λ (k : Shape). k.slots < 2 ^ 32) race.laid race.shaped.3) in
     table_left closed count mutators commands (views_of ms) sweepers over
     (each_own mutators commands 0 ms run.run)
