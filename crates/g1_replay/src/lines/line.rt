@@ -44,7 +44,7 @@ pub enum Byte {
 }
 
 // How many bytes there are before the first line feed.
-#[tactic(auto, using(crate::proofs::feed_found, crate::proofs::feed_within))]
+#[tactic(auto, using(crate::proofs::feed_found))]
 fn part_len(bytes: &[u8]) -> usize
     ensures bound { result ≤ length bytes.now }
     ensures ends { EndsAtFeed bytes.now result }
