@@ -61,9 +61,7 @@ pub fn next_member_at(heap: &mut PausedHeap, region: u32, from: u32) -> Result<u
 {
     let layout = heap.layout();
     let _limit = layout.card_count();
-    let Some(region) = layout.region(region) else {
-        return Err(Refusal::NoRegion);
-    };
+    let region = layout.region(region).ok_or(Refusal::NoRegion)?;
     match heap.next_member(region, from) {
         Some(card) => Ok(card.number()),
         None => Ok(NULL),

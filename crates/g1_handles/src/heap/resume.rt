@@ -38,9 +38,7 @@ pub fn resume_heap(
         × (held_racers racers.new ≡ held_racers racers.old)
         × (held_sweepers sweepers.new ≡ held_sweepers sweepers.old)) }
 {
-    let Some(mut heap) = into_box(replace(handle, closed(alloc))) else {
-        return Err(Refusal::NotOpen);
-    };
+    let mut heap = into_box(replace(handle, closed(alloc))).ok_or(Refusal::NotOpen)?;
     let answer = resume_of(alloc, &mut heap, racers, sweepers);
     *handle = opened(heap);
     answer

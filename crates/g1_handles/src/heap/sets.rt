@@ -50,9 +50,7 @@ pub fn set_of_heap(
         handle.old.value result handle.new.value }
     ensures unwritten { OnErr result (cards.new ≡ cards.old) }
 {
-    let Some(mut heap) = into_box(replace(handle, closed(alloc))) else {
-        return Err(Refusal::NotOpen);
-    };
+    let mut heap = into_box(replace(handle, closed(alloc))).ok_or(Refusal::NotOpen)?;
     let answer = set_of(&mut heap, which, region, cards);
     *handle = opened(heap);
     answer
