@@ -66,10 +66,7 @@ fn resume_of(
     if racers.len() != at.racers.len() || sweepers.len() != at.sweepers.len() {
         return Err(Refusal::BadMembers);
     }
-    if !are_closed(alloc, racers) {
-        return Err(Refusal::AlreadyOpen);
-    }
-    if !are_closed(alloc, sweepers) {
+    if !are_closed(alloc, racers) || !are_closed(alloc, sweepers) {
         return Err(Refusal::AlreadyOpen);
     }
     replace_with(heap, (), let_go);

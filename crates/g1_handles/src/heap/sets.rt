@@ -118,6 +118,7 @@ fn members_at(heap: &mut PausedHeap, region: u32, cards: &mut [u32]) -> Result<T
     Ok(write_set(heap, region, cards))
 }
 
+#[tactic(auto, using(crate::proofs::SetLemmas::shows_none))]
 fn write_set(heap: &mut PausedHeap, region: Region, array: &mut [u32]) -> Told
     requires { region < heap.old.layout.regions }
     ensures told { Tells (AreMembers (table_at heap.old) region) array.old result array.new }

@@ -1,19 +1,9 @@
 -- The next card of the set goes behind those that are written.
 use Rattle.std.specs.Prelude.{◌≡◌, ◌+◌, ◌<◌, ◌≤◌}
-use Rattle.g1_handles.specs.{ℕ, List, Some, None, refl, ◌∙◌, sym, ap, subst, arith, drop-set-lt, length, length-set, card_count, Pause, table_at, IsNextMember}
+use Rattle.g1_handles.specs.{ℕ, List, Some, None, ◌∙◌, sym, ap, subst, arith, drop-set-lt, length, length-set, card_count, Pause, table_at, IsNextMember}
 use Rattle.std.proofs.Common.{drop}
-use Rattle.g1_handles.proofs.{Shows, shows_none, shows_next, shows_all, shows_first}
+use Rattle.g1_handles.proofs.{Shows, shows_next, shows_all, shows_first}
 use Rattle.g1_handles.proofs.heap.sets.write_set.Goals as goal
-
-pub loop-card-init : goal.loop-card-init
-loop-card-init c = record {
-  same = refl;
-  sized = refl;
-  within = omega arith;
-  few = omega arith;
-  shown = shows_none (table_at c.args.heap.now) c.args.region c.args.array.now;
-  rest = λ k le. refl;
-}
 
 pub loop-card-preserved : goal.loop-card-preserved
 loop-card-preserved c =
