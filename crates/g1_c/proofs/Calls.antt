@@ -7,7 +7,7 @@ use Rattle.g1_handles.specs.declared.heap.racing_heap.RacingHeap.{RacingHeap}
 use Rattle.g1_handles.specs.declared.member.Role.{Ghosts}
 use Rattle.g1_handles.specs.declared.member.Member.{Member}
 use Rattle.g1_layout.specs.declared.kind.Kind.{Kind}
-use Rattle.g1_handles.specs.Visits.{IsVisit}
+use Rattle.g1_handles.specs.Codes.{IsVisit}
 
 module _ {V : Type 0} (most word : ℕ) (old new : Option V) (Untold : Type 0) (Why : Refusal → Type 0) where
   -- what a call did is no refusal

@@ -7,11 +7,9 @@ pub use Rattle.g1_core.specs.Machine.{IsOnlyRead, Machine, new_machine}
 pub use Rattle.g1_handles.proofs.CalledLemmas.{called_ok, called_same, called_why}
 pub use Rattle.g1_handles.proofs.VisitLemmas.{role_if, role_of, role_ok, role_why, visit_same}
 pub use Rattle.g1_handles.proofs.VisitLemmas.{visit_so}
-pub use Rattle.g1_handles.specs.Arrays.{IsWritten}
 pub use Rattle.g1_handles.specs.AtPause.{ClearsAt, Copies, DrainsAtPause, Forgets, HasWord}
 pub use Rattle.g1_handles.specs.AtPause.{Redirects, RefersOut, Refines, SlotRefers, StoresAllAt}
-pub use Rattle.g1_handles.specs.AtPause.{StoresAt, StoresDataAt, TellsMembers, TellsPending}
-pub use Rattle.g1_handles.specs.AtPause.{TellsStatus, Wipes}
+pub use Rattle.g1_handles.specs.AtPause.{StoresAt, StoresDataAt, Wipes}
 pub use Rattle.g1_handles.specs.Batch.{IsFaultAt, made_all}
 pub use Rattle.g1_handles.specs.Codes.{Between, IsRefusal, IsStoreOf, kind_word, layout_of, OfKind}
 pub use Rattle.g1_handles.specs.Codes.{OfOpen, reference_of, refusal_word, settings_of}
@@ -22,11 +20,12 @@ pub use Rattle.g1_handles.specs.Life.{AreLikeOf, AreOfHeap, HasCountedNothing, I
 pub use Rattle.g1_handles.specs.Life.{IsGoingRefused, IsNewHeap, IsOpeningRefused, IsPauseRefused}
 pub use Rattle.g1_handles.specs.Life.{IsSameHeap, OfHeap, OfPaused, SaysNoHeap, SaysNotPaused}
 pub use Rattle.g1_handles.specs.Phases.{BeginsReading, ComesToPause, EndsReading, Resumes}
-pub use Rattle.g1_handles.specs.Queries.{HasMembers, HasStatus, IsToldPending, Overflows, RefersTo}
+pub use Rattle.g1_handles.specs.Queries.{Finds, Overflows, RefersTo, TellsMembers, TellsPending}
+pub use Rattle.g1_handles.specs.Queries.{TellsStatus}
 pub use Rattle.g1_handles.specs.RaceStores.{CanStoreAll, Exchanges, FindsOther, StoresAll, Swaps}
 pub use Rattle.g1_handles.specs.Racing.{held_racers, held_readers, held_sweepers, IfRacer, IfRole}
-pub use Rattle.g1_handles.specs.Racing.{IfSweeper, OfRacer, OfRole, OfSweeper, racer_race_of}
-pub use Rattle.g1_handles.specs.Racing.{racing_in, Stores, StoresData, sweeper_race_of, sweeping_in}
+pub use Rattle.g1_handles.specs.Racing.{IfSweeper, OfRacer, OfRole, OfSweeper}
+pub use Rattle.g1_handles.specs.Racing.{racing_in, Stores, StoresData, sweeping_in}
 pub use Rattle.g1_handles.specs.Racing.{Sweeps, TakesLog}
 pub use Rattle.g1_handles.specs.Readers.{AreReadersLike, AreReadersOf, IsReadBy, IsReadEndRefused}
 pub use Rattle.g1_handles.specs.Readers.{IsReaderRefused, IsReadRefused, OfReader, reader_layout}
@@ -37,10 +36,9 @@ pub use Rattle.g1_handles.specs.Refusals.{IsDrainRefused, IsOpenRefused, IsRaceD
 pub use Rattle.g1_handles.specs.Refusals.{IsRaceExchangeRefused, IsRaceStoreRefused}
 pub use Rattle.g1_handles.specs.Refusals.{IsRedirectRefused, IsRefinementRefused, IsSweepRefused}
 pub use Rattle.g1_handles.specs.Refusals.{IsRoleRefused, SaysNoMember, SaysNotOpen}
-pub use Rattle.g1_handles.specs.Replies.{AreOnlyRead, ClearsTo, DrainsTo, FitIn, RedirectsTo}
-pub use Rattle.g1_handles.specs.Replies.{RefinesTo, reply_of}
+pub use Rattle.g1_handles.specs.Replies.{AreOnlyRead, ClearsTo, DrainsTo, FitIn, IsWritten}
+pub use Rattle.g1_handles.specs.Replies.{RedirectsTo, RefinesTo, reply_of}
 pub use Rattle.g1_handles.specs.Sets.{HasFirst}
-pub use Rattle.g1_handles.specs.Verifying.{Finds, FindsAt}
 pub use Rattle.g1_handles.specs.declared.code.Refusal.{Refusal}
 pub use Rattle.g1_layout.specs.Shape.{card_count, slot_count}
 pub use Rattle.g1_race.specs.Members.{race_layout, race_words}

@@ -1,6 +1,6 @@
 -- Stores of a racer, each after the one before.
 use Rattle.std.specs.Prelude.{◌≡◌, ◌≢◌, ◌+◌, ◌<◌, ◌≤◌, ◌∷◌, ◌++◌}
-use Rattle.g1_handles.specs.{rules, inl, inr, ℕ, suc, Bool, false, cond, List, [], length, take, slice_index_or, refl, sym, ap, ◌∙◌, subst, arith, length-append, take-suc, array_vec_len, Kind, length-take, get_or_default, slot_card, is_logged, race_shape, Race, race_layout, Refusal, BatchEnd, Whole, Stopped, Full, Store, IsStoreOf, reference_of, Stores, racer_race_of, StoresAll, CanStoreAll, IsEnd, SaysNoStore}
+use Rattle.g1_handles.specs.{rules, inl, inr, ℕ, suc, Bool, false, cond, List, [], length, take, slice_index_or, refl, sym, ap, ◌∙◌, subst, arith, length-append, take-suc, array_vec_len, Kind, length-take, get_or_default, slot_card, is_logged, race_shape, Race, race_layout, Refusal, BatchEnd, Whole, Stopped, Full, Store, IsStoreOf, reference_of, Stores, StoresAll, CanStoreAll, IsEnd, SaysNoStore}
 use Rattle.std.proofs.Common.{true}
 use Rattle.g1_handles.specs.declared.code.Refusal.TheVariants as refusal
 use Rattle.g1_handles.specs.Racing.{Racing}
@@ -17,8 +17,8 @@ stores_next a b c ss i d k below first h =
     subst (λ (ts : List Store). StoresAll a ts c) (sym (ap (λ (n : ℕ). take n ss) next ∙ take-suc ss i d below)) (more a b c (take i ss) (slice_index_or ss i d) k first h)
 
 -- the race stays
-pub stores_race : (a b : Racing) (ss : List Store) → StoresAll a ss b → racer_race_of b ≡ racer_race_of a
-stores_race a b [] e = ap racer_race_of e
+pub stores_race : (a b : Racing) (ss : List Store) → StoresAll a ss b → b.race ≡ a.race
+stores_race a b [] e = ap (λ (x : Racing). x.race) e
 stores_race a b (s ∷ ss) (c, k, h, rest) = stores_race c b ss rest ∙ h.race
 
 one_more : (xs ys : List ℕ) (card : ℕ) (b : Bool) → ys ≡ cond b (xs ++ card ∷ []) xs → length ys ≤ length xs + 1
@@ -29,16 +29,16 @@ one_more xs ys card false e = omega (arith, ap length e)
 pub stores_logged : (a b : Racing) (ss : List Store) → StoresAll a ss b → array_vec_len b.racer.log ≤ array_vec_len a.racer.log + length ss
 stores_logged a b [] e = let same : array_vec_len b.racer.log ≡ array_vec_len a.racer.log = ap (λ (x : Racing). array_vec_len x.racer.log) e in omega (arith, same)
 stores_logged a b (s ∷ ss) (c, k, h, rest) =
-    omega (arith, one_more a.racer.log.items c.racer.log.items (slot_card (race_shape (racer_race_of a)) s.slot) (is_logged k) h.log, stores_logged c b ss rest)
+    omega (arith, one_more a.racer.log.items c.racer.log.items (slot_card (race_shape a.race) s.slot) (is_logged k) h.log, stores_logged c b ss rest)
 
 -- why there is no next store
 pub stores_end : (a b : Racing) (ss : List Store) (i : ℕ) (d : Store) (r : Refusal) (end : BatchEnd) → i < length ss → StoresAll a (take i ss) b
-    → SaysNoStore (racer_race_of b) b.racer (slice_index_or ss i d).slot (slice_index_or ss i d).target r → (r ≡ refusal.LogFull → end ≡ Full) → (r ≢ refusal.LogFull → end ≡ Stopped) → IsEnd end a ss i b
+    → SaysNoStore b.race b.racer (slice_index_or ss i d).slot (slice_index_or ss i d).target r → (r ≡ refusal.LogFull → end ≡ Full) → (r ≢ refusal.LogFull → end ≡ Stopped) → IsEnd end a ss i b
 stores_end a b ss i d r end below first (inl (e, full)) at_full else =
     subst (λ (x : BatchEnd). IsEnd x a ss i b) (sym (at_full e)) (below, full)
 stores_end a b ss i d r end below first (inr (e, lacks)) at_full else =
     let other : r ≢ refusal.LogFull = λ f. search (rules, e, f) in
-    subst (λ (x : BatchEnd). IsEnd x a ss i b) (sym (else other)) (below, λ f. subst (λ (x : Store). IsStoreOf (race_layout (racer_race_of a)) x.slot x.target → ⊥) (get_or_default ss i d f below) (subst (λ (x : Race). IsStoreOf (race_layout x) (slice_index_or ss i d).slot (slice_index_or ss i d).target → ⊥) (stores_race a b (take i ss) first) lacks))
+    subst (λ (x : BatchEnd). IsEnd x a ss i b) (sym (else other)) (below, λ f. subst (λ (x : Store). IsStoreOf (race_layout a.race) x.slot x.target → ⊥) (get_or_default ss i d f below) (subst (λ (x : Race). IsStoreOf (race_layout x) (slice_index_or ss i d).slot (slice_index_or ss i d).target → ⊥) (stores_race a b (take i ss) first) lacks))
 
 -- all stores that can be made are made
 pub stores_whole : (a b : Racing) (ss : List Store) (i : ℕ) (end : BatchEnd) → CanStoreAll a ss → StoresAll a (take i ss) b → IsEnd end a ss i b → end ≡ Whole

@@ -1,6 +1,7 @@
 -- What a call on what a handle holds says once its result is known.
 use Rattle.std.specs.Prelude.{◌≡◌}
 use Rattle.g1_handles.specs.{◌∙◌, ap, sym, subst, inl, refl, Option, Some, None, Result, Ok, Err, Refusal, Ghosts, Member, OfRole, IfRole, IsRoleRefused, IsVisit}
+use Rattle.g1_handles.specs.declared.code.Refusal.TheVariants as refusal
 
 abbrev pub is_ok : {A : Type 0} → Result A Refusal → Type 0
 is_ok (Ok a) = Unit {0}
@@ -16,43 +17,42 @@ module _ {V A : Type 0} (Q : V → Result A Refusal → V → Type 0) where
   visited {old} {new} {p} {q} {lent} {r} is of later met =
       subst (λ v. IsVisit Q v r new) (sym (is ∙ ap (λ x. Some x) (sym of))) (subst (λ v. IsVisit Q (Some lent) r v) (sym later) met)
 
+  -- what is so at a closed handle, and follows from each call, is so
+  visit_by : (P : Option V → Option V → Type 0) (old new : Option V) (r : Result A Refusal)
+      → (r ≡ Err refusal.NotOpen → P None None) → ((p q : V) → Q p r q → P (Some p) (Some q)) → IsVisit Q old r new → P old new
+  visit_by P None new r shut so is = subst (P None) (sym is.0) (shut is.1)
+  visit_by P (Some p) None r shut so is = absurd is
+  visit_by P (Some p) (Some q) r shut so is = so p q is
+
   -- what follows from each call that answers is so
+  visit_with : (P : Option V → Option V → Type 0) (old new : Option V) (answer : A)
+      → ((p q : V) → Q p (Ok answer) q → P (Some p) (Some q)) → IsVisit Q old (Ok answer) new → P old new
+  visit_with P old new answer = visit_by P old new (Ok answer) (λ e. absurd cc)
+
   pub visit_so : (P : Type 0) (old new : Option V) (answer : A)
       → ((p q : V) → Q p (Ok answer) q → P) → IsVisit Q old (Ok answer) new → P
-  visit_so P None new answer so is = absurd (subst is_ok is.1 tt)
-  visit_so P (Some p) None answer so is = absurd is
-  visit_so P (Some p) (Some q) answer so is = so p q is
+  visit_so P = visit_with (λ _ _. P)
 
   -- nothing has changed where the call keeps what it is made on
   pub visit_same : (old new : Option V) (r : Result A Refusal)
       → ((p q : V) → Q p r q → q ≡ p) → IsVisit Q old r new → new ≡ old
-  visit_same None new r so is = is.0
-  visit_same (Some p) None r so is = absurd is
-  visit_same (Some p) (Some q) r so is = ap (λ x. Some x) (so p q is)
+  visit_same old new r so = visit_by (λ o n. n ≡ o) old new r (λ e. refl) (λ p q is. ap (λ x. Some x) (so p q is))
 
 module _ {P : Type 0} {g : Ghosts P} {T A : Type 0} (seen : Member P g → P → T) (Q : Member P g → Result A Refusal → Member P g → Type 0) where
   -- the same of the racer, the sweeper or the reader of a handle
   pub role_ok : (R : T → T → Type 0) (old new : Option (Member P g)) (answer : A)
       → ((m n : Member P g) → Q m (Ok answer) n → OfRole seen (Some m) (λ a. OfRole seen (Some n) (λ b. R a b)))
       → IsVisit Q old (Ok answer) new → OfRole seen old (λ a. OfRole seen new (λ b. R a b))
-  role_ok R None new answer so is = absurd (subst is_ok is.1 tt)
-  role_ok R (Some m) None answer so is = absurd is
-  role_ok R (Some m) (Some n) answer so is = so m n is
+  role_ok R = visit_with Q (λ o n. OfRole seen o (λ a. OfRole seen n (λ b. R a b)))
 
   pub role_of : (R : T → Type 0) (old new : Option (Member P g)) (answer : A)
       → ((m n : Member P g) → Q m (Ok answer) n → OfRole seen (Some m) R) → IsVisit Q old (Ok answer) new → OfRole seen old R
-  role_of R None new answer so is = absurd (subst is_ok is.1 tt)
-  role_of R (Some m) None answer so is = absurd is
-  role_of R (Some m) (Some n) answer so is = so m n is
+  role_of R = visit_with Q (λ o _. OfRole seen o R)
 
   pub role_why : (Why : T → Refusal → Type 0) (old new : Option (Member P g)) (r : Refusal)
       → ((m n : Member P g) → Q m (Err r) n → IsRoleRefused seen (Some m) Why r) → IsVisit Q old (Err r) new → IsRoleRefused seen old Why r
-  role_why Why None new r so is = inl (ap (err_of r) is.1, refl)
-  role_why Why (Some m) None r so is = absurd is
-  role_why Why (Some m) (Some n) r so is = so m n is
+  role_why Why old new r = visit_by Q (λ o _. IsRoleRefused seen o Why r) old new (Err r) (λ e. inl (ap (err_of r) e, refl))
 
   pub role_if : (R : T → Type 0) (old new : Option (Member P g)) (r : Result A Refusal)
       → ((m n : Member P g) → Q m r n → IfRole seen (Some m) R) → IsVisit Q old r new → IfRole seen old R
-  role_if R None new r so is = tt
-  role_if R (Some m) None r so is = absurd is
-  role_if R (Some m) (Some n) r so is = so m n is
+  role_if R old new r = visit_by Q (λ o _. IfRole seen o R) old new r (λ e. tt)

@@ -1,14 +1,12 @@
 -- What the collector's calls on a heap at a pause do, and why they are refused.
 use Rattle.std.specs.Prelude.{◌≡◌, ◌≢◌}
-use Rattle.g1_handles.specs.Prelude.{ℕ, Bool, List, fold, Option, None, get_elem?, Kind, region_of}
-use Rattle.g1_handles.specs.Prelude.{Table, Crosses, target_of, AreMembers, IsStep, drained}
-use Rattle.g1_handles.specs.Prelude.{kind_of, stored, copied, target_entry, pending_entry}
-use Rattle.g1_handles.specs.Prelude.{members_entry, status_entry, store_entry, clear_entry}
-use Rattle.g1_handles.specs.Prelude.{redirect_entry, Status, ClearReply, IsWord, word_of, Pause}
-use Rattle.g1_handles.specs.Prelude.{table_at, IsSameRace, IsRefinedRace, SlotsBecome, same_word}
-use Rattle.g1_handles.specs.Prelude.{one_word, wiped_word, wiped, forgotten, plain_reply}
-use Rattle.g1_handles.specs.Prelude.{AreAllRefined, IsExactAtPause, copied_word, marked_cards}
-use Rattle.std.specs.FinSet as set
+use Rattle.g1_handles.specs.Prelude.{ℕ, List, fold, Option, None, get_elem?, Kind, region_of, Table}
+use Rattle.g1_handles.specs.Prelude.{Crosses, target_of, IsStep, drained, kind_of, stored, copied}
+use Rattle.g1_handles.specs.Prelude.{target_entry, store_entry, clear_entry, redirect_entry}
+use Rattle.g1_handles.specs.Prelude.{ClearReply, IsWord, word_of, Pause, table_at, IsSameRace}
+use Rattle.g1_handles.specs.Prelude.{IsRefinedRace, SlotsBecome, same_word, one_word, wiped_word}
+use Rattle.g1_handles.specs.Prelude.{wiped, forgotten, plain_reply, AreAllRefined, IsExactAtPause}
+use Rattle.g1_handles.specs.Prelude.{copied_word, marked_cards}
 use mathlib.Core.Option.{some}
 use Rattle.g1_layout.specs.declared.kind.Kind.TheVariants as kinds
 use Rattle.g1_core.specs.declared.reply.Redirected.TheVariants.{Moved}
@@ -21,24 +19,6 @@ use Rattle.g1_handles.specs.Codes.{reference_of}
 pub record SlotRefers (heap : Pause) (slot : ℕ) (target : Option ℕ) : Type 0 where
   pub refers : target ≡ target_of (table_at heap) slot
   pub step : (caller : ℕ) → IsStep (table_at heap) (target_entry caller slot target) (table_at heap)
-
--- the answer is whether the card is pending
-pub record TellsPending (heap : Pause) (card : ℕ) (answer : Bool) : Type 0 where
-  pub pending : answer ≡ set.contains (table_at heap).pending card
-  pub step : (caller : ℕ)
-      → IsStep (table_at heap) (pending_entry caller card answer) (table_at heap)
-
--- the status counts the pending cards and the recorded pairs
-pub record TellsStatus (heap : Pause) (status : Status) : Type 0 where
-  pub pending : status.pending ≡ set.len (table_at heap).pending
-  pub recorded : status.recorded ≡ set.len (table_at heap).recorded
-  pub step : (caller : ℕ) → IsStep (table_at heap) (status_entry caller status) (table_at heap)
-
--- these cards are recorded for the region, ascending, each once
-pub record TellsMembers (heap : Pause) (region : ℕ) (cards : List ℕ) : Type 0 where
-  pub members : AreMembers (table_at heap) region cards
-  pub step : (caller : ℕ)
-      → IsStep (table_at heap) (members_entry caller region cards) (table_at heap)
 
 -- all is refined, and these cards are every one that holds into the region, and only such or
 -- recorded ones

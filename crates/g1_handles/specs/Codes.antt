@@ -1,8 +1,8 @@
--- The words that cross to C.
+-- The words that cross to C, and what a call on what a handle holds does.
 use Rattle.std.specs.Prelude.{◌≡◌, ◌⊎◌, ◌<◌, ◌==◌, if◌then◌else◌}
-use Rattle.g1_handles.specs.Prelude.{ℕ, Option, Some, None, IfSome, Shape, slot_count, Kind, Null}
-use Rattle.g1_handles.specs.Prelude.{SameRegion, AlreadyDirty, Logged, ClearReply, Cleared, Pending}
-use Rattle.g1_handles.specs.Prelude.{StillReferenced, Settings}
+use Rattle.g1_handles.specs.Prelude.{ℕ, Option, Some, None, IfSome, IsSomeAnd, Shape, slot_count}
+use Rattle.g1_handles.specs.Prelude.{Kind, Null, SameRegion, AlreadyDirty, Logged, ClearReply}
+use Rattle.g1_handles.specs.Prelude.{Cleared, Pending, StillReferenced, Settings, Result, Err}
 use Rattle.g1_handles.specs.declared.one_core.open.Counts.{Counts}
 use Rattle.g1_handles.specs.declared.code.Refusal.{Refusal}
 use Rattle.g1_handles.specs.declared.code.Refusal.TheVariants as refusal
@@ -62,16 +62,20 @@ cleared_of word number =
 abbrev pub IsClearWord : ℕ → ℕ → Type 0
 IsClearWord word number = ((word ≡ 0) × (number ≡ 0)) ⊎ (word ≡ 19) ⊎ (word ≡ 20)
 
--- what holds from one value to the next, of a handle that is open before and after
-abbrev pub Between : {V : Type 0} → Option V → Option V → (V → V → Type 0) → Type 0
-Between None new Q = ⊥
-Between (Some old) None Q = ⊥
-Between (Some old) (Some new) Q = Q old new
-
 -- what holds of what an open handle holds
 abbrev pub OfOpen : {V : Type 0} → Option V → (V → Type 0) → Type 0
-OfOpen None Q = ⊥
-OfOpen (Some v) Q = Q v
+OfOpen handle Q = IsSomeAnd handle Q
+
+-- what holds from one value to the next, of a handle that is open before and after
+abbrev pub Between : {V : Type 0} → Option V → Option V → (V → V → Type 0) → Type 0
+Between old new Q = OfOpen old (λ o. OfOpen new (Q o))
+
+-- a call, which leads from one value to another with this result, was made on what a handle holds,
+-- or was refused since the handle is closed
+abbrev pub IsVisit : {V A : Type 0} → (V → Result A Refusal → V → Type 0)
+    → Option V → Result A Refusal → Option V → Type 0
+IsVisit Q None r new = (new ≡ None) × (r ≡ Err refusal.NotOpen)
+IsVisit Q (Some old) r new = OfOpen new (Q old r)
 
 -- the layout that these counts ask for
 abbrev pub layout_of : Counts → Shape

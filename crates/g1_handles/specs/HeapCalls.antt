@@ -5,7 +5,7 @@ use Rattle.g1_handles.specs.declared.code.Refusal.{Refusal}
 use Rattle.g1_handles.specs.declared.code.Refusal.TheVariants as refusal
 use Rattle.g1_handles.specs.declared.heap.racing_heap.RacingHeap.{RacingHeap}
 use Rattle.g1_handles.specs.declared.heap.racing_heap.RacingHeap.TheVariants as heap
-use Rattle.g1_handles.specs.Life.{OfPaused, IsSameBut, SaysNoHeap, SaysNotPaused}
+use Rattle.g1_handles.specs.Life.{OfAtPause, OfPaused, IsSameBut, SaysNoHeap, SaysNotPaused}
 
 -- a call, which leads from one pause to another with this result, was made on what a handle has,
 -- or was refused where that is no heap at a pause
@@ -16,11 +16,8 @@ IsCalled Q (Some (heap.Racing b)) r new =
     (new ≡ Some (heap.Racing b)) × (r ≡ Err refusal.NotPaused)
 IsCalled Q (Some (heap.Read b)) r new =
     (new ≡ Some (heap.Read b)) × (r ≡ Err refusal.NotPaused)
-IsCalled Q (Some (heap.Paused a)) r None = ⊥
-IsCalled Q (Some (heap.Paused a)) r (Some (heap.Read d)) = ⊥
-IsCalled Q (Some (heap.Paused a)) r (Some (heap.Racing d)) = ⊥
-IsCalled Q (Some (heap.Paused a)) r (Some (heap.Paused b)) =
-    IsSameBut a b × Q a.pause r b.pause
+IsCalled Q (Some (heap.Paused a)) r new =
+    OfAtPause new (λ b. IsSameBut a b × Q a.pause r b.pause)
 
 -- a call on the heap of a handle, which is refused at a pause for this
 abbrev pub IsHeapRefused : Option RacingHeap → (Pause → Refusal → Type 0) → Refusal → Type 0

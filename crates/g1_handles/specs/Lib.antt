@@ -6,7 +6,6 @@ pub mod Lacks
 pub mod Refusals
 pub mod Replies
 pub mod Queries
-pub mod Arrays
 pub mod Batch
 pub mod Counting
 pub mod Racing
@@ -15,10 +14,7 @@ pub mod RaceWords
 pub mod AtPause
 pub mod Life
 pub mod HeapCalls
-pub mod Visits
 pub mod Sets
-pub mod Verifying
-pub mod Copies
 pub mod Readers
 pub mod Phases
 pub use Prelude.*
@@ -28,7 +24,6 @@ pub use Lacks.*
 pub use Refusals.*
 pub use Replies.*
 pub use Queries.*
-pub use Arrays.*
 pub use Batch.*
 pub use Counting.*
 pub use Racing.*
@@ -37,10 +32,7 @@ pub use RaceWords.*
 pub use AtPause.*
 pub use Life.*
 pub use HeapCalls.*
-pub use Visits.*
 pub use Sets.*
-pub use Verifying.*
-pub use Copies.*
 pub use Readers.*
 pub use Phases.*
 pub use declared.code.Refusal.{Refusal}

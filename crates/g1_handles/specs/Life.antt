@@ -1,9 +1,9 @@
 -- The life of a heap whose stores race.
 use Rattle.std.specs.Prelude.{◌≡◌, ◌⊎◌, ◌≤◌}
-use Rattle.g1_handles.specs.Prelude.{ℕ, List, [], All, Any, Option, Some, None, IsSome, Contains}
+use Rattle.g1_handles.specs.Prelude.{ℕ, List, [], All, Any, Option, Some, None, IsSome, IsSomeAnd}
 use Rattle.g1_handles.specs.Prelude.{Box, Vec, length, map, replicate, vec_len, arc_value, Global}
-use Rattle.g1_handles.specs.Prelude.{IsShape, opening, IsCovered, Start, beginning, View, Race}
-use Rattle.g1_handles.specs.Prelude.{Racer, race_id, race_layout, racer_log, IsNewRacer}
+use Rattle.g1_handles.specs.Prelude.{IsShape, opening, IsCovered, beginning, View, Race}
+use Rattle.g1_handles.specs.Prelude.{Racer, race_id, race_layout, racer_log, IsNewRacer, Contains}
 use Rattle.g1_handles.specs.Prelude.{IsNewSweeper, racer_view, sweeper_view, race_shape, Pause}
 use Rattle.g1_handles.specs.Prelude.{table_at, start_at, ended_of}
 use Rattle.g1_layout.specs.Shape as layout
@@ -20,18 +20,21 @@ use Rattle.g1_handles.specs.declared.heap.racing_heap.RacingHeap.{RacingHeap}
 use Rattle.g1_handles.specs.declared.heap.racing_heap.RacingHeap.TheVariants as heap
 use Rattle.g1_handles.specs.declared.member.counts.MemberCounts.{MemberCounts}
 use Rattle.g1_handles.specs.Own.{RacerMember, SweeperMember}
-use Rattle.g1_handles.specs.Racing.{AreClosed, OfRacer, OfSweeper, racer_race_of, sweeper_race_of}
-use Rattle.g1_handles.specs.Racing.{racer_knows, sweeper_knows, role_in, IsAmong, IsOf, IsEndOf}
+use Rattle.g1_handles.specs.Racing.{AreClosed, racer_knows, sweeper_knows, role_in, IsAmong, IsOf}
+use Rattle.g1_handles.specs.Racing.{IsOfWith, IsEndOf, counts_of}
 use Rattle.g1_handles.specs.Counting.{no_counts}
-use Rattle.g1_handles.specs.Racing.{counts_of}
 use Rattle.g1_handles.specs.Refusals.{SaysNoMember}
 
--- the handle has a heap at a pause that no reader reads, and it is so of the pause
+-- the handle has a heap at a pause that no reader reads, and it is so of it
+abbrev pub OfAtPause : Option RacingHeap → (AtPause → Type 0) → Type 0
+OfAtPause None P = ⊥
+OfAtPause (Some (heap.Paused a)) P = P a
+OfAtPause (Some (heap.Read r)) P = ⊥
+OfAtPause (Some (heap.Racing b)) P = ⊥
+
+-- the handle has such a heap, and it is so of the pause
 abbrev pub OfPaused : Option RacingHeap → (Pause → Type 0) → Type 0
-OfPaused None P = ⊥
-OfPaused (Some (heap.Paused a)) P = P a.pause
-OfPaused (Some (heap.Read r)) P = ⊥
-OfPaused (Some (heap.Racing b)) P = ⊥
+OfPaused h P = OfAtPause h (λ a. P a.pause)
 
 -- the handle has a heap that readers read, and it is so of it
 abbrev pub OfRead : Option RacingHeap → (BeingRead → Type 0) → Type 0
@@ -57,13 +60,8 @@ pub record IsSameBut (old new : AtPause) : Type 0 where
 -- the handle has a heap at a pause, as before, nothing but the pause has changed, and it is so of
 -- the pause before and after
 abbrev pub IsSameHeap : Option RacingHeap → Option RacingHeap → (Pause → Pause → Type 0) → Type 0
-IsSameHeap None new Q = ⊥
-IsSameHeap (Some (heap.Read r)) new Q = ⊥
-IsSameHeap (Some (heap.Racing b)) new Q = ⊥
-IsSameHeap (Some (heap.Paused a)) None Q = ⊥
-IsSameHeap (Some (heap.Paused a)) (Some (heap.Read r)) Q = ⊥
-IsSameHeap (Some (heap.Paused a)) (Some (heap.Racing d)) Q = ⊥
-IsSameHeap (Some (heap.Paused a)) (Some (heap.Paused b)) Q = IsSameBut a b × Q a.pause b.pause
+IsSameHeap old new Q =
+    OfAtPause old (λ a. OfAtPause new (λ b. IsSameBut a b × Q a.pause b.pause))
 
 -- the heap's handle is closed
 abbrev pub SaysNoHeap : Option RacingHeap → Refusal → Type 0
@@ -125,10 +123,7 @@ heap_race (Some (heap.Racing b)) = Some (arc_value b.race)
 
 -- the handle is open, and it is so of the heap's race
 abbrev pub OfHeap : Option RacingHeap → (Race → Type 0) → Type 0
-OfHeap None P = ⊥
-OfHeap (Some (heap.Paused a)) P = P (arc_value a.race)
-OfHeap (Some (heap.Read r)) P = P (arc_value r.race)
-OfHeap (Some (heap.Racing b)) P = P (arc_value b.race)
+OfHeap h P = IsSomeAnd (heap_race h) P
 
 -- the heap was opened for this many racers and sweepers
 abbrev pub IsFor : Option RacingHeap → ℕ → ℕ → Type 0
@@ -175,23 +170,13 @@ log_of (Some racer) = racer_log racer
 abbrev pub log_in : Option RacerMember → List ℕ
 log_in m = log_of (role_in m)
 
--- the handle is a racer's of this race, which has stored nothing since the race began so
-abbrev pub IsNewRacing : Race → Start → Option RacerMember → Type 0
-IsNewRacing race begin m = OfRacer m (λ a. (racer_race_of a ≡ race)
-    × IsNewRacer race.table.table_id begin a.racer)
-
--- the handle is a sweeper's of this race, which has swept nothing since the race began so
-abbrev pub IsNewSweeping : Race → Start → Option SweeperMember → Type 0
-IsNewSweeping race begin m = OfSweeper m (λ b. (sweeper_race_of b ≡ race)
-    × IsNewSweeper race.table.table_id begin b.sweeper)
-
 -- the race goes on from the pause with its table, and all its racers and sweepers are behind these
--- handles, each racer with the log that it had
+-- handles: they have stored and swept nothing since, and each racer has the log that it had
 pub record GoesOn (p : Pause) (race : Race) (racers : List (Option RacerMember))
     (sweepers : List (Option SweeperMember)) : Type 0 where
   pub began : began (race_layout race) (beginning (start_at p)) ≡ table_at p
-  pub racing : All (IsNewRacing race (start_at p)) racers
-  pub sweeping : All (IsNewSweeping race (start_at p)) sweepers
+  pub racing : All (IsOfWith race (IsNewRacer race.table.table_id (start_at p))) racers
+  pub sweeping : All (IsOfWith race (IsNewSweeper race.table.table_id (start_at p))) sweepers
   pub logs : map log_in racers ≡ p.logs
 
 -- as many racers, sweepers or readers of the race, and as many boxes of members that wait for them
@@ -221,11 +206,7 @@ pub record LetsGo (a : AtPause) (b : UnderWay) : Type 0 where
   pub sweepers_waited : b.sweepers.boxes ≡ a.sweepers
 
 abbrev pub IsLetGo : RacingHeap → RacingHeap → Type 0
-IsLetGo (heap.Paused a) (heap.Racing b) = LetsGo a b
-IsLetGo (heap.Paused a) (heap.Paused c) = ⊥
-IsLetGo (heap.Paused a) (heap.Read r) = ⊥
-IsLetGo (heap.Read r) new = ⊥
-IsLetGo (heap.Racing b) new = ⊥
+IsLetGo old new = OfAtPause (Some old) (λ a. OfRacing (Some new) (LetsGo a))
 
 -- a resume of the heap of the first handle, with the members' handles
 abbrev pub IsGoingRefused : Option RacingHeap → List (Option RacerMember)

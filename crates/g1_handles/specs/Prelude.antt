@@ -1,14 +1,14 @@
 -- What the crate takes from the libraries below it.
 pub use Rattle.std.proofs.Common.{[], ap, arith, Box, cond, inl, inr, length-append, List, lit<}
 pub use Rattle.std.proofs.Common.{map, refl, rules, set, slice_index_or, subst, suc, sym, take}
-pub use Rattle.std.proofs.Common.{zero, ℕ, ◌∙◌}
+pub use Rattle.std.proofs.Common.{ℕ, ◌∙◌}
 pub use Rattle.std.proofs.Math.ListN.{get_or-map}
 pub use Rattle.std.proofs.Math.Seq.{map-set_same, take-suc}
 pub use Rattle.std.proofs.Props.{props}
 pub use Rattle.std.proofs.lemmas.Bool.{cases_lt, eqb-false, eqb-true, not-true}
-pub use Rattle.std.proofs.lemmas.List.{append-nil, append_assoc, drop-set-lt, get_or-set_other}
+pub use Rattle.std.proofs.lemmas.List.{drop-set-lt, get_or-set_other}
 pub use Rattle.std.proofs.lemmas.List.{get_or-set_same, get_or-take, get_or_default, length-map}
-pub use Rattle.std.proofs.lemmas.List.{length-replicate, length-set, length-take, length_push}
+pub use Rattle.std.proofs.lemmas.List.{length-set, length-take, length_push}
 pub use Rattle.std.proofs.lemmas.List.{map-append, take_more_set}
 pub use Rattle.std.proofs.lemmas.List.Elements.{All-contains, All-from_all_within, All-map, All-nil}
 pub use Rattle.std.proofs.lemmas.List.Elements.{All-push, All-take, AllWithin-more_set}

@@ -2,8 +2,9 @@
 use Rattle.std.specs.Prelude.{◌≡◌, ◌<◌, ◌+◌, ◌-◌, ◌^◌}
 use Rattle.g1_handles.specs.Prelude.{ℕ, Bool, List, Option, length, min, target_of, AreMembers}
 use Rattle.g1_handles.specs.Prelude.{Machine, IsStep, target_entry, pending_entry, members_entry}
-use Rattle.g1_handles.specs.Prelude.{status_entry, Status}
+use Rattle.g1_handles.specs.Prelude.{status_entry, Status, Table, map, IsFirst, IsMissing, Differs}
 use Rattle.std.specs.FinSet as set
+use Rattle.g1_handles.specs.Codes.{reference_of}
 use Rattle.g1_handles.specs.Replies.{FitIn}
 use Rattle.g1_handles.specs.declared.one_core.members.Listed.{Listed}
 use Rattle.g1_handles.specs.declared.one_core.members.Listed.TheVariants.{Members, NoRoom}
@@ -19,20 +20,20 @@ pub record RefersTo (old : Machine) (slot : ℕ) (target : Option ℕ) (new : Ma
   pub step : (caller : ℕ) → IsStep old.state.table (target_entry caller slot target) new.state.table
 
 -- The answer is whether the card is pending.
-pub record IsToldPending (m : Machine) (card : ℕ) (answer : Bool) : Type 0 where
-  pub pending : answer ≡ set.contains m.state.table.pending card
-  pub step : (caller : ℕ) → IsStep m.state.table (pending_entry caller card answer) m.state.table
+pub record TellsPending (t : Table) (card : ℕ) (answer : Bool) : Type 0 where
+  pub pending : answer ≡ set.contains t.pending card
+  pub step : (caller : ℕ) → IsStep t (pending_entry caller card answer) t
 
 -- The status counts the pending cards and the recorded pairs.
-pub record HasStatus (m : Machine) (status : Status) : Type 0 where
-  pub pending : status.pending ≡ set.len m.state.table.pending
-  pub recorded : status.recorded ≡ set.len m.state.table.recorded
-  pub step : (caller : ℕ) → IsStep m.state.table (status_entry caller status) m.state.table
+pub record TellsStatus (t : Table) (status : Status) : Type 0 where
+  pub pending : status.pending ≡ set.len t.pending
+  pub recorded : status.recorded ≡ set.len t.recorded
+  pub step : (caller : ℕ) → IsStep t (status_entry caller status) t
 
 -- These cards are recorded for the region, ascending, each once.
-pub record HasMembers (m : Machine) (region : ℕ) (cards : List ℕ) : Type 0 where
-  pub members : AreMembers m.state.table region cards
-  pub step : (caller : ℕ) → IsStep m.state.table (members_entry caller region cards) m.state.table
+pub record TellsMembers (t : Table) (region : ℕ) (cards : List ℕ) : Type 0 where
+  pub members : AreMembers t region cards
+  pub step : (caller : ℕ) → IsStep t (members_entry caller region cards) t
 
 -- So many cards are so, and an array of this length has no room for them.
 pub record Overflows (AreSo : List ℕ → Type 0) (room count : ℕ) : Type 0 where
@@ -50,4 +51,13 @@ abbrev pub IsListOf : List ℕ → ℕ → Listed → Type 0
 IsListOf cards = Lists (λ list. list ≡ cards)
 
 abbrev pub IsListed : Machine → ℕ → ℕ → Listed → Type 0
-IsListed m region = Lists (HasMembers m region)
+IsListed m region = Lists (TellsMembers m.state.table region)
+
+-- the words are of the least slot that refers to something else than memory does, which has these
+-- references from the first slot on, and of the least of so many slots that refers into another
+-- region from a card that is neither pending nor recorded for it
+pub record Finds (t : Table) (first count : ℕ) (memory : List ℕ) (differing missing : ℕ)
+    : Type 0 where
+  pub differs : IsFirst (Differs t first (map reference_of memory)) first (length memory)
+      (reference_of differing)
+  pub misses : IsFirst (IsMissing t) first count (reference_of missing)

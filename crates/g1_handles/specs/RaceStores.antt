@@ -14,32 +14,32 @@ use Rattle.g1_handles.specs.declared.member.exchange.Exchange.{Exchange}
 use Rattle.g1_handles.specs.declared.member.exchange.Exchange.TheVariants as exchange
 use Rattle.g1_handles.specs.Batch.{IsFaultAt}
 use Rattle.g1_handles.specs.Codes.{IsStoreOf, reference_of}
-use Rattle.g1_handles.specs.Racing.{Stores, racer_race_of}
+use Rattle.g1_handles.specs.Racing.{Stores}
 
 -- a racer before and after a store of the place t to slot p, whose overwritten word referred to the
 -- old one
 pub record Swaps (a : Racing) (p : ℕ) (t old : Option ℕ) (k : Kind) (b : Racing) : Type 0 where
-  pub race : racer_race_of b ≡ racer_race_of a
-  pub kind : IsKind (race_shape (racer_race_of a)) p t k
-  pub view : HasOverwritten (race_shape (racer_race_of a)) p (word_of t) old (is_logged k)
+  pub race : b.race ≡ a.race
+  pub kind : IsKind (race_shape a.race) p t k
+  pub view : HasOverwritten (race_shape a.race) p (word_of t) old (is_logged k)
       (racer_view a.racer) (racer_view b.racer)
   pub log : b.racer.log.items ≡ (if is_logged k
-      then a.racer.log.items ++ slot_card (race_shape (racer_race_of a)) p ∷ []
+      then a.racer.log.items ++ slot_card (race_shape a.race) p ∷ []
       else a.racer.log.items)
   pub counts : b.counts ≡ with_store a.counts k
 
 -- a racer before and after such a store, which overwrote what was expected
 pub record Exchanges (a : Racing) (p : ℕ) (expected t : Option ℕ) (k : Kind) (b : Racing)
     : Type 0 where
-  pub race : racer_race_of b ≡ racer_race_of a
-  pub stored : HasStored (race_shape (racer_race_of a)) p t (word_of expected) k a.racer b.racer
+  pub race : b.race ≡ a.race
+  pub stored : HasStored (race_shape a.race) p t (word_of expected) k a.racer b.racer
   pub had : IsFound (racer_view a.racer) p (word_of expected)
   pub counts : b.counts ≡ with_store a.counts k
 
 -- a racer before and after it stored nothing to slot p, which had something else than was expected
 -- and referred to what was found
 pub record FindsOther (a : Racing) (p : ℕ) (expected found : Option ℕ) (b : Racing) : Type 0 where
-  pub race : racer_race_of b ≡ racer_race_of a
+  pub race : b.race ≡ a.race
   pub same : HasNotStored a.racer b.racer
   pub differed : HasDiffered (racer_view a.racer) p expected found
   pub counts : b.counts ≡ a.counts
@@ -58,7 +58,7 @@ StoresAll a (s ∷ stores) b =
 -- why a racer made so many of these stores, before and after them
 abbrev pub IsEnd : BatchEnd → Racing → List Store → ℕ → Racing → Type 0
 IsEnd Whole a stores count b = count ≡ length stores
-IsEnd Stopped a stores count b = IsFaultAt (race_layout (racer_race_of a)) stores count
+IsEnd Stopped a stores count b = IsFaultAt (race_layout a.race) stores count
 IsEnd Full a stores count b = (count < length stores) × (256 ≤ array_vec_len b.racer.log)
 
 -- a racer before and after the first of these stores, up to one that it cannot make
@@ -69,5 +69,5 @@ pub record StoresFirst (a : Racing) (stores : List Store) (answer : RaceBatch) (
 
 -- the heap has each slot and each target, and the racer's log has room for all the slots' cards
 pub record CanStoreAll (a : Racing) (stores : List Store) : Type 0 where
-  pub places : All (λ s. IsStoreOf (race_layout (racer_race_of a)) s.slot s.target) stores
+  pub places : All (λ s. IsStoreOf (race_layout a.race) s.slot s.target) stores
   pub room : array_vec_len a.racer.log + length stores ≤ 256

@@ -8,7 +8,7 @@ use Rattle.g1_handles.specs.declared.code.Refusal.{Refusal}
 use Rattle.g1_handles.specs.declared.code.Refusal.TheVariants as refusal
 use Rattle.g1_handles.specs.Own.{RacerMember}
 use Rattle.g1_handles.specs.Counting.{with_store}
-use Rattle.g1_handles.specs.Racing.{Racing, racer_race_of}
+use Rattle.g1_handles.specs.Racing.{Racing}
 use Rattle.g1_handles.specs.Refusals.{IsRacerRefused}
 
 -- a slot of the heap may have the word: null, a reference or data
@@ -17,16 +17,16 @@ MayHave race word = IsWord (race_shape race) word
 
 -- a racer before and after a store of the word to slot p, which overwrote the old one
 pub record SwapsWord (a : Racing) (p word old : ℕ) (k : Kind) (b : Racing) : Type 0 where
-  pub race : racer_race_of b ≡ racer_race_of a
-  pub stored : HasStoredWord (race_shape (racer_race_of a)) p word old k a.racer b.racer
-  pub fits : MayHave (racer_race_of a) old
+  pub race : b.race ≡ a.race
+  pub stored : HasStoredWord (race_shape a.race) p word old k a.racer b.racer
+  pub fits : MayHave a.race old
   pub counts : b.counts ≡ with_store a.counts k
 
 -- a racer before and after it stored nothing to slot p, which had another word than was expected
 pub record FindsOtherWord (a : Racing) (p expected found : ℕ) (b : Racing) : Type 0 where
-  pub race : racer_race_of b ≡ racer_race_of a
+  pub race : b.race ≡ a.race
   pub same : HasNotStored a.racer b.racer
-  pub differed : HasOtherWord (race_shape (racer_race_of a)) (racer_view a.racer) p expected found
+  pub differed : HasOtherWord (race_shape a.race) (racer_view a.racer) p expected found
   pub counts : b.counts ≡ a.counts
 
 -- what a compare-and-swap of words came to
@@ -54,10 +54,10 @@ pub record CanStoreWord (race : Race) (racer : Racer) (slot word : ℕ) : Type 0
 -- a store of the word into the slot by the racer of a handle
 abbrev pub IsSwapWordRefused : Option RacerMember → ℕ → ℕ → Refusal → Type 0
 IsSwapWordRefused m slot word =
-    IsRacerRefused m (λ a. SaysNoWordStore (racer_race_of a) a.racer slot word)
+    IsRacerRefused m (λ a. SaysNoWordStore a.race a.racer slot word)
 
 -- the same where the word that is expected is a word of the heap too
 abbrev pub IsExchangeWordRefused : Option RacerMember → ℕ → ℕ → ℕ → Refusal → Type 0
 IsExchangeWordRefused m slot expected word =
-    IsRacerRefused m (λ a r. SaysNoWordStore (racer_race_of a) a.racer slot word r
-    ⊎ SaysBadWord (racer_race_of a) expected r)
+    IsRacerRefused m (λ a r. SaysNoWordStore a.race a.racer slot word r
+    ⊎ SaysBadWord a.race expected r)

@@ -67,36 +67,30 @@ OfSweeper m Q = OfRole sweeping_in m Q
 abbrev pub IfSweeper : Option SweeperMember → (Sweeping → Type 0) → Type 0
 IfSweeper m Q = IfRole sweeping_in m Q
 
-abbrev pub racer_race_of : Racing → Race
-racer_race_of a = a.race
-
-abbrev pub sweeper_race_of : Sweeping → Race
-sweeper_race_of b = b.race
-
 -- a racer before and after a store of the place t to slot p
 pub record Stores (a : Racing) (p : ℕ) (t : Option ℕ) (k : Kind) (b : Racing) : Type 0 where
-  pub race : racer_race_of b ≡ racer_race_of a
-  pub kind : IsKind (race_shape (racer_race_of a)) p t k
-  pub view : (old : ℕ) × (racer_view b.racer ≡ stored_view (race_shape (racer_race_of a))
+  pub race : b.race ≡ a.race
+  pub kind : IsKind (race_shape a.race) p t k
+  pub view : (old : ℕ) × (racer_view b.racer ≡ stored_view (race_shape a.race)
       (racer_view a.racer) p (word_of t) old (is_logged k))
   pub log : b.racer.log.items ≡ (if is_logged k
-      then a.racer.log.items ++ slot_card (race_shape (racer_race_of a)) p ∷ []
+      then a.racer.log.items ++ slot_card (race_shape a.race) p ∷ []
       else a.racer.log.items)
   pub counts : b.counts ≡ with_store a.counts k
 
 -- a racer before and after it stored this word of data to slot p, which had the old word
 pub record StoresData (a : Racing) (p word old : ℕ) (b : Racing) : Type 0 where
-  pub race : racer_race_of b ≡ racer_race_of a
-  pub view : racer_view b.racer ≡ stored_view (race_shape (racer_race_of a)) (racer_view a.racer) p
+  pub race : b.race ≡ a.race
+  pub view : racer_view b.racer ≡ stored_view (race_shape a.race) (racer_view a.racer) p
       word old false
   pub log : b.racer.log.items ≡ a.racer.log.items
   pub found : IsFound (racer_view a.racer) p old
-  pub fits : IsWord (race_shape (racer_race_of a)) old
+  pub fits : IsWord (race_shape a.race) old
   pub counts : b.counts ≡ with_store a.counts Null
 
 -- a racer before and after its log was taken
 pub record TakesLog (a : Racing) (log : List ℕ) (b : Racing) : Type 0 where
-  pub race : racer_race_of b ≡ racer_race_of a
+  pub race : b.race ≡ a.race
   pub view : racer_view b.racer ≡ racer_view a.racer
   pub cards : log ≡ a.racer.log.items
   pub empty : b.racer.log.items ≡ []
@@ -105,7 +99,7 @@ pub record TakesLog (a : Racing) (log : List ℕ) (b : Racing) : Type 0 where
 -- a sweeper before and after it refined a card: its counts go up by whether it made the card clean
 -- and by how many references into other regions it read
 pub record Sweeps (a : Sweeping) (card : ℕ) (b : Sweeping) : Type 0 where
-  pub race : sweeper_race_of b ≡ sweeper_race_of a
+  pub race : b.race ≡ a.race
   pub begin : sweeper_start b.sweeper ≡ sweeper_start a.sweeper
   pub swept : (sweeper_view b.sweeper).swept ≡ card ∷ (sweeper_view a.sweeper).swept
   pub was_dirty : Bool
@@ -155,6 +149,10 @@ module _ {P : Type 0} {g : Ghosts P} where
   -- the handle's member is of this race
   abbrev pub IsOf : Race → Option (Member P g) → Type 0
   IsOf race m = IsSomeAnd m (λ x. arc_value x.race ≡ race)
+
+  -- the same, and it has its role, of which this holds
+  abbrev pub IsOfWith : Race → (P → Type 0) → Option (Member P g) → Type 0
+  IsOfWith race Q m = IsOf race m × IsSomeAnd (role_in m) Q
 
 -- what the racer or the sweeper behind a handle knows
 abbrev pub racer_knows : Option RacerMember → View

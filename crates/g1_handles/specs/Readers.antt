@@ -1,6 +1,6 @@
 -- Several threads that read one pause, each by a reader.
 use Rattle.std.specs.Prelude.{◌≡◌, ◌⊎◌, ◌<◌, ◌↔◌}
-use Rattle.g1_handles.specs.Prelude.{ℕ, Bool, List, length, All, Any, Option, Some, None, IsTrue}
+use Rattle.g1_handles.specs.Prelude.{ℕ, Bool, List, length, All, Any, Option, IsTrue}
 use Rattle.g1_handles.specs.Prelude.{arc_value, get_elem?, Shape, Table, target_of, IsRecorded}
 use Rattle.g1_handles.specs.Prelude.{IsWord, Race, race_layout, race_shape, Pause, table_at}
 use Rattle.g1_handles.specs.Prelude.{start_at, Known, known, table_read, IsReaderOf, IsNextMember}
@@ -11,11 +11,10 @@ use Rattle.g1_handles.specs.declared.code.Refusal.TheVariants as refusal
 use Rattle.g1_handles.specs.declared.heap.racing_heap.AtPause.{AtPause}
 use Rattle.g1_handles.specs.declared.heap.racing_heap.BeingRead.{BeingRead}
 use Rattle.g1_handles.specs.declared.heap.racing_heap.RacingHeap.{RacingHeap}
-use Rattle.g1_handles.specs.declared.heap.racing_heap.RacingHeap.TheVariants as heap
 use Rattle.g1_handles.specs.Own.{ReaderMember}
 use Rattle.g1_handles.specs.Life.{OfPaused, OfRead, IsRacing, IsRead, SaysNoHeap, SaysNotPaused}
-use Rattle.g1_handles.specs.Life.{AreFor}
-use Rattle.g1_handles.specs.Racing.{OfRole, AreClosed, IsAmong}
+use Rattle.g1_handles.specs.Life.{AreFor, OfAtPause}
+use Rattle.g1_handles.specs.Racing.{OfRole, AreClosed, IsAmong, IsOfWith}
 use Rattle.g1_handles.specs.Refusals.{SaysNoMember, IsRoleRefused}
 
 -- a reader with its race
@@ -23,11 +22,8 @@ pub record ReaderAt : Type 0 where
   pub race : Race
   pub reader : Known
 
-abbrev pub reader_at : Race → Known → ReaderAt
-reader_at race reader = record { race = race; reader = reader }
-
 abbrev pub reading_in : ReaderMember → Known → ReaderAt
-reading_in m reader = reader_at (arc_value m.race) reader
+reading_in m reader = record { race = arc_value m.race; reader = reader }
 
 -- the handle has a reader, and it is so of it
 abbrev pub OfReader : Option ReaderMember → (ReaderAt → Type 0) → Type 0
@@ -41,15 +37,14 @@ reader_layout a = race_layout a.race
 abbrev pub table_of_reader : ReaderAt → Table
 table_of_reader a = table_read a.race a.reader
 
--- a reader of this race at this pause, which reads the table of the pause
-pub record IsReaderAt (race : Race) (p : Pause) (a : ReaderAt) : Type 0 where
-  pub of : a.race ≡ race
-  pub knows : a.reader ≡ known p.table_id (start_at p)
-  pub table : table_of_reader a ≡ table_at p
+-- a reader at this pause, which reads the table of the pause in this race
+pub record IsReaderAt (race : Race) (p : Pause) (r : Known) : Type 0 where
+  pub knows : r ≡ known p.table_id (start_at p)
+  pub table : table_read race r ≡ table_at p
 
 -- the handles are of readers of this race at this pause
 abbrev pub AreReadersAt : Race → Pause → List (Option ReaderMember) → Type 0
-AreReadersAt race p readers = All (λ m. OfReader m (IsReaderAt race p)) readers
+AreReadersAt race p readers = All (IsOfWith race (IsReaderAt race p)) readers
 
 -- a heap at a pause, and the same while readers read it
 pub record IsLent (a : AtPause) (b : BeingRead) : Type 0 where
@@ -60,10 +55,7 @@ pub record IsLent (a : AtPause) (b : BeingRead) : Type 0 where
 
 -- the one handle has a heap at a pause, and the other the same heap, which readers read
 abbrev pub IsLentHeap : Option RacingHeap → Option RacingHeap → Type 0
-IsLentHeap None read = ⊥
-IsLentHeap (Some (heap.Paused a)) read = OfRead read (λ b. IsLent a b)
-IsLentHeap (Some (heap.Read b)) read = ⊥
-IsLentHeap (Some (heap.Racing b)) read = ⊥
+IsLentHeap old read = OfAtPause old (λ a. OfRead read (IsLent a))
 
 -- the heap is read by this many readers, which are not in their handles
 pub record AreOut (count : ℕ) (b : BeingRead) : Type 0 where

@@ -10,8 +10,7 @@ use Rattle.g1_handles.specs.declared.member.Member.{Member}
 use Rattle.g1_handles.specs.Own.{RacerMember, SweeperMember}
 use Rattle.g1_handles.specs.Codes.{OfOpen}
 use Rattle.g1_handles.specs.Lacks.{LacksSlot, LacksCard, LacksRegion, LacksPlace, LacksCards}
-use Rattle.g1_handles.specs.Racing.{Racing, racer_race_of, sweeper_race_of, role_in, OfRole}
-use Rattle.g1_handles.specs.Racing.{racing_in, sweeping_in}
+use Rattle.g1_handles.specs.Racing.{Racing, role_in, OfRole, racing_in, sweeping_in}
 
 -- the handle is closed
 abbrev pub SaysNotOpen : {V : Type 0} → Option V → Refusal → Type 0
@@ -55,24 +54,24 @@ IsRacerRefused m Why r = IsRoleRefused racing_in m Why r
 -- a store of the target into the slot by the racer of a handle
 abbrev pub IsRaceStoreRefused : Option RacerMember → ℕ → ℕ → Refusal → Type 0
 IsRaceStoreRefused m slot target =
-    IsRacerRefused m (λ a. SaysNoStore (racer_race_of a) a.racer slot target)
+    IsRacerRefused m (λ a. SaysNoStore a.race a.racer slot target)
 
 -- a compare-and-swap of what is expected for the target
 abbrev pub IsRaceExchangeRefused : Option RacerMember → ℕ → ℕ → ℕ → Refusal → Type 0
 IsRaceExchangeRefused m slot expected target =
-    IsRacerRefused m (λ a r. SaysNoStore (racer_race_of a) a.racer slot target r
-    ⊎ LacksPlace (race_layout (racer_race_of a)) slot expected r)
+    IsRacerRefused m (λ a r. SaysNoStore a.race a.racer slot target r
+    ⊎ LacksPlace (race_layout a.race) slot expected r)
 
 -- a store of data by the racer of a handle
 abbrev pub IsRaceDataRefused : Option RacerMember → ℕ → ℕ → Refusal → Type 0
 IsRaceDataRefused m slot word =
-    IsRacerRefused m (λ a r. LacksSlot (race_layout (racer_race_of a)) slot r
+    IsRacerRefused m (λ a r. LacksSlot (race_layout a.race) slot r
     ⊎ ((r ≡ refusal.BadWord) × (word < 2 ^ 32)))
 
 -- the refinement of the card by the sweeper of a handle, which takes no memory
 abbrev pub IsSweepRefused : Option SweeperMember → ℕ → Refusal → Type 0
 IsSweepRefused m card =
-    IsRoleRefused sweeping_in m (λ b. LacksCard (race_layout (sweeper_race_of b)) card)
+    IsRoleRefused sweeping_in m (λ b. LacksCard (race_layout b.race) card)
 
 -- a heap of these counts with these settings
 abbrev pub IsNewRefused : Shape → Settings → Refusal → Type 0

@@ -1,8 +1,8 @@
 -- What the words that C gets stand for.
-use Rattle.std.specs.Prelude.{◌≡◌, ◌≤◌, ◌+◌, ◌*◌, ◌==◌, if◌then◌else◌}
+use Rattle.std.specs.Prelude.{◌≡◌, ◌≤◌, ◌+◌, ◌-◌, ◌*◌, ◌^◌, ◌==◌, if◌then◌else◌, drop}
 use Rattle.g1_handles.specs.Prelude.{ℕ, Option, Some, None, List, length, not, ⊤, Machine, IsLater}
 use Rattle.g1_handles.specs.Prelude.{IsOnlyRead, IsStep, IsDrainOf, clear_entry, drain_entry}
-use Rattle.g1_handles.specs.Prelude.{redirect_entry, refine_entry, ClearReply, Drained}
+use Rattle.g1_handles.specs.Prelude.{redirect_entry, refine_entry, ClearReply, Drained, min, copied}
 use Rattle.std.specs.FinSet as set
 use Rattle.g1_core.specs.Refinement.{IsTurned, AreCardsRead}
 use Rattle.g1_core.specs.Clearing.{member_count}
@@ -42,6 +42,10 @@ pub record DrainsTo (old : Machine) (region : ℕ) (answer : Drained) (new : Mac
 abbrev pub FitIn : ℕ → List ℕ → Type 0
 FitIn room cards = (length cards ≤ room) × (length cards ≤ 16777216)
 
+-- at most so many elements were written, those at the front; the array has as many
+abbrev pub IsWritten : List ℕ → ℕ → List ℕ → Type 0
+IsWritten old count new = (count ≤ length old) × (drop count new ≡ drop count old)
+
 -- A clear of the region got the reply.
 pub record ClearsTo (old : Machine) (region : ℕ) (reply : ClearReply) (new : Machine) : Type 0 where
   pub step : (caller : ℕ) → IsStep old.state.table (clear_entry caller region reply) new.state.table
@@ -58,6 +62,14 @@ pub record RedirectsTo (old : Machine) (from to : ℕ) (answer : Redirected)
   pub step : (caller : ℕ) → IsStep old.state.table (redirect_entry caller from to answer)
       new.state.table
   pub later : IsLater old new
+
+-- as many slots from one on have what those from another on had; nothing else has changed but the
+-- count of reads
+pub record CopiesSlots (old : Machine) (from to count : ℕ) (new : Machine) : Type 0 where
+  pub table : new.state.table ≡ copied from to count old.state.table
+  pub ring : new.state.ring ≡ old.state.ring
+  pub settings : new.settings ≡ old.settings
+  pub reads : new.reads ≡ min (old.reads + count) (2 ^ 64 - 1)
 
 -- Nothing but the count of reads has changed.
 abbrev pub AreOnlyRead : Option Machine → Option Machine → Type 0

@@ -1,10 +1,10 @@
 -- What C is told of a region's set at a pause.
 use Rattle.std.specs.Prelude.{◌≡◌, ◌<◌, ◌+◌, ◌++◌}
-use Rattle.g1_handles.specs.Prelude.{ℕ, List, All, Contains, Result, IfOk, IfErr, OnErr, length}
-use Rattle.g1_handles.specs.Prelude.{take, Table, IsRecorded, Pause}
-use Rattle.std.specs.List.Sorted.{IsStrictlyIncreasing}
-use Rattle.g1_handles.specs.Arrays.{IsWritten}
-use Rattle.g1_handles.specs.AtPause.{DrainsAtPause, TellsMembers}
+use Rattle.g1_handles.specs.Prelude.{ℕ, List, Result, IfOk, IfErr, OnErr, length, take, Pause}
+use Rattle.g1_handles.specs.Prelude.{table_at}
+use Rattle.g1_handles.specs.Replies.{IsWritten}
+use Rattle.g1_handles.specs.AtPause.{DrainsAtPause}
+use Rattle.g1_handles.specs.Queries.{TellsMembers}
 use Rattle.g1_handles.specs.declared.code.Refusal.{Refusal}
 use Rattle.g1_handles.specs.declared.heap.sets.Told.{Told}
 use Rattle.g1_handles.specs.declared.heap.sets.Told.TheVariants.{All as All-of, First}
@@ -24,16 +24,9 @@ abbrev pub Tells : (List ℕ → Type 0) → List ℕ → Told → List ℕ → 
 Tells AreSo old (All-of count) new = AreSo (take count new) × IsWritten old count new
 Tells AreSo old (First count) new = HasFirst AreSo new count × (length new ≡ length old)
 
--- the members of the region that are below a number, ascending
-pub record AreMembersBelow (t : Table) (region from : ℕ) (cards : List ℕ) : Type 0 where
-  pub ascending : IsStrictlyIncreasing cards
-  pub below : All (λ c. c < from) cards
-  pub recorded : (card : ℕ) → Contains cards card → IsRecorded t card region
-  pub all : (card : ℕ) → card < from → IsRecorded t card region → Contains cards card
-
 -- these cards are the set
 abbrev pub IsSet : Which → Pause → ℕ → Pause → List ℕ → Type 0
-IsSet Recorded old region new cards = TellsMembers old region cards
+IsSet Recorded old region new cards = TellsMembers (table_at old) region cards
 IsSet Refined old region new cards = DrainsAtPause old region new cards
 
 -- a call for the set of a region, with what the array had before and has after it

@@ -3,7 +3,7 @@ ghost use Rattle.std.specs.Prelude.{◌≡◌};
 ghost use Rattle.g1_handles.specs.Prelude.{Some, None, MatchOption, IsTrue, map};
 ghost use Rattle.g1_handles.specs.Prelude.{FnOnceReturnsAtMut};
 ghost use Rattle.g1_handles.specs.Racing.{AreClosed};
-ghost use Rattle.g1_handles.specs.Visits.{IsVisit};
+ghost use Rattle.g1_handles.specs.Codes.{IsVisit};
 
 use crate::code::Refusal;
 use crate::nullable_box::NullableBox;

@@ -42,7 +42,7 @@ pub extern "C" fn g1_heap_is_pending(
 ) -> u32
     ensures told { Answers result (pending.new == 1) (pending.new ≡ 0) heap.old.value heap.new.value
         (λ answer. IsSameHeap heap.old.value heap.new.value (λ old new.
-        TellsPending old card answer))
+        TellsPending (table_at old) card answer))
         (IsHeapRefused heap.old.value (λ old. LacksCard old.layout card)) }
     ensures word { pending.new ≤ 1 }
 {
@@ -55,7 +55,7 @@ pub extern "C" fn g1_heap_is_pending(
 #[unsafe(no_mangle)]
 pub extern "C" fn g1_heap_status(alloc: Global, heap: &mut HeapHandle, totals: &mut Totals) -> u32
     ensures status { result ≡ 0 → IsSameHeap heap.old.value heap.new.value (λ old new.
-        TellsStatus old (record {
+        TellsStatus (table_at old) (record {
           pending = totals.new.pending;
           recorded = totals.new.recorded;
         })) }
@@ -93,9 +93,9 @@ pub extern "C" fn g1_heap_members(
     count: &mut u32,
 ) -> u32
     ensures members { result ≡ 0 → IsSameHeap heap.old.value heap.new.value (λ old new.
-        TellsMembers old region (take count.new cards.new)) }
+        TellsMembers (table_at old) region (take count.new cards.new)) }
     ensures room { result ≡ 16 → IsSameHeap heap.old.value heap.new.value (λ old new.
-        HasFirst (TellsMembers old region) cards.new count.new) }
+        HasFirst (TellsMembers (table_at old) region) cards.new count.new) }
     ensures why { 0 < result → result ≢ 16 → IsRefusal result
         (IsHeapRefused heap.old.value (λ old. LacksRegion old.layout region)) }
     ensures none { result ≢ 0 → result ≢ 16 → count.new ≡ 0 }

@@ -1,7 +1,7 @@
 //! Checks of a heap at a pause, for a debug build.
 ghost use Rattle.std.specs.Prelude.{◌≡◌, ◌+◌, ◌≤◌};
 ghost use Rattle.g1_c.specs.{length, slot_count, TellsRefusal, IsHeapRefused, IsSameHeap, OfPaused};
-ghost use Rattle.g1_c.specs.{FindsAt, LacksRanges};
+ghost use Rattle.g1_c.specs.{Finds, LacksRanges, table_at};
 
 use crate::calling::on_heap;
 use g1_handles::code::{DONE, NULL};
@@ -22,7 +22,7 @@ pub extern "C" fn g1_heap_verify(
     missing: &mut u32,
 ) -> u32
     ensures found { result ≡ 0 → IsSameHeap heap.old.value heap.new.value (λ old new.
-        FindsAt old first count references.now differing.new missing.new) }
+        Finds (table_at old) first count references.now differing.new missing.new) }
     ensures answered { OfPaused heap.old.value (λ old. (first + count ≤ slot_count old.layout)
         × (first + length references.now ≤ slot_count old.layout)) → result ≡ 0 }
     ensures told { TellsRefusal 0 result heap.old.value heap.new.value

@@ -1,7 +1,7 @@
 //! Several stores in a race by one call.
 ghost use Rattle.std.specs.Prelude.{◌≡◌, ◌⊎◌, ◌<◌, ◌≤◌};
 ghost use Rattle.g1_c.specs.{length, take, array_vec_len, race_layout, TellsRefusal, IsFaultAt};
-ghost use Rattle.g1_c.specs.{StoresAll, CanStoreAll, OfRacer, IfRacer, racer_race_of, SaysNoMember};
+ghost use Rattle.g1_c.specs.{StoresAll, CanStoreAll, OfRacer, IfRacer, SaysNoMember};
 
 use crate::calling::on_racer;
 use g1_handles::code::{DONE, FULL, STOPPED};
@@ -23,7 +23,7 @@ pub extern "C" fn g1_race_store_all(
         OfRacer racer.new.value (λ b. StoresAll a (take stored.new stores.now) b)) }
     ensures whole { result ≡ 0 → stored.new ≡ length stores.now }
     ensures stopped { result ≡ 3 → OfRacer racer.old.value (λ a.
-        IsFaultAt (race_layout (racer_race_of a)) stores.now stored.new) }
+        IsFaultAt (race_layout a.race) stores.now stored.new) }
     ensures full { result ≡ 4 → (stored.new < length stores.now)
         × OfRacer racer.new.value (λ b. 256 ≤ array_vec_len b.racer.log) }
     ensures done { result ≤ 4 → (result ≡ 0) ⊎ (result ≡ 3) ⊎ (result ≡ 4) }

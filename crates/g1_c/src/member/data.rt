@@ -1,7 +1,7 @@
 //! Stores of data in a race.
 ghost use Rattle.std.specs.Prelude.{◌≡◌, ◌<◌, ◌≤◌, ◌^◌};
 ghost use Rattle.g1_c.specs.{slot_count, race_layout, TellsRefusal, OfRacer, IfRacer, StoresData};
-ghost use Rattle.g1_c.specs.{racer_race_of, IsRaceDataRefused};
+ghost use Rattle.g1_c.specs.{IsRaceDataRefused};
 
 use crate::calling::on_racer;
 use g1_handles::code::DONE;
@@ -21,7 +21,7 @@ pub extern "C" fn g1_race_store_data(
 ) -> u32
     ensures stored { result ≡ 0 → OfRacer racer.old.value (λ a.
         OfRacer racer.new.value (λ b. StoresData a slot word old.new b)) }
-    ensures taken { IfRacer racer.old.value (λ a. slot < slot_count (race_layout (racer_race_of a))
+    ensures taken { IfRacer racer.old.value (λ a. slot < slot_count (race_layout a.race)
         → 2 ^ 32 ≤ word → result ≡ 0) }
     ensures told { TellsRefusal 0 result racer.old.value racer.new.value (old.new ≡ 0)
         (IsRaceDataRefused racer.old.value slot word) }

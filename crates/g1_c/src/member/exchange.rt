@@ -2,7 +2,7 @@
 ghost use Rattle.std.specs.Prelude.{◌≡◌, ◌⊎◌, ◌<◌, ◌≤◌};
 ghost use Rattle.g1_c.specs.{array_vec_len, race_layout, TellsRefusal, IsStoreOf, OfKind};
 ghost use Rattle.g1_c.specs.{reference_of, Swaps, Exchanges, FindsOther, OfRacer, IfRacer};
-ghost use Rattle.g1_c.specs.{racer_race_of, IsRaceStoreRefused, IsRaceExchangeRefused};
+ghost use Rattle.g1_c.specs.{IsRaceStoreRefused, IsRaceExchangeRefused};
 
 use crate::calling::on_racer;
 use g1_handles::code::{DIFFERS, DONE, NULL, kind_word};
@@ -25,7 +25,7 @@ pub extern "C" fn g1_race_swap(
         OfRacer racer.new.value (λ b. OfKind kind.new (λ k.
         Swaps a slot (reference_of target) (reference_of old.new) k b))) }
     ensures taken { IfRacer racer.old.value (λ a. array_vec_len a.racer.log < 256
-        → IsStoreOf (race_layout (racer_race_of a)) slot target → result ≡ 0) }
+        → IsStoreOf (race_layout a.race) slot target → result ≡ 0) }
     ensures told { TellsRefusal 0 result racer.old.value racer.new.value
         ((old.new ≡ 4294967295) × (kind.new ≡ 0)) (IsRaceStoreRefused racer.old.value slot target) }
 {
@@ -64,8 +64,8 @@ pub extern "C" fn g1_race_compare_exchange(
         FindsOther a slot (reference_of expected) (reference_of found.new) b)) }
     ensures done { result ≤ 2 → (result ≡ 0) ⊎ (result ≡ 2) }
     ensures taken { IfRacer racer.old.value (λ a. array_vec_len a.racer.log < 256
-        → IsStoreOf (race_layout (racer_race_of a)) slot expected
-        → IsStoreOf (race_layout (racer_race_of a)) slot target → result ≤ 2) }
+        → IsStoreOf (race_layout a.race) slot expected
+        → IsStoreOf (race_layout a.race) slot target → result ≤ 2) }
     ensures none { 0 < result → kind.new ≡ 0 }
     ensures told { TellsRefusal 2 result racer.old.value racer.new.value (found.new ≡ 4294967295)
         (IsRaceExchangeRefused racer.old.value slot expected target) }

@@ -1,7 +1,7 @@
 //! Concurrent refinement in a race.
 ghost use Rattle.std.specs.Prelude.{◌≡◌, ◌<◌};
 ghost use Rattle.g1_c.specs.{card_count, race_layout, TellsRefusal, OfSweeper, IfSweeper, Sweeps};
-ghost use Rattle.g1_c.specs.{sweeper_race_of, IsSweepRefused};
+ghost use Rattle.g1_c.specs.{IsSweepRefused};
 
 use crate::calling::on_sweeper;
 use g1_handles::code::DONE;
@@ -16,7 +16,7 @@ pub extern "C" fn g1_race_refine(alloc: Global, sweeper: &mut SweeperHandle, car
     ensures refined { result ≡ 0 → OfSweeper sweeper.old.value (λ a.
         OfSweeper sweeper.new.value (λ b. Sweeps a card b)) }
     ensures taken { IfSweeper sweeper.old.value (λ a.
-        card < card_count (race_layout (sweeper_race_of a)) → result ≡ 0) }
+        card < card_count (race_layout a.race) → result ≡ 0) }
     ensures told { TellsRefusal 0 result sweeper.old.value sweeper.new.value (Unit {0})
         (IsSweepRefused sweeper.old.value card) }
 {

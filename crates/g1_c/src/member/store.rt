@@ -1,8 +1,7 @@
 //! Lock-free stores in a race.
 ghost use Rattle.std.specs.Prelude.{◌≡◌, ◌<◌};
 ghost use Rattle.g1_c.specs.{array_vec_len, race_layout, TellsRefusal, IsStoreOf, OfKind};
-ghost use Rattle.g1_c.specs.{reference_of, OfRacer, IfRacer, Stores, racer_race_of};
-ghost use Rattle.g1_c.specs.{IsRaceStoreRefused};
+ghost use Rattle.g1_c.specs.{reference_of, OfRacer, IfRacer, Stores, IsRaceStoreRefused};
 
 use crate::calling::on_racer;
 use g1_handles::code::{DONE, kind_word};
@@ -24,7 +23,7 @@ pub extern "C" fn g1_race_store(
         OfRacer racer.new.value (λ b. OfKind kind.new (λ k.
         Stores a slot (reference_of target) k b))) }
     ensures taken { IfRacer racer.old.value (λ a. array_vec_len a.racer.log < 256
-        → IsStoreOf (race_layout (racer_race_of a)) slot target → result ≡ 0) }
+        → IsStoreOf (race_layout a.race) slot target → result ≡ 0) }
     ensures told { TellsRefusal 0 result racer.old.value racer.new.value (kind.new ≡ 0)
         (IsRaceStoreRefused racer.old.value slot target) }
 {

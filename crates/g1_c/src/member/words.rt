@@ -1,6 +1,6 @@
 //! Stores of words in a race: a slot may hold null, a reference or data.
 ghost use Rattle.std.specs.Prelude.{◌≡◌, ◌⊎◌, ◌<◌, ◌≤◌};
-ghost use Rattle.g1_c.specs.{TellsRefusal, OfKind, OfRacer, IfRacer, racer_race_of};
+ghost use Rattle.g1_c.specs.{TellsRefusal, OfKind, OfRacer, IfRacer};
 ghost use Rattle.g1_handles.specs.RaceWords.{SwapsWord, FindsOtherWord, CanStoreWord, MayHave};
 ghost use Rattle.g1_handles.specs.RaceWords.{IsSwapWordRefused, IsExchangeWordRefused};
 
@@ -24,7 +24,7 @@ pub extern "C" fn g1_race_swap_word(
     ensures swapped { result ≡ 0 → OfRacer racer.old.value (λ a.
         OfRacer racer.new.value (λ b. OfKind kind.new (λ k. SwapsWord a slot word old.new k b))) }
     ensures taken { IfRacer racer.old.value (λ a.
-        CanStoreWord (racer_race_of a) a.racer slot word → result ≡ 0) }
+        CanStoreWord a.race a.racer slot word → result ≡ 0) }
     ensures told { TellsRefusal 0 result racer.old.value racer.new.value
         ((old.new ≡ 0) × (kind.new ≡ 0)) (IsSwapWordRefused racer.old.value slot word) }
 {
@@ -61,8 +61,8 @@ pub extern "C" fn g1_race_compare_exchange_word(
     ensures differs { result ≡ 2 → OfRacer racer.old.value (λ a.
         OfRacer racer.new.value (λ b. FindsOtherWord a slot expected found.new b)) }
     ensures done { result ≤ 2 → (result ≡ 0) ⊎ (result ≡ 2) }
-    ensures taken { IfRacer racer.old.value (λ a. CanStoreWord (racer_race_of a) a.racer slot word
-        → MayHave (racer_race_of a) expected → result ≤ 2) }
+    ensures taken { IfRacer racer.old.value (λ a. CanStoreWord a.race a.racer slot word
+        → MayHave a.race expected → result ≤ 2) }
     ensures none { 0 < result → kind.new ≡ 0 }
     ensures told { TellsRefusal 2 result racer.old.value racer.new.value (found.new ≡ 0)
         (IsExchangeWordRefused racer.old.value slot expected word) }

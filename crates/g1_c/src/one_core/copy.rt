@@ -1,7 +1,7 @@
 //! A range of slots of a core is copied to another one.
 ghost use Rattle.std.specs.Prelude.{◌≡◌, ◌+◌, ◌≤◌};
 ghost use Rattle.g1_c.specs.{IfSome, slot_count, TellsRefusal, Between, LacksRanges, IsCallRefused};
-ghost use Rattle.g1_handles.specs.Copies.{CopiesSlots};
+ghost use Rattle.g1_handles.specs.Replies.{CopiesSlots};
 
 use crate::calling::on_core;
 use g1_handles::code::DONE;

@@ -1,6 +1,6 @@
 //! The remembered set of a region, as it is recorded.
 ghost use Rattle.std.specs.Prelude.{◌≡◌, ◌≢◌, ◌<◌};
-ghost use Rattle.g1_c.specs.{length, take, IsWritten, OfOpen, IsRefusal, HasMembers, Overflows};
+ghost use Rattle.g1_c.specs.{length, take, IsWritten, OfOpen, IsRefusal, TellsMembers, Overflows};
 ghost use Rattle.g1_c.specs.{AreMembersRefused, IsCallRefused};
 
 use crate::calling::on_core;
@@ -20,9 +20,9 @@ pub extern "C" fn g1_members(
     count: &mut u32,
 ) -> u32
     ensures members { result ≡ 0 → OfOpen handle.old.value (λ machine.
-        HasMembers machine region (take count.new cards.new)) }
+        TellsMembers machine.state.table region (take count.new cards.new)) }
     ensures room { result ≡ 16 → OfOpen handle.old.value (λ machine.
-        Overflows (HasMembers machine region) (length cards.old) count.new) }
+        Overflows (TellsMembers machine.state.table region) (length cards.old) count.new) }
     ensures why { 0 < result → result ≢ 16 →
         IsRefusal result (IsCallRefused handle.old.value (λ old.
         AreMembersRefused old.state.table.layout region)) }

@@ -1,7 +1,7 @@
 //! Queries: what a slot refers to, whether a card is pending, and how much is pending and recorded.
 ghost use Rattle.std.specs.Prelude.{◌≡◌, ◌<◌, ◌≤◌, ◌==◌};
 ghost use Rattle.g1_c.specs.Prelude.{IfSome, IsSome, slot_count, card_count, Between, OfOpen};
-ghost use Rattle.g1_c.specs.Prelude.{reference_of, RefersTo, IsToldPending, HasStatus};
+ghost use Rattle.g1_c.specs.Prelude.{reference_of, RefersTo, TellsPending, TellsStatus};
 ghost use Rattle.g1_c.specs.Prelude.{IsCallRefused, SaysNotOpen, LacksCard, LacksSlot};
 ghost use Rattle.g1_c.specs.Calls.{TellsRefusal};
 
@@ -52,7 +52,7 @@ pub extern "C" fn g1_is_pending(
     pending: &mut u32,
 ) -> u32
     ensures pending { result ≡ 0 → OfOpen handle.old.value (λ machine.
-        IsToldPending machine card (pending.new == 1)) }
+        TellsPending machine.state.table card (pending.new == 1)) }
     ensures word { pending.new ≤ 1 }
     ensures answered { IfSome handle.old.value (λ machine.
         card < card_count machine.state.table.layout → result ≡ 0) }
@@ -77,7 +77,7 @@ pub extern "C" fn g1_is_pending(
 #[unsafe(no_mangle)]
 pub extern "C" fn g1_status(alloc: Global, handle: &mut Handle, totals: &mut Totals) -> u32
     ensures totals { result ≡ 0 → OfOpen handle.old.value (λ machine.
-        HasStatus machine
+        TellsStatus machine.state.table
         (record { pending = totals.new.pending; recorded = totals.new.recorded })) }
     ensures answered { IsSome handle.old.value → result ≡ 0 }
     ensures told { TellsRefusal 0 result handle.old.value handle.new.value

@@ -62,9 +62,7 @@ pub fn wipe_at(heap: &mut PausedHeap, region: u32) -> Result<(), Refusal>
     ensures refused { OnErr result (heap.new ≡ heap.old) }
     ensures kept { IsKept heap.old heap.new }
 {
-    let Some(region) = heap.layout().region(region) else {
-        return Err(Refusal::NoRegion);
-    };
+    let region = heap.layout().region(region).ok_or(Refusal::NoRegion)?;
     heap.wipe(region);
     Ok(())
 }
@@ -80,9 +78,7 @@ pub fn forget_at(heap: &mut PausedHeap, region: u32) -> Result<(), Refusal>
     ensures kept { IsKept heap.old heap.new }
 {
     let layout = heap.layout();
-    let Some(region) = layout.region(region) else {
-        return Err(Refusal::NoRegion);
-    };
+    let region = layout.region(region).ok_or(Refusal::NoRegion)?;
     if refers_out(heap, layout, region) {
         return Err(Refusal::StillReferenced);
     }

@@ -36,9 +36,7 @@ fn look_in<P: Role, H: AnyHandle<Value = Member<P>>>(
     ensures why { IfErr result (λ refusal. (refusal ≡ Refusal.OtherRace)
         ⊎ SaysNoMember (H.value handle.old) refusal) }
 {
-    let Some(member) = into_box(replace(handle, closed(alloc))) else {
-        return Err(Refusal::NotOpen);
-    };
+    let member = into_box(replace(handle, closed(alloc))).ok_or(Refusal::NotOpen)?;
     let answer = look(&member, members);
     *handle = opened(member);
     answer

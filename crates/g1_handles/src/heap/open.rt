@@ -44,12 +44,9 @@ pub fn open_heap(
     if !are_heap_counts(racers, sweepers) {
         return Err(Refusal::BadMembers);
     }
-    let Some(layout) = Layout::large(counts.regions, counts.cards, counts.slots) else {
-        return Err(Refusal::BadLayout);
-    };
-    let Ok(heap) = new_heap(alloc, layout, racers, sweepers) else {
-        return Err(Refusal::NoMemory);
-    };
+    let layout = Layout::large(counts.regions, counts.cards, counts.slots);
+    let layout = layout.ok_or(Refusal::BadLayout)?;
+    let heap = new_heap(alloc, layout, racers, sweepers).or(Err(Refusal::NoMemory))?;
     *handle = opened(heap);
     Ok(())
 }

@@ -47,9 +47,7 @@ pub fn pause_heap(
         × (held_racers racers.new ≡ held_racers racers.old)
         × (held_sweepers sweepers.new ≡ held_sweepers sweepers.old)) }
 {
-    let Some(mut heap) = into_box(replace(handle, closed(alloc))) else {
-        return Err(Refusal::NotOpen);
-    };
+    let mut heap = into_box(replace(handle, closed(alloc))).ok_or(Refusal::NotOpen)?;
     let answer = pause_of(alloc, &mut heap, racers, sweepers);
     *handle = opened(heap);
     answer
@@ -83,9 +81,8 @@ fn pause_of(
     let members = under_way.race.members();
     look_at(alloc, racers, members)?;
     look_at(alloc, sweepers, members)?;
-    let Some(share) = share_of_race(alloc, &under_way.race, racers, sweepers) else {
-        return Err(Refusal::OtherRace);
-    };
+    let share = share_of_race(alloc, &under_way.race, racers, sweepers);
+    let share = share.ok_or(Refusal::OtherRace)?;
     let RacingHeap::Racing(under_way) = heap else {
         unreachable!()
     };

@@ -28,7 +28,7 @@ pub fn target_at(heap: &mut PausedHeap, slot: u32) -> Result<u32, Refusal>
 /// Returns whether a card is pending, or `NoCard`.
 #[tactic(auto, using(crate::proofs::Kept::kept_same))]
 pub fn is_pending_at(heap: &mut PausedHeap, card: u32) -> Result<bool, Refusal>
-    ensures pending { IfOk result (TellsPending heap.old card) }
+    ensures pending { IfOk result (TellsPending (table_at heap.old) card) }
     ensures why { IfErr result (LacksCard heap.old.layout card) }
     ensures same { heap.new ≡ heap.old }
     ensures kept { IsKept heap.old heap.new }
@@ -42,7 +42,7 @@ pub fn is_pending_at(heap: &mut PausedHeap, card: u32) -> Result<bool, Refusal>
 /// Returns how much is pending and recorded.
 #[tactic(auto, using(crate::proofs::Kept::kept_same))]
 pub fn status_at(heap: &mut PausedHeap) -> Status
-    ensures status { TellsStatus heap.old result }
+    ensures status { TellsStatus (table_at heap.old) result }
     ensures same { heap.new ≡ heap.old }
     ensures kept { IsKept heap.old heap.new }
 {
@@ -61,9 +61,7 @@ pub fn next_member_at(heap: &mut PausedHeap, region: u32, from: u32) -> Result<u
 {
     let layout = heap.layout();
     let _limit = layout.card_count();
-    let Some(region) = layout.region(region) else {
-        return Err(Refusal::NoRegion);
-    };
+    let region = layout.region(region).ok_or(Refusal::NoRegion)?;
     match heap.next_member(region, from) {
         Some(card) => Ok(card.number()),
         None => Ok(NULL),

@@ -38,9 +38,7 @@ pub fn resume_heap(
         × (held_racers racers.new ≡ held_racers racers.old)
         × (held_sweepers sweepers.new ≡ held_sweepers sweepers.old)) }
 {
-    let Some(mut heap) = into_box(replace(handle, closed(alloc))) else {
-        return Err(Refusal::NotOpen);
-    };
+    let mut heap = into_box(replace(handle, closed(alloc))).ok_or(Refusal::NotOpen)?;
     let answer = resume_of(alloc, &mut heap, racers, sweepers);
     *handle = opened(heap);
     answer
@@ -68,10 +66,7 @@ fn resume_of(
     if racers.len() != at.racers.len() || sweepers.len() != at.sweepers.len() {
         return Err(Refusal::BadMembers);
     }
-    if !are_closed(alloc, racers) {
-        return Err(Refusal::AlreadyOpen);
-    }
-    if !are_closed(alloc, sweepers) {
+    if !are_closed(alloc, racers) || !are_closed(alloc, sweepers) {
         return Err(Refusal::AlreadyOpen);
     }
     replace_with(heap, (), let_go);
@@ -149,7 +144,6 @@ fn hand_out(under_way: &mut UnderWay, racers: &mut [RacerHandle], sweepers: &mut
 }
 
 /// Gives each handle the role of its place, in the box of that place.
-#[tactic(auto, using(crate::proofs::all_alike, crate::proofs::all_found, crate::proofs::all_of))]
 pub(crate) fn hand_out_to<P: Role, H: AnyHandle<Value = Member<P>>>(
     handles: &mut [H],
     boxes: &mut Vec<Box<Member<P>>>,

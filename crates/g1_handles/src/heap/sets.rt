@@ -1,10 +1,11 @@
 //! The remembered set of a region at a pause, in an array of the caller's.
-ghost use Rattle.std.specs.Prelude.{◌≡◌, ◌+◌, ◌<◌, ◌≤◌, ◌++◌};
-ghost use Rattle.g1_handles.specs.Prelude.{ℕ, List, Some, IfOk, IfErr, OnErr, length, card_count};
-ghost use Rattle.g1_handles.specs.Prelude.{AreMembers, table_at, IsKept};
-ghost use Rattle.g1_handles.specs.AtPause.{DrainsAtPause, TellsMembers};
+ghost use Rattle.std.specs.Prelude.{◌≡◌, ◌<◌};
+ghost use Rattle.g1_handles.specs.Prelude.{Some, IfOk, IfErr, OnErr, slice_set, AreMembers};
+ghost use Rattle.g1_handles.specs.Prelude.{table_at, IsKept};
+ghost use Rattle.g1_handles.specs.AtPause.{DrainsAtPause};
 ghost use Rattle.g1_handles.specs.HeapCalls.{IsCalled};
-ghost use Rattle.g1_handles.specs.Sets.{Tells, AreMembersBelow, IsSetCall};
+ghost use Rattle.g1_handles.specs.Queries.{TellsMembers};
+ghost use Rattle.g1_handles.specs.Sets.{Tells, IsSetCall};
 ghost use Rattle.g1_handles.specs.Lacks.{LacksRegion};
 
 use crate::any_handle::{closed, into_box, opened};
@@ -13,7 +14,7 @@ use crate::heap::at_pause::PausedHeap;
 use crate::heap::handle::HeapHandle;
 use crate::heap::racing_heap::RacingHeap;
 use core::mem::replace;
-use g1_layout::Region;
+use g1_layout::{Card, Region};
 use std::alloc::Global;
 
 /// Which set of a region.
@@ -49,9 +50,7 @@ pub fn set_of_heap(
         handle.old.value result handle.new.value }
     ensures unwritten { OnErr result (cards.new ≡ cards.old) }
 {
-    let Some(mut heap) = into_box(replace(handle, closed(alloc))) else {
-        return Err(Refusal::NotOpen);
-    };
+    let mut heap = into_box(replace(handle, closed(alloc))).ok_or(Refusal::NotOpen)?;
     let answer = set_of(&mut heap, which, region, cards);
     *handle = opened(heap);
     answer
@@ -108,7 +107,7 @@ fn drain_at(heap: &mut PausedHeap, region: u32, cards: &mut [u32]) -> Result<Tol
 /// Writes the remembered set of a region as it is recorded.
 fn members_at(heap: &mut PausedHeap, region: u32, cards: &mut [u32]) -> Result<Told, Refusal>
     ensures told { IfOk result (λ told.
-        Tells (TellsMembers heap.old region) cards.old told cards.new) }
+        Tells (TellsMembers (table_at heap.old) region) cards.old told cards.new) }
     ensures why { IfErr result (LacksRegion heap.old.layout region) }
     ensures unwritten { OnErr result (cards.new ≡ cards.old) }
     ensures same { heap.new ≡ heap.old }
@@ -119,6 +118,7 @@ fn members_at(heap: &mut PausedHeap, region: u32, cards: &mut [u32]) -> Result<T
     Ok(write_set(heap, region, cards))
 }
 
+#[tactic(auto, using(crate::proofs::SetLemmas::shows_none))]
 fn write_set(heap: &mut PausedHeap, region: Region, array: &mut [u32]) -> Told
     requires { region < heap.old.layout.regions }
     ensures told { Tells (AreMembers (table_at heap.old) region) array.old result array.new }
@@ -127,36 +127,25 @@ fn write_set(heap: &mut PausedHeap, region: Region, array: &mut [u32]) -> Told
     let _limit = heap.layout().card_count();
     let mut count = 0;
     let mut from = 0;
-    while count < array.len() {
-        let Some(card) = heap.next_member(region, from) else {
-            return Told::All(count as u32);
-        };
-        array[count] = card.number();
+    while let Some(card) = heap.next_member(region, from) {
+        write_at(array, count, card);
         count += 1;
         from = card.number() + 1;
     }
-    let more = count_from(heap, region, from);
-    if more == 0 {
-        return Told::All(count as u32);
+    if count <= array.len() {
+        Told::All(count as u32)
+    } else {
+        Told::First(count as u32)
     }
-    Told::First(count as u32 + more)
 }
 
-/// How many cards of a region's set there are from a number on.
-fn count_from(heap: &mut PausedHeap, region: Region, from: u32) -> u32
-    requires region { region < heap.old.layout.regions }
-    requires from { from ≤ card_count heap.old.layout }
-    ensures rest { (xs : List ℕ) → AreMembersBelow (table_at heap.old) region from xs →
-        (ys : List ℕ) × AreMembers (table_at heap.old) region (xs ++ ys) × (length ys ≡ result) }
-    ensures few { from + result ≤ card_count heap.old.layout }
-    ensures same { heap.new ≡ heap.old }
+/// Writes the number of a card to this place of an array, if the array reaches that far.
+#[tactic(auto, using(std::proofs::lemmas::List::set_past))]
+fn write_at(array: &mut [u32], place: usize, card: Card)
+    ensures { array.new ≡ slice_set array.old place card }
 {
-    let _limit = heap.layout().card_count();
-    let mut more = 0;
-    let mut next = from;
-    while let Some(card) = heap.next_member(region, next) {
-        more += 1;
-        next = card.number() + 1;
+    if array.len() <= place {
+        return;
     }
-    more
+    array[place] = card.number();
 }

@@ -1,7 +1,7 @@
 //! Checks of a heap at a pause, for a debug build.
 ghost use Rattle.std.specs.Prelude.{◌≡◌, ◌+◌, ◌≤◌};
-ghost use Rattle.g1_handles.specs.{length, IfOk, IfErr, IsOk, slot_count, IsKept, FindsAt};
-ghost use Rattle.g1_handles.specs.{LacksRanges};
+ghost use Rattle.g1_handles.specs.{length, IfOk, IfErr, IsOk, slot_count, IsKept, Finds};
+ghost use Rattle.g1_handles.specs.{LacksRanges, table_at};
 
 use crate::code::Refusal;
 use crate::heap::at_pause::PausedHeap;
@@ -20,7 +20,7 @@ pub fn verify_at(
     memory: &[u32],
 ) -> Result<Findings, Refusal>
     ensures found { IfOk result (λ f.
-        FindsAt heap.old first count memory.now f.differing f.missing) }
+        Finds (table_at heap.old) first count memory.now f.differing f.missing) }
     ensures answered { first + count ≤ slot_count heap.old.layout
         → first + length memory.now ≤ slot_count heap.old.layout → IsOk result }
     ensures why { IfErr result (LacksRanges heap.old.layout first count first

@@ -1,7 +1,7 @@
 //! Stores of data in a race: a slot may hold data, which refers to nothing.
 ghost use Rattle.std.specs.Prelude.{◌≡◌, ◌<◌, ◌≤◌, ◌^◌};
 ghost use Rattle.g1_handles.specs.{Some, IsOk, IfOk, IfErr, OnErr, slot_count, race_layout};
-ghost use Rattle.g1_handles.specs.{OfRacer, IfRacer, StoresData, racer_race_of, IsRaceDataRefused};
+ghost use Rattle.g1_handles.specs.{OfRacer, IfRacer, StoresData, IsRaceDataRefused};
 
 use crate::code::Refusal;
 use crate::member::Member;
@@ -18,7 +18,7 @@ pub fn store_data_by(member: &mut Member<Racer>, slot: u32, word: u64) -> Result
     ensures stored { IfOk result (λ old. OfRacer (Some member.old) (λ a.
         OfRacer (Some member.new) (λ b. StoresData a slot word old b))) }
     ensures taken { IfRacer (Some member.old) (λ a.
-        slot < slot_count (race_layout (racer_race_of a)) → 2 ^ 32 ≤ word → IsOk result) }
+        slot < slot_count (race_layout a.race) → 2 ^ 32 ≤ word → IsOk result) }
     ensures why { IfErr result (IsRaceDataRefused (Some member.old) slot word) }
     ensures refused { OnErr result (member.new ≡ member.old) }
 {

@@ -4,7 +4,7 @@ ghost use Rattle.g1_handles.specs.Prelude.{Some, IfOk, IfErr, IsOk, OnErr, array
 ghost use Rattle.g1_handles.specs.Prelude.{race_layout};
 ghost use Rattle.g1_handles.specs.Codes.{IsStoreOf, reference_of};
 ghost use Rattle.g1_handles.specs.RaceStores.{Swaps, IsExchange};
-ghost use Rattle.g1_handles.specs.Racing.{OfRacer, IfRacer, racer_race_of};
+ghost use Rattle.g1_handles.specs.Racing.{OfRacer, IfRacer};
 ghost use Rattle.g1_handles.specs.Refusals.{IsRaceStoreRefused, IsRaceExchangeRefused};
 
 use crate::code::Refusal;
@@ -43,7 +43,7 @@ pub fn swap_by(member: &mut Member<Racer>, slot: u32, target: u32) -> Result<Swa
         OfRacer (Some member.new) (λ b. Swaps a slot (reference_of target)
         (reference_of swapped.old) swapped.kind b))) }
     ensures taken { IfRacer (Some member.old) (λ a. array_vec_len a.racer.log < 256
-        → IsStoreOf (race_layout (racer_race_of a)) slot target → IsOk result) }
+        → IsStoreOf (race_layout a.race) slot target → IsOk result) }
     ensures why { IfErr result (IsRaceStoreRefused (Some member.old) slot target) }
     ensures refused { OnErr result (member.new ≡ member.old) }
 {
@@ -71,8 +71,8 @@ pub fn compare_exchange_by(
         OfRacer (Some member.new) (λ b. IsExchange a slot (reference_of expected)
         (reference_of target) exchange b))) }
     ensures taken { IfRacer (Some member.old) (λ a. array_vec_len a.racer.log < 256
-        → IsStoreOf (race_layout (racer_race_of a)) slot expected
-        → IsStoreOf (race_layout (racer_race_of a)) slot target → IsOk result) }
+        → IsStoreOf (race_layout a.race) slot expected
+        → IsStoreOf (race_layout a.race) slot target → IsOk result) }
     ensures why { IfErr result (IsRaceExchangeRefused (Some member.old) slot expected target) }
     ensures refused { OnErr result (member.new ≡ member.old) }
 {

@@ -32,9 +32,7 @@ pub fn take_log(alloc: Global, handle: &mut RacerHandle, cards: &mut [u32]) -> R
     if cards.len() < LOG {
         return Err(Refusal::NoRoom);
     }
-    let Some(mut member) = into_box(replace(handle, closed(alloc))) else {
-        return Err(Refusal::NotOpen);
-    };
+    let mut member = into_box(replace(handle, closed(alloc))).ok_or(Refusal::NotOpen)?;
     let answer = take_log_by(&mut member, cards);
     *handle = opened(member);
     answer

@@ -59,9 +59,7 @@ pub fn is_pending_by(member: &mut Member<Reader>, card: u32) -> Result<bool, Ref
     let Some(reader) = &mut member.role else {
         return Err(Refusal::NotOpen);
     };
-    let Some(card) = member.race.layout().card(card) else {
-        return Err(Refusal::NoCard);
-    };
+    let card = member.race.layout().card(card).ok_or(Refusal::NoCard)?;
     Ok(reader.is_pending(&member.race, card))
 }
 
@@ -78,12 +76,8 @@ pub fn has_by(member: &mut Member<Reader>, card: u32, region: u32) -> Result<boo
         return Err(Refusal::NotOpen);
     };
     let layout = member.race.layout();
-    let Some(card) = layout.card(card) else {
-        return Err(Refusal::NoCard);
-    };
-    let Some(region) = layout.region(region) else {
-        return Err(Refusal::NoRegion);
-    };
+    let card = layout.card(card).ok_or(Refusal::NoCard)?;
+    let region = layout.region(region).ok_or(Refusal::NoRegion)?;
     Ok(reader.has(&member.race, card, region))
 }
 
@@ -102,9 +96,7 @@ pub fn next_member_by(member: &mut Member<Reader>, region: u32, from: u32) -> Re
     };
     let layout = member.race.layout();
     let _limit = layout.card_count();
-    let Some(region) = layout.region(region) else {
-        return Err(Refusal::NoRegion);
-    };
+    let region = layout.region(region).ok_or(Refusal::NoRegion)?;
     match reader.next_member(&member.race, region, from) {
         Some(card) => Ok(card.number()),
         None => Ok(NULL),

@@ -1,7 +1,7 @@
 //! Concurrent refinement in a race.
 ghost use Rattle.std.specs.Prelude.{◌≡◌, ◌<◌};
 ghost use Rattle.g1_handles.specs.{Some, IsOk, OnOk, IfErr, OnErr, card_count, race_layout};
-ghost use Rattle.g1_handles.specs.{OfSweeper, IfSweeper, Sweeps, sweeper_race_of, IsSweepRefused};
+ghost use Rattle.g1_handles.specs.{OfSweeper, IfSweeper, Sweeps, IsSweepRefused};
 
 use crate::code::Refusal;
 use crate::member::Member;
@@ -14,7 +14,7 @@ pub fn refine_by(member: &mut Member<Sweeper>, card: u32) -> Result<(), Refusal>
     ensures refined { OnOk result (OfSweeper (Some member.old) (λ a.
         OfSweeper (Some member.new) (λ b. Sweeps a card b))) }
     ensures taken { IfSweeper (Some member.old) (λ a.
-        card < card_count (race_layout (sweeper_race_of a)) → IsOk result) }
+        card < card_count (race_layout a.race) → IsOk result) }
     ensures why { IfErr result (IsSweepRefused (Some member.old) card) }
     ensures refused { OnErr result (member.new ≡ member.old) }
 {

@@ -2,8 +2,7 @@
 ghost use Rattle.std.specs.Prelude.{◌≡◌, ◌<◌};
 ghost use Rattle.g1_handles.specs.{Some, IfOk, IfErr, IsOk, OnErr, array_vec_len, race_id};
 ghost use Rattle.g1_handles.specs.{race_layout, racer_race, IsStoreOf, reference_of, OfRacer};
-ghost use Rattle.g1_handles.specs.{IfRacer, Stores, racer_race_of, racing, IsRaceStoreRefused};
-ghost use Rattle.g1_handles.specs.{SaysNoStore};
+ghost use Rattle.g1_handles.specs.{IfRacer, Stores, racing, IsRaceStoreRefused, SaysNoStore};
 
 use crate::code::Refusal;
 use crate::member::Member;
@@ -19,7 +18,7 @@ pub fn store_by(member: &mut Member<Racer>, slot: u32, target: u32) -> Result<Ki
     ensures stored { IfOk result (λ kind. OfRacer (Some member.old) (λ a.
         OfRacer (Some member.new) (λ b. Stores a slot (reference_of target) kind b))) }
     ensures taken { IfRacer (Some member.old) (λ a. array_vec_len a.racer.log < 256
-        → IsStoreOf (race_layout (racer_race_of a)) slot target → IsOk result) }
+        → IsStoreOf (race_layout a.race) slot target → IsOk result) }
     ensures why { IfErr result (IsRaceStoreRefused (Some member.old) slot target) }
     ensures refused { OnErr result (member.new ≡ member.old) }
 {

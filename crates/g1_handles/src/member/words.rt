@@ -1,6 +1,6 @@
 //! Stores of words in a race: a slot may hold null, a reference or data.
 ghost use Rattle.std.specs.Prelude.{◌≡◌};
-ghost use Rattle.g1_handles.specs.{Some, IfOk, IfErr, IsOk, OnErr, OfRacer, IfRacer, racer_race_of};
+ghost use Rattle.g1_handles.specs.{Some, IfOk, IfErr, IsOk, OnErr, OfRacer, IfRacer};
 ghost use Rattle.g1_handles.specs.{SwapsWord, IsWordExchange, CanStoreWord, MayHave};
 ghost use Rattle.g1_handles.specs.{SaysNoWordStore, IsSwapWordRefused, IsExchangeWordRefused};
 
@@ -21,7 +21,7 @@ pub fn swap_word_by(
     ensures swapped { IfOk result (λ swapped. OfRacer (Some member.old) (λ a.
         OfRacer (Some member.new) (λ b. SwapsWord a slot word swapped.1 swapped.0 b))) }
     ensures taken { IfRacer (Some member.old) (λ a.
-        CanStoreWord (racer_race_of a) a.racer slot word → IsOk result) }
+        CanStoreWord a.race a.racer slot word → IsOk result) }
     ensures why { IfErr result (IsSwapWordRefused (Some member.old) slot word) }
     ensures refused { OnErr result (member.new ≡ member.old) }
 {
@@ -49,8 +49,8 @@ pub fn compare_exchange_word_by(
     ensures exchange { IfOk result (λ exchange. OfRacer (Some member.old) (λ a.
         OfRacer (Some member.new) (λ b. IsWordExchange a slot expected word exchange b))) }
     ensures taken { IfRacer (Some member.old) (λ a.
-        CanStoreWord (racer_race_of a) a.racer slot word
-        → MayHave (racer_race_of a) expected → IsOk result) }
+        CanStoreWord a.race a.racer slot word
+        → MayHave a.race expected → IsOk result) }
     ensures why { IfErr result (IsExchangeWordRefused (Some member.old) slot expected word) }
     ensures refused { OnErr result (member.new ≡ member.old) }
 {

@@ -35,19 +35,11 @@ fn new_core(alloc: Global, counts: &Counts, hot: u32, ring: u32) -> Result<Box<C
     ensures why { IfErr result (λ refusal.
         IsNewRefused (layout_of counts.now) (settings_of hot ring) refusal) }
 {
-    let Some(layout) = Layout::large(counts.regions, counts.cards, counts.slots) else {
-        return Err(Refusal::BadLayout);
-    };
-    let Some(config) = config(hot, ring) else {
-        return Err(Refusal::BadSettings);
-    };
-    let Ok(core) = Core::new(alloc, layout, config) else {
-        return Err(Refusal::NoMemory);
-    };
-    match Box::new(alloc, core) {
-        Ok(core) => Ok(core),
-        Err(_) => Err(Refusal::NoMemory),
-    }
+    let layout = Layout::large(counts.regions, counts.cards, counts.slots);
+    let layout = layout.ok_or(Refusal::BadLayout)?;
+    let config = config(hot, ring).ok_or(Refusal::BadSettings)?;
+    let core = Core::new(alloc, layout, config).or(Err(Refusal::NoMemory))?;
+    Box::new(alloc, core).or(Err(Refusal::NoMemory))
 }
 
 /// The settings of a core: these, and the defaults of the others.

@@ -1,7 +1,7 @@
 //! Queries: what a slot refers to, whether a card is pending, and how much is pending and recorded.
 ghost use Rattle.std.specs.Prelude.{◌≡◌, ◌<◌};
 ghost use Rattle.g1_handles.specs.{IfOk, IfErr, OnErr, IsOk, IfSome, slot_count, card_count};
-ghost use Rattle.g1_handles.specs.{reference_of, RefersTo, IsToldPending, HasStatus, LacksCard};
+ghost use Rattle.g1_handles.specs.{reference_of, RefersTo, TellsPending, TellsStatus, LacksCard};
 ghost use Rattle.g1_handles.specs.{LacksSlot};
 
 use crate::code::{NULL, Refusal};
@@ -36,7 +36,7 @@ pub(crate) fn word_of(layout: Layout, target: Option<Slot>) -> u32
 
 /// Returns whether a card of a core is pending, or `NoCard`.
 pub fn is_pending_in(core: &Core, card: u32) -> Result<bool, Refusal>
-    ensures pending { IfOk result (IsToldPending core.now card) }
+    ensures pending { IfOk result (TellsPending core.now.state.table card) }
     ensures answered { card < card_count core.now.state.table.layout → IsOk result }
     ensures why { IfErr result (LacksCard core.now.state.table.layout card) }
 {
@@ -48,7 +48,7 @@ pub fn is_pending_in(core: &Core, card: u32) -> Result<bool, Refusal>
 
 /// Returns how much is pending and recorded in a core.
 pub fn status_in(core: &Core) -> Status
-    ensures { HasStatus core.now result }
+    ensures { TellsStatus core.now.state.table result }
 {
     core.status()
 }

@@ -2,7 +2,7 @@
 ghost use Rattle.std.specs.Prelude.{◌≡◌, ◌+◌, ◌≤◌};
 ghost use Rattle.g1_handles.specs.Prelude.{length, IfOk, IfErr, IsOk, OnErr, slot_count};
 ghost use Rattle.g1_handles.specs.Prelude.{IsOnlyRead};
-ghost use Rattle.g1_handles.specs.Verifying.{Finds};
+ghost use Rattle.g1_handles.specs.Queries.{Finds};
 ghost use Rattle.g1_handles.specs.Lacks.{LacksRanges};
 
 use crate::code::{NULL, Refusal};

@@ -1,8 +1,31 @@
 -- The next handle from the end has the role and the box that were last in the lists.
 use Rattle.std.specs.Prelude.{◌≡◌, ◌<◌, ◌-◌}
-use Rattle.g1_handles.specs.{Some, Box, length, slice_index_or, sym, ap, ◌∙◌, subst, arith, Global, arc_value, length-set, Member, counts_of, role_in, IsOf}
-use Rattle.g1_handles.proofs.{WaitedAs, popped, still, placed}
+use Rattle.g1_handles.specs.{rules, All, Some, Box, length, map, sym, ap, ◌∙◌, subst, arith, Global, arc_value, length-set, Member, counts_of, role_in, IsOf}
+use Rattle.std.proofs.Common.{drop}
+use Rattle.std.proofs.lemmas.List.{drop_all}
+use Rattle.std.proofs.lemmas.List.Elements.{All-cons, All-nil}
+use Rattle.g1_handles.proofs.{popped, still, from_set, seen_too}
 use Rattle.g1_handles.proofs.heap.resume.hand_out_to.Goals as goal
+
+pub loop-left-init : goal.loop-left-init
+loop-left-init g c =
+    let value = g.H.AnyHandle.value in
+    let hs = c.args.handles.now in
+    let none = drop_all (length hs) hs (omega arith) in
+    let for = c.requires.1 in
+    record {
+      sized = search rules;
+      below = search rules;
+      boxes = for.box_count;
+      roles = for.role_count;
+      box_rest = search rules;
+      role_rest = search rules;
+      box_room = search rules;
+      role_room = search rules;
+      given = ap (λ l. map role_in (map value l)) none ∙ sym (ap (map (λ (p : g.row.P.Denot). Some p)) (drop_all (length hs) c.args.roles.now.items (omega (arith, for.role_count, c.args.roles.now.ok.0))));
+      counted = ap (λ l. map counts_of (map value l)) none ∙ sym (ap (map (λ (m : Box (Member g.row.P.Denot g.P.Role) Global). m.value.counts)) (drop_all (length hs) c.args.boxes.now.items (omega (arith, for.box_count, c.args.boxes.now.ok.0))));
+      waited = λ race all. subst (λ l. All (IsOf race) (map value l)) (sym none) (All-nil (IsOf race));
+    }
 
 pub loop-left-preserved : goal.loop-left-preserved
 loop-left-preserved g c =
@@ -19,6 +42,10 @@ loop-left-preserved g c =
     let holds : value h ≡ Some c.seat.new.self = c.opened.ensures in
     let boxes = c.args.boxes.now.items in
     let roles = c.args.roles.now.items in
+    let for = c.requires.1 in
+    let boxed : n - 1 < length boxes = omega (arith, here, i.sized, for.box_count, c.args.boxes.now.ok.0) in
+    let last_role = popped roles c.loop-left.roles.items n _ role role some i.roles i.role_rest (c.in-Some-pop.ensures.value role (omega (arith, i.roles))) in
+    let last_box = popped boxes c.loop-left.boxes.items n _ m m some i.boxes i.box_rest (c.in-Some.ensures.value m (omega (arith, i.boxes))) in
     record {
       sized = length-set hs (n - 1) h ∙ i.sized;
       below = omega (arith, length-set hs (n - 1) h, i.below);
@@ -28,13 +55,26 @@ loop-left-preserved g c =
       role_rest = still roles c.loop-left.roles.items _ n _ some i.roles i.role_rest c.pop-in-loop-left.ensures.rest;
       box_room = c.pop.ensures.capacity ∙ i.box_room;
       role_room = c.pop-in-loop-left.ensures.capacity ∙ i.role_room;
-      given = λ k d x from below. placed (λ (y : g.row.H.Denot) j. role_in (value y) ≡ Some (slice_index_or roles j x)) hs n k h d some here from (subst (λ l. k < l) (length-set hs (n - 1) h) below)
-          (ap role_in holds ∙ (seated.role ∙ ap (λ (y : g.row.P.Denot). Some y) (popped roles c.loop-left.roles.items n _ role x some i.roles i.role_rest (c.in-Some-pop.ensures.value x (omega (arith, i.roles))))))
-          (λ after still_below. i.given k d x after still_below);
-      waited = λ k d b from below. placed (λ (y : g.row.H.Denot) j. WaitedAs (slice_index_or boxes j b).value (value y)) hs n k h d some here from (subst (λ l. k < l) (length-set hs (n - 1) h) below)
-          (λ race is. subst (IsOf race) (sym holds) (seated.race ∙ (ap (λ (x : Member g.row.P.Denot g.P.Role). arc_value x.race) c.deref_mut.ensures.value ∙ (ap (λ (y : Box (Member g.row.P.Denot g.P.Role) Global). arc_value y.value.race) (popped boxes c.loop-left.boxes.items n _ m b some i.boxes i.box_rest (c.in-Some.ensures.value b (omega (arith, i.boxes)))) ∙ is))))
-          (λ after still_below. i.waited k d b after still_below);
-      counted = λ k d b from below. placed (λ (y : g.row.H.Denot) j. counts_of (value y) ≡ (slice_index_or boxes j b).value.counts) hs n k h d some here from (subst (λ l. k < l) (length-set hs (n - 1) h) below)
-          (ap counts_of holds ∙ (seated.counts ∙ (ap (λ (x : Member g.row.P.Denot g.P.Role). x.counts) c.deref_mut.ensures.value ∙ ap (λ (y : Box (Member g.row.P.Denot g.P.Role) Global). y.value.counts) (popped boxes c.loop-left.boxes.items n _ m b some i.boxes i.box_rest (c.in-Some.ensures.value b (omega (arith, i.boxes)))))))
-          (λ after still_below. i.counted k d b after still_below);
+      given = seen_too value role_in (λ (p : g.row.P.Denot). Some p) hs roles n h role some here (omega (arith, here, i.sized, for.role_count, c.args.roles.now.ok.0))
+          (ap role_in holds ∙ (seated.role ∙ ap (λ (y : g.row.P.Denot). Some y) last_role)) i.given;
+      counted = seen_too value counts_of (λ (b : Box (Member g.row.P.Denot g.P.Role) Global). b.value.counts) hs boxes n h m some here boxed
+          (ap counts_of holds ∙ (seated.counts ∙ (ap (λ (x : Member g.row.P.Denot g.P.Role). x.counts) c.deref_mut.ensures.value ∙ ap (λ (y : Box (Member g.row.P.Denot g.P.Role) Global). y.value.counts) last_box))) i.counted;
+      waited = λ race all.
+          let of : arc_value c.seat.new.self.race ≡ race = seated.race ∙ (ap (λ (x : Member g.row.P.Denot g.P.Role). arc_value x.race) c.deref_mut.ensures.value ∙ (ap (λ (y : Box (Member g.row.P.Denot g.P.Role) Global). arc_value y.value.race) last_box ∙ all (n - 1) m boxed)) in
+          subst (λ l. All (IsOf race) (map value l)) (sym (from_set hs n some h here)) (All-cons (IsOf race) (value h) _ (subst (IsOf race) (sym holds) of) (i.waited race all));
     }
+
+pub returns-clause-roles : goal.returns-clause-roles
+returns-clause-roles g c =
+    let none : c.loop-left.left ≡ 0 = omega (arith, c.loop-left-test.false) in
+    subst (λ n. map role_in (map g.H.AnyHandle.value (drop n c.loop-left.handles)) ≡ map (λ role. Some role) (drop n c.args.roles.now.items)) none c.loop-left.invariant.given
+
+pub returns-clause-counts : goal.returns-clause-counts
+returns-clause-counts g c =
+    let none : c.loop-left.left ≡ 0 = omega (arith, c.loop-left-test.false) in
+    subst (λ n. map counts_of (map g.H.AnyHandle.value (drop n c.loop-left.handles)) ≡ map (λ m. m.value.counts) (drop n c.args.boxes.now.items)) none c.loop-left.invariant.counted
+
+pub returns-clause-race : goal.returns-clause-race
+returns-clause-race g c race waiting =
+    let none : c.loop-left.left ≡ 0 = omega (arith, c.loop-left-test.false) in
+    subst (λ n. All (IsOf race) (map g.H.AnyHandle.value (drop n c.loop-left.handles))) none (c.loop-left.invariant.waited race waiting)

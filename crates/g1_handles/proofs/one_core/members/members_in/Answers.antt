@@ -1,7 +1,7 @@
 -- There are no more members than cards.
-use Rattle.g1_handles.specs.{ℕ, subst, HasMembers}
+use Rattle.g1_handles.specs.{ℕ, subst, TellsMembers}
 use Rattle.g1_handles.proofs.{few_members, fits_words}
-use Rattle.g1_handles.proofs.ListLemmas.{lists_so}
+use Rattle.g1_handles.proofs.SetLemmas.{lists_so}
 use Rattle.g1_handles.proofs.one_core.members.members_in.Goals as goal
 
 pub list_of-requires : goal.list_of-requires
@@ -11,6 +11,6 @@ list_of-requires c =
 
 pub returns-clause-listed : goal.returns-clause-listed
 returns-clause-listed c =
-    lists_so (HasMembers c.args.core.now c.args.region) c.in-Ok.members c.args.room c.list_of.result
-    (subst (λ (region : ℕ). HasMembers c.args.core.now region c.in-Ok.members) c.in-Some.ensures.1 (record { members = c.in-Ok.ensures.did.members; step = c.in-Ok.ensures.step }))
+    lists_so (TellsMembers c.args.core.now.state.table c.args.region) c.in-Ok.members c.args.room c.list_of.result
+    (subst (λ (region : ℕ). TellsMembers c.args.core.now.state.table region c.in-Ok.members) c.in-Some.ensures.1 (record { members = c.in-Ok.ensures.did.members; step = c.in-Ok.ensures.step }))
     c.list_of.ensures
