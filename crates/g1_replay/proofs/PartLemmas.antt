@@ -1,6 +1,6 @@
 -- A line that goes on in the bytes that a reader shows.
 use Rattle.std.specs.Prelude.{◌≡◌, ◌≢◌, ◌+◌, ◌-◌, ◌<◌, ◌≤◌, ◌∷◌, ◌++◌}
-use Rattle.g1_replay.specs.{inl, inr, ℕ, List, [], length, take, get_or, sym, ap, subst, ◌∙◌, arith, append_assoc, append-nil, add-one, length-take-le, Option, Some, None, zero, suc, true, Ok, Err, Consumes-nil, Consumes-trans, eq-eqb, eqb-true, cases_Bool, cond-true, cond-false, false≢true, YieldsFirst, unwrap_or, is_byte, places_from, Consumes, IsPart, Part, More, Nothing, Failed, Fault, EndsAtFeed, GoesIntoLine, HasPart, IsSettled, ReadsByte, ReadsPart, ReadsLine}
+use Rattle.g1_replay.specs.{inl, inr, ℕ, List, [], length, take, get_or, sym, ap, subst, ◌∙◌, arith, append_assoc, append-nil, add-one, length-take-le, Option, Some, None, zero, suc, true, Ok, Err, Consumes-nil, Consumes-trans, eq-eqb, eqb-true, cases_Bool, cond-true, cond-false, false≢true, YieldsFirst, unwrap_or, is_byte, places_from, Consumes, IsPart, Part, More, Nothing, Fault, EndsAtFeed, GoesIntoLine, HasPart, IsSettled, ReadsByte, ReadsPart, ReadsLine}
 use Rattle.std.proofs.Common.{length-append}
 use Rattle.std.proofs.Math.Seq.{take-suc}
 use Rattle.g1_trace.specs.declared.fault.TraceFault.TheVariants as fault
@@ -31,22 +31,6 @@ feed_found bytes i (suc n) found rest e p h = elim (cases_Bool (is_byte 10 (get_
 -- the length of a line with n bytes more
 grown : (begun line shown : List ℕ) (n : ℕ) → n ≤ length shown → line ≡ begun ++ take n shown → length line ≡ length begun + n
 grown begun line shown n h e = ap length e ∙ length-append begun (take n shown) ∙ ap (λ k. length begun + k) (length-take-le n shown h)
-
--- what was shown goes into the line, and is consumed
-pub part_read : (old new : Option (List ℕ)) (part : Part) (n lost room : ℕ) (shown begun line : List ℕ) → GoesIntoLine shown room part n lost → n ≤ length shown
-    → length begun + room ≡ 64 → line ≡ begun ++ take n shown → Consumes old new (take lost shown) → ReadsPart old new part begun line
-part_read old new Whole n lost room shown begun line p h r e c =
-    let long = grown begun line shown n h e in
-    (take n shown, e, subst (Consumes old new) p.2 c, p.0, omega arith)
-part_read old new TooLong n lost room shown begun line p h r e c =
-    let long = grown begun line shown n h e in
-    (take n shown, p.0, e, subst (Consumes old new) p.4 c, p.3, p.1, omega arith)
-part_read old new More n lost room shown begun line p h r e c =
-    let long = grown begun line shown n h e in
-    (take n shown, e, subst (λ k. Consumes old new (take k shown)) p.2 c, p.0, omega arith)
-part_read old new Nothing n lost room shown begun line p h r e c =
-    (e ∙ ap (λ k. begun ++ take k shown) p.0 ∙ append-nil begun, subst (λ k. Consumes old new (take k shown)) p.1 c)
-part_read old new Failed n lost room shown begun line p h r e c = absurd p
 
 -- what was read before a part, and bytes that end with it
 behind : (a b c : Option (List ℕ)) (begun line bytes more : List ℕ) → line ≡ begun ++ bytes → Consumes a b begun → Consumes b c (bytes ++ more) → Consumes a c (line ++ more)

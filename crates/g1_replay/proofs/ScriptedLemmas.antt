@@ -20,10 +20,6 @@ stop_silent stop out out' h w = w
 pub stops_unread : (d : Dialect) (n : ℕ) (rd : Option (List ℕ)) → WasUnread d n n rd rd (Err NoMemory) []
 stops_unread d n rd = record { heap = None; commands = []; ends = inr refl; read = record { lines = []; rest = []; consumed = Consumes-nil rd; passed = λ x. refl; met = refl }; silent = refl }
 
--- a trace without a header
-pub head_stops : (d : Dialect) (n n' : ℕ) (rd rd' : Option (List ℕ)) (stop : Stop) → IsReadStop stop → Reads d None n n' rd rd' None [] (Err stop) → WasUnread d n n' rd rd' (Err stop) []
-head_stops d n n' rd rd' stop h read = record { heap = None; commands = []; ends = inl h; read = read; silent = refl }
-
 -- what takes the commands of lines and writes nothing
 module _ {S : Type 0} (Did : S → List Command → List ℕ → S → Type 0) (Full : S → Type 0) (silent : (s t : S) (cs : List Command) (text : List ℕ) → Did s cs text t → text ≡ []) where
   -- a header, and then lines that were not read to their end
