@@ -87,8 +87,8 @@ pub use Rattle.g1_race_words.proofs.AtBeginning.{never_both, no_bit, zero_at, ze
 pub use Rattle.g1_race_words.proofs.CoverStores.{mark_apart}
 pub use Rattle.g1_race_words.proofs.Crossing.{crosses_reference, low_word, reference_crosses}
 pub use Rattle.g1_race_words.proofs.Crossing.{word_low}
-pub use Rattle.g1_race_words.proofs.Flags.{are_flagged, bit_below, flag_card, flag_place, flag_word}
-pub use Rattle.g1_race_words.proofs.Flags.{front_stays, word_in_row}
+pub use Rattle.g1_race_words.proofs.Flags.{are_flagged, bit_below, flag_card, front_stays}
+pub use Rattle.g1_race_words.proofs.Flags.{word_in_row}
 pub use Rattle.g1_race_words.proofs.Going.{others_blank}
 pub use Rattle.g1_race_words.proofs.Listing.{listed_set, one_pair, pair_clear, pair_set, set_listed}
 pub use Rattle.g1_race_words.proofs.PairBits.{bit_apart, bit_as, bit_here, bits_back, bits_stay}

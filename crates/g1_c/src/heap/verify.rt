@@ -10,7 +10,7 @@ use g1_handles::heap::verify::verify_at;
 use std::alloc::Global;
 
 /// As in `g1.h`.
-#[tactic(auto, using(crate::proofs::heap_made, crate::proofs::tells_none))]
+#[tactic(auto, using(crate::proofs::tells_none))]
 #[unsafe(no_mangle)]
 pub extern "C" fn g1_heap_verify(
     alloc: Global,
