@@ -1,7 +1,6 @@
 //! Stores of references that are entered in the history.
 ghost use Rattle.std.specs.Prelude.{◌≡◌, ◌<◌};
-ghost use Rattle.g1_history.specs.{[], false, IfOk, OnErr, IfSome, IsNone, slot_count, card_of};
-ghost use Rattle.g1_history.specs.{past_with};
+ghost use Rattle.g1_history.specs.{IfOk, OnErr, IfSome, IsNone, slot_count, card_of};
 
 use crate::book::Book;
 use crate::keeps::Keeps;
@@ -9,7 +8,6 @@ use crate::refusal::Refusal;
 use g1_core::{Call, CardList, Reply, StoreReply};
 use g1_layout::Slot;
 use g1_log::{Buffer, Log};
-use std::alloc::Global;
 
 impl<H: Keeps> Book<H> {
     ghost use Rattle.g1_history.specs.{store_entry, DoesStore, IsLent, Made, RefusesBy, layout_in};
@@ -81,7 +79,13 @@ impl<H: Keeps> Book<H> {
         self.history.make_room()?;
         let call = store_call(slot, &target);
         let reply = self.core.store_into(log, completed, slot, target);
-        enter_store(&mut self.history, self.alloc, caller, call, &reply);
+        let answer = Reply::Stored {
+            kind: reply.kind,
+            fill: reply.fill,
+            short: reply.short,
+        };
+        let none = CardList::new(self.alloc);
+        self.history.enter(caller, call, answer, none);
         Ok(reply)
     }
 }
@@ -94,28 +98,4 @@ fn store_call(slot: Slot, target: &Option<Slot>) -> Call
         slot,
         target: *target,
     }
-}
-
-/// Enters a store with its reply, which refined nothing, in room that was made for it.
-fn enter_store<H: Keeps>(
-    history: &mut H,
-    alloc: Global,
-    caller: u32,
-    call: Call,
-    reply: &StoreReply,
-)
-    requires ready { H.is_ready history.old }
-    ensures { H.past history.new ≡ past_with H.KEEPS (H.past history.old) (record {
-      caller = caller;
-      call = call;
-      reply = Reply.Stored reply.now.kind reply.now.fill reply.now.short;
-      refined = [];
-    }) }
-{
-    let answer = Reply::Stored {
-        kind: reply.kind,
-        fill: reply.fill,
-        short: reply.short,
-    };
-    history.enter(caller, call, answer, CardList::new(alloc));
 }
