@@ -109,13 +109,7 @@ impl<M: Terms, S: Ledger, H: Keeps> Shared<M, S, H> {
         ensures stored { (result.2.parts ≡ S.parts)
             × (result.2.amount ≡ sum_by (λ caller. caller.counts.stored) callers.items) }
     {
-        let Shared {
-            counted,
-            line: _,
-            alloc: _,
-            start: _,
-            of: _,
-        } = self;
+        let Shared { counted, .. } = self;
         let mut callers = callers;
         let last = callers.take_last();
         let (mut made, mut stored) = last.into_shares();
