@@ -14,7 +14,6 @@ mod book;
 mod keeps;
 mod pause;
 mod queries;
-mod redirection;
 mod refinement;
 mod refusal;
 mod room;
