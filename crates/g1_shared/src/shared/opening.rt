@@ -150,7 +150,11 @@ fn callers_of<M: Terms, S: Ledger>(
         let counts = CallerCounts::new(number, made.split_off(1, 0), stored.split_off(1, 0));
         let mutator = next_mutator(line, config, number, &mut mutators);
         let taker = next_taker(line, &mut takers);
-        all.push_reserved(new_caller(line, config, counts, mutator, taker));
+        all.push_reserved(Caller {
+            counts,
+            mutator,
+            taker,
+        });
     }
     all
 }
@@ -185,27 +189,4 @@ fn next_taker(line: &Line, takers: &mut Vec<Taker>) -> Taker
 {
     let _line = line;
     takers.take_last()
-}
-
-/// The caller of these counts.
-fn new_caller<M: Terms, S: Ledger>(
-    line: &Line,
-    config: &Config,
-    counts: CallerCounts<M, S>,
-    mutator: Option<Mutator>,
-    taker: Taker,
-) -> Caller<M, S>
-    requires new { (counts.made ≡ 0) × (counts.stored ≡ 0) }
-    requires some { counts.number < M.terms.mutators → IsSome mutator }
-    requires mutator { IfSome mutator (IsNewMutator line.now config.now.log counts.number) }
-    requires taker { IsNewTaker line.now taker }
-    ensures { IsNewCaller line.now config.now.log M.terms.mutators counts.number result }
-{
-    let _line = line;
-    let _config = config;
-    Caller {
-        counts,
-        mutator,
-        taker,
-    }
 }
