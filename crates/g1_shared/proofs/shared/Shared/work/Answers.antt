@@ -1,6 +1,6 @@
 use Rattle.std.specs.Prelude.{◌≤◌}
-use Rattle.g1_shared.specs.{subst, capacity_of, CountsDid, CallerState, IsRoundAt}
-use Rattle.g1_shared.proofs.DeskLemmas.{rounds_as}
+use Rattle.g1_shared.specs.{ap, subst, capacity_of, round_size, CountsDid, CallerState, IsRoundAt}
+use Rattle.g1_shared.proofs.CountLemmas.{round_as}
 use Rattle.g1_shared.proofs.shared.Shared.work.Goals as goal
 
 pub returns-clause-round : goal.returns-clause-round
@@ -10,5 +10,5 @@ returns-clause-round g c =
     subst P c.caller.view_is (
       round.0,
       subst (λ l. round.0 ≤ capacity_of l) c.self.view_is round.1,
-      rounds_as _ (CountsDid g.M.Terms.terms.layout) _ _ _ _ _ _ _ _ _ round.0 c.self.invariant (λ calls h. (h.1, h.2)) round.2,
+      round_as _ (CountsDid g.M.Terms.terms.layout) _ _ _ _ _ _ _ _ _ (ap (λ n. round_size n round.0) c.self.invariant) (λ calls h. (h.1, h.2)) round.2,
     )
