@@ -103,11 +103,8 @@ totals_with false totals e =
     record { made = totals.made + 1; stored = totals.stored + cond (is_store e) 1 0 }
 
 abbrev pub past_with : Bool → Past → Entry → Past
-past_with keeps p e = record {
-  entries = entries_with keeps p.entries e;
-  totals = totals_with keeps p.totals e;
-  limit = p.limit;
-}
+past_with keeps p e =
+    record p { entries = entries_with keeps p.entries e; totals = totals_with keeps p.totals e }
 
 -- What every book keeps: its entries are a permitted run from the opening table, which ends in the
 -- machine's table, and there is room for them.

@@ -125,12 +125,7 @@ impl Book<Tallied> {
     pub fn into_core(self) -> Core
         ensures { result ≡ self.machine }
     {
-        let Book {
-            alloc: _,
-            core,
-            mutators: _,
-            history: _,
-        } = self;
+        let Book { core, .. } = self;
         core
     }
 

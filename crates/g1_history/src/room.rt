@@ -86,8 +86,7 @@ pub(crate) fn enter_cards<H: Keeps>(
 
 /// The same cards where entries are kept, in room that was made for them. What they do not need of
 /// it is given back.
-#[inline(always)]
-fn copied<H: Keeps>(room: Vec<Card>, cards: &CardList) -> CardList
+fn copied<H: Keeps>(mut room: Vec<Card>, cards: &CardList) -> CardList
     requires empty { vec_len room ≡ 0 }
     requires room { H.KEEPS ≡ true → length cards.now ≤ vec_capacity room }
     ensures { H.KEEPS ≡ true → result ≡ cards.now }
@@ -95,15 +94,6 @@ fn copied<H: Keeps>(room: Vec<Card>, cards: &CardList) -> CardList
     if !H::KEEPS {
         return CardList::of(room);
     }
-    copy_into(room, cards)
-}
-
-/// The same cards, in room that was made for them. What they do not need of it is given back.
-fn copy_into(mut room: Vec<Card>, cards: &CardList) -> CardList
-    requires empty { vec_len room ≡ 0 }
-    requires room { length cards.now ≤ vec_capacity room }
-    ensures { result ≡ cards.now }
-{
     let Ok(()) = room.extend_from_slice(cards.as_slice()) else {
         unreachable!()
     };

@@ -19,25 +19,15 @@ stored_more : (keeps : Bool) (old : History) (e : Entry) (new : History) → IsE
 stored_more true old e new h = stores_more old.entries new.entries e (count_by is_store old.entries) refl h.entries
 stored_more false old e new h = sym (ap (λ (t : Totals). t.stored) h.totals)
 
-plain_total : (n m : ℕ) (b : Bool) → b ≡ false → n + cond b 1 0 ≡ m → n ≡ m
-plain_total n m true plain is = absurd (cc plain)
-plain_total n m false plain is = omega (arith, is)
-
 -- one call more leads on
-leads_on : (old now new : Table) (made stored : ℕ) (e : Entry) → LeadsTo old made stored now → IsStep now e new → LeadsTo old (made + 1) (stored + cond (is_store e) 1 0) new
-leads_on old now new made stored e h step = record {
+leads_on : (old now new : Table) (made more stored all : ℕ) (e : Entry) → LeadsTo old made stored now → IsStep now e new → more ≡ made + 1 → all ≡ stored + cond (is_store e) 1 0 → LeadsTo old more all new
+leads_on old now new made more stored all e h step one count = record {
   entries = h.entries ++ e ∷ [];
   run = permitted_push old h.entries e h.run (subst (λ (t : Table). IsAllowed t e) h.last step.allowed);
   last = step.after ∙ ap (λ (t : Table). table_after t e) h.last ∙ sym (fold-append table_after old h.entries (e ∷ []));
-  made = length-append h.entries (e ∷ []) ∙ ap (λ (n : ℕ). n + 1) h.made;
-  stored = sym (stores_more h.entries (h.entries ++ e ∷ []) e stored (sym h.stored) refl);
+  made = length-append h.entries (e ∷ []) ∙ ap (λ (n : ℕ). n + 1) h.made ∙ sym one;
+  stored = sym (stores_more h.entries (h.entries ++ e ∷ []) e stored (sym h.stored) refl) ∙ sym count;
 }
-
-leads_as : (old new : Table) (made now stored all : ℕ) → LeadsTo old made stored new → now ≡ made → all ≡ stored → LeadsTo old now all new
-leads_as old new made now stored all h one more = subst (λ (n : ℕ). LeadsTo old n all new) (sym one) (subst (λ (n : ℕ). LeadsTo old made n new) (sym more) h)
-
-leads_none : (old new : Table) (made stored : ℕ) → new ≡ old → made ≡ 0 → stored ≡ 0 → LeadsTo old made stored new
-leads_none old new made stored same no_call no_store = record { entries = []; run = tt; last = same; made = sym no_call; stored = sym no_store }
 
 plain_none : (n : ℕ) (b : Bool) → b ≡ false → n ≡ n + cond b 1 0
 plain_none n true plain = absurd (cc plain)
@@ -47,16 +37,17 @@ store_one : (n : ℕ) (b : Bool) → b ≡ true → n + 1 ≡ n + cond b 1 0
 store_one n true store = refl
 store_one n false store = absurd (cc store)
 
-pub call_counted : (keeps : Bool) (terms : SharedTerms) (made now stored : ℕ) (old : History) (e : Entry) (new : History) → AreCounted keeps terms made stored old → IsEnteredBy keeps old e new → is_store e ≡ false → now ≡ made + 1 → AreCounted keeps terms now stored new
-call_counted keeps terms made now stored old e new was h plain one = (
-  one ∙ ap (λ (n : ℕ). n + 1) was.0 ∙ sym (made_more keeps old e new h),
-  was.1 ∙ plain_total _ _ (is_store e) plain (stored_more keeps old e new h),
-  h.terms ∙ was.2,
-  leads_as _ _ _ _ _ _ (leads_on _ _ _ made stored e was.3 h.step) one (plain_none stored (is_store e) plain),
-)
+-- an entered call counts in the total of all, and a store in that of the stores
+entry_counted : (keeps : Bool) (terms : SharedTerms) (made now stored all : ℕ) (old : History) (e : Entry) (new : History) → AreCounted keeps terms made stored old → IsEnteredBy keeps old e new → now ≡ made + 1 → all ≡ stored + cond (is_store e) 1 0 → AreCounted keeps terms now all new
+entry_counted keeps terms made now stored all old e new was h one count = record {
+  calls = one ∙ ap (λ (n : ℕ). n + 1) was.calls ∙ sym (made_more keeps old e new h);
+  stores = count ∙ ap (λ (n : ℕ). n + cond (is_store e) 1 0) was.stores ∙ stored_more keeps old e new h;
+  kept = h.terms ∙ was.kept;
+  run = leads_on _ _ _ made now stored all e was.run h.step one count;
+}
 
-pub made_raised : (keeps : Bool) (terms : SharedTerms) (made stored : ℕ) (old : History) (e : Entry) (new : History) → AreCounted keeps terms made stored old → IsEnteredBy keeps old e new → made_of keeps new.entries new.totals ≡ made + 1
-made_raised keeps terms made stored old e new was h = made_more keeps old e new h ∙ ap (λ (n : ℕ). n + 1) (sym was.0)
+pub call_counted : (keeps : Bool) (terms : SharedTerms) (made now stored : ℕ) (old : History) (e : Entry) (new : History) → AreCounted keeps terms made stored old → IsEnteredBy keeps old e new → is_store e ≡ false → now ≡ made + 1 → AreCounted keeps terms now stored new
+call_counted keeps terms made now stored old e new was h plain one = entry_counted keeps terms made now stored stored old e new was h one (plain_none stored (is_store e) plain)
 
 -- what is asked is no store
 pub asked_plain : (l : Shape) (call : Call) → IsAsked l call → stores_by call ≡ false
@@ -70,47 +61,42 @@ asked_plain l (Drain region) asked = refl
 asked_plain l (Clear region) asked = refl
 asked_plain l (Redirect from to) asked = refl
 
--- a store counts in both totals
 pub store_counted : (keeps : Bool) (terms : SharedTerms) (made now stored all : ℕ) (old : History) (e : Entry) (new : History) → AreCounted keeps terms made stored old → IsEnteredBy keeps old e new → is_store e ≡ true → now ≡ made + 1 → all ≡ stored + 1 → AreCounted keeps terms now all new
-store_counted keeps terms made now stored all old e new was h store one more = (
-  one ∙ ap (λ (n : ℕ). n + 1) was.0 ∙ sym (made_more keeps old e new h),
-  more ∙ ap (λ (n : ℕ). n + 1) was.1 ∙ ap (λ (b : Bool). stored_of keeps old.entries old.totals + cond b 1 0) (sym store) ∙ stored_more keeps old e new h,
-  h.terms ∙ was.2,
-  leads_as _ _ _ _ _ _ (leads_on _ _ _ made stored e was.3 h.step) one (more ∙ store_one stored (is_store e) store),
-)
+store_counted keeps terms made now stored all old e new was h store one more = entry_counted keeps terms made now stored all old e new was h one (more ∙ store_one stored (is_store e) store)
 
 -- a book without calls is counted by new ledgers
+none_made : (keeps : Bool) (h : History) → AreNone keeps h → (made_of keeps h.entries h.totals ≡ 0) × (stored_of keeps h.entries h.totals ≡ 0)
+none_made true h none = (ap (length {A = Entry}) none, ap (count_by is_store) none)
+none_made false h none = (ap (λ (t : Totals). t.made) none, ap (λ (t : Totals). t.stored) none)
+
 pub none_counted : (keeps : Bool) (terms : SharedTerms) (made stored : ℕ) (h : History) → AreNone keeps h → shared_terms h ≡ terms → made ≡ 0 → stored ≡ 0 → AreCounted keeps terms made stored h
-none_counted true terms made stored h none is no_call no_store =
-    (no_call ∙ sym (ap (length {A = Entry}) none), no_store ∙ sym (ap (count_by is_store) none), ap kept_terms is, leads_none _ _ made stored (ap (λ (t : SharedTerms). t.began.state.table) is) no_call no_store)
-none_counted false terms made stored h none is no_call no_store =
-    (no_call ∙ sym (ap (λ (t : Totals). t.made) none), no_store ∙ sym (ap (λ (t : Totals). t.stored) none), ap kept_terms is, leads_none _ _ made stored (ap (λ (t : SharedTerms). t.began.state.table) is) no_call no_store)
+none_counted keeps terms made stored h none is no_call no_store = record {
+  calls = no_call ∙ sym (none_made keeps h none).0;
+  stores = no_store ∙ sym (none_made keeps h none).1;
+  kept = ap kept_terms is;
+  run = record { entries = []; run = tt; last = ap (λ (t : SharedTerms). t.began.state.table) is; made = sym no_call; stored = sym no_store };
+}
 
 pub kept_mutators : (keeps : Bool) (h : History) → IsKept keeps h → (1 ≤ h.mutators) × (h.mutators ≤ 8)
 kept_mutators true h is = (is.mutators_low, is.mutators_high)
 kept_mutators false h is = (is.mutators_low, is.mutators_high)
 
-limit_fits : (keeps : Bool) (h : History) → IsKept keeps h → (made_of keeps h.entries h.totals ≤ h.limit) × (h.limit < 2 ^ 64)
-limit_fits true h is = (is.within, omega (arith, is.limit_high))
-limit_fits false h is = (is.within, is.limit_high)
+limit_fits : (keeps : Bool) (h : History) → IsKept keeps h → (stored_of keeps h.entries h.totals ≤ made_of keeps h.entries h.totals) × (made_of keeps h.entries h.totals ≤ h.limit) × (h.limit < 2 ^ 64)
+limit_fits true h is = (count_by-le-length is_store h.entries, is.within, omega (arith, is.limit_high))
+limit_fits false h is = (is.stored, is.within, is.limit_high)
 
 -- there is room in the total for one more
 pub total_fits : (keeps : Bool) (terms : SharedTerms) (made stored : ℕ) (old new : History) (e : Entry) → AreCounted keeps terms made stored old → IsEnteredBy keeps old e new → IsKept keeps new → made + 1 < 2 ^ 64
 total_fits keeps terms made stored old new e was h kept =
     let fits = limit_fits keeps new kept in
-    omega (arith, was.0, made_more keeps old e new h, fits.0, fits.1)
-
-stored_few : (keeps : Bool) (h : History) → IsKept keeps h → stored_of keeps h.entries h.totals ≤ made_of keeps h.entries h.totals
-stored_few true h is = count_by-le-length is_store h.entries
-stored_few false h is = is.stored
+    omega (arith, was.calls, made_more keeps old e new h, fits.1, fits.2)
 
 -- and in that of the stores, of which there are no more
 pub stored_fits : (keeps : Bool) (terms : SharedTerms) (made stored : ℕ) (old new : History) (e : Entry) → AreCounted keeps terms made stored old → IsEnteredBy keeps old e new → is_store e ≡ true → IsKept keeps new → stored + 1 < 2 ^ 64
 stored_fits keeps terms made stored old new e was h store kept =
     let fits = limit_fits keeps new kept in
-    let few = stored_few keeps new kept in
     let more = ap (λ (b : Bool). stored_of keeps old.entries old.totals + cond b 1 0) (sym store) ∙ stored_more keeps old e new h in
-    omega (arith, was.1, more, few, fits.0, fits.1)
+    omega (arith, was.stores, more, fits.0, fits.1, fits.2)
 
 -- the caller with one call more
 pub called : (counts new : CallerCounts) (m : Option Mutator) (t : Taker) (now : CallerState) → record { counts = counts; mutator = m; taker = t } ≡ now → new ≡ one_call counts → record { counts = new; mutator = m; taker = t } ≡ called_once now

@@ -1,6 +1,6 @@
--- How counts grow.
+-- How counts grow, and what a round does at a shared book and at a desk of it.
 use Rattle.std.specs.Prelude.{◌≡◌, ◌+◌, ◌-◌, ◌/◌, ◌≤◌, if◌then◌else◌, ◌∷◌, ◌++◌}
-use Rattle.g1_shared.specs.{ℕ, Bool, true, false, cond, nat_lt, Option, Some, None, List, [], length, map, refl, sym, subst, ap, ◌∙◌, arith, append_assoc, append-nil, length-append, count_by, Result, Ok, Err, IfOk, OnErr, length-map, sum_by-append, Shape, Parcel, Taker, taken_of, RefineReply, Entry, Refusal, CallMade, Refused, GainsAtMost, IsTake, IsRefinement, Turn, turn_call, round_calls, round_size, IsRound, CallerCounts, one_call, counts_after, counts_after_then, CountsDid, is_store, MakesFor}
+use Rattle.g1_shared.specs.{ℕ, Bool, true, false, cond, nat_lt, Option, Some, None, List, [], length, map, refl, sym, subst, ap, ◌∙◌, arith, append_assoc, append-nil, length-append, count_by, Result, Ok, Err, IfOk, OnOk, OnErr, Line, capacity_of, SharedTerms, AskWork, CallerState, IsRoundAt, caller_mark, taken_list, DeskDid, length-map, sum_by-append, Shape, Parcel, Taker, taken_of, RefineReply, Entry, Refusal, CallMade, Refused, GainsAtMost, IsTake, IsRefinement, Turn, turn_call, round_calls, round_size, IsRound, CallerCounts, one_call, counts_after, counts_after_then, CountsDid, is_store, MakesFor}
 use Rattle.g1_steps.proofs.StepLemmas.{gains_nothing, gains_single}
 
 -- how many stores there are with one entry more
@@ -28,10 +28,10 @@ size_by false start seen = omega arith
 pub size_within : (start seen : ℕ) → round_size start seen ≤ seen
 size_within start seen = size_by (nat_lt seen start) start seen
 
--- the same round, of whose calls something else is told
-pub round_as : {S T : Type 0} (did : S → List CallMade → S → Type 0) (tells : T → List CallMade → T → Type 0) (old new : S) (was now : T) (before : List Parcel) (most : ℕ) (reply : RefineReply) (after : List Parcel)
-    → ((calls : List CallMade) → did old calls new → tells was calls now) → IsRound did old before most reply after new → IsRound tells was before most reply after now
-round_as did tells old new was now before most reply after told h = record {
+-- the same round, of whose calls something else is told, and of whose size another name is known
+pub round_as : {S T : Type 0} (did : S → List CallMade → S → Type 0) (tells : T → List CallMade → T → Type 0) (old new : S) (was now : T) (before : List Parcel) (most named : ℕ) (reply : RefineReply) (after : List Parcel) → most ≡ named
+    → ((calls : List CallMade) → did old calls new → tells was calls now) → IsRound did old before most reply after new → IsRound tells was before named reply after now
+round_as did tells old new was now before most named reply after same told h = subst (λ n. IsRound tells was before n reply after now) same (record {
   turns = h.turns;
   refused = h.refused;
   made = told (round_calls h.turns h.refused) h.made;
@@ -45,7 +45,7 @@ round_as did tells old new was now before most reply after told h = record {
   begun = h.begun;
   within = h.within;
   all = h.all;
-}
+})
 
 -- a round makes no more entries than its taker gains parcels
 pub round_makes : (layout : Shape) (t : CallerCounts) (before : List Parcel) (most : ℕ) (reply : RefineReply) (after : List Parcel) (u : CallerCounts) → IsRound (CountsDid layout) t before most reply after u → MakesFor t.made before u.made after
@@ -74,3 +74,21 @@ pub refinement_gains : {S : Type 0} (did : S → List CallMade → S → Type 0)
     → IfOk r (λ reply. IsRefinement did old before reply after new) → OnErr r (GainsAtMost (taken_of before) 1 (taken_of after)) → GainsAtMost (taken_of before) 1 (taken_of after)
 refinement_gains did (Ok reply) old new before after h lost = take_gains before h.parcel after h.take
 refinement_gains did (Err e) old new before after h lost = lost
+
+-- what a desk tells of a round
+pub desk_worked : (r : Result RefineReply Refusal) (line : Line) (terms : SharedTerms) (s t : CallerState) → caller_mark t ≡ caller_mark s → t.counts.stored ≡ s.counts.stored
+    → (s.counts.made ≤ t.counts.made) × (t.counts.made ≤ s.counts.made + capacity_of line) → IfOk r (λ reply. IsRoundAt terms line s reply t)
+    → OnOk r (DeskDid (capacity_of line) s (AskWork ∷ []) (capacity_of line) t)
+desk_worked (Err refusal) line terms s t mark stored made round = tt
+desk_worked (Ok reply) line terms s t mark stored made round =
+    let makes = round_makes terms.layout s.counts (taken_list s) _ reply (taken_list t) t.counts round.2 in (
+      refl,
+      record {
+        mark = mark;
+        stored = omega (arith, stored);
+        least = omega (arith, made.0);
+        log = tt;
+        most = omega (arith, made.1);
+        each = record { parcels = makes.parcels; gained = makes.gained; within = omega (arith, makes.within) };
+      },
+    )

@@ -5,7 +5,7 @@ use Rattle.g1_shared.specs.{ℕ, Bool, List, Option, Some, None, refl, sym, ap, 
 -- the kind of a store at a counted book
 pub kind_at : (keeps : Bool) (terms : SharedTerms) (made stored : ℕ) (h : History) (slot : ℕ) (target : Option ℕ) (kind : Kind)
     → AreCounted keeps terms made stored h → kind ≡ kind_of (table_in h) slot target → IsKindAt terms.layout slot target kind
-kind_at keeps terms made stored h slot target kind was is = (table_in h, ap (λ (t : Terms). t.layout) was.2, is)
+kind_at keeps terms made stored h slot target kind was is = (table_in h, ap (λ (t : Terms). t.layout) was.kept, is)
 
 answer_kind : (first : StoreReply) (help : Help) → (store_answer first help).kind ≡ first.kind
 answer_kind first None = refl

@@ -122,7 +122,7 @@ pub record IsNewCaller (line : Line) (log mutators k : ℕ) (c : CallerState) : 
 
 -- the caller after one entry more, which is no store
 abbrev pub called_once : CallerState → CallerState
-called_once c = record { counts = one_call c.counts; mutator = c.mutator; taker = c.taker }
+called_once c = record c { counts = one_call c.counts }
 
 -- Where the call succeeded, the caller has one call more, which is no store. A refusal leaves it as
 -- it was.

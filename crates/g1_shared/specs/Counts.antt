@@ -1,9 +1,9 @@
 -- What is counted of a caller: its entries, and the stores among them.
 use Rattle.std.specs.Prelude.{◌≡◌, ◌+◌, ◌∷◌, ◌++◌}
-use Rattle.g1_shared.specs.Prelude.{ℕ, Bool, true, false, List, [], refl, length, count_by, fold}
+use Rattle.g1_shared.specs.Prelude.{ℕ, Bool, true, false, List, [], refl, sym, length, count_by}
 use Rattle.g1_shared.specs.Prelude.{Shape, Entry, Machine, IsPermitted, table_after, Table, History}
 use Rattle.g1_shared.specs.Prelude.{Terms, made_of, stored_of, terms_of, table_in, layout_in}
-use Rattle.g1_shared.specs.Prelude.{CallMade, Stored, Refined, Refused}
+use Rattle.g1_shared.specs.Prelude.{CallMade, Stored, Refined, Refused, fold, fold-append}
 use Rattle.std.specs.Coded.{Coded, code_by, coded×, coded_ℕ}
 use Rattle.g1_core.specs.declared.config.Settings.{Settings}
 use Rattle.g1_history.specs.History as book
@@ -49,11 +49,12 @@ pub record LeadsTo (old : Table) (calls stores : ℕ) (new : Table) : Type 0 whe
 
 -- What a counted book keeps: the totals of its ledgers are those of the book, on these terms, and
 -- as many calls led to its table.
-abbrev pub AreCounted : Bool → SharedTerms → ℕ → ℕ → History → Type 0
-AreCounted keeps terms made stored h =
-    (made ≡ made_of keeps h.entries h.totals) × (stored ≡ stored_of keeps h.entries h.totals)
-    × (terms_of h ≡ kept_terms terms)
-    × LeadsTo terms.began.state.table made stored (table_in h)
+pub record AreCounted (keeps : Bool) (terms : SharedTerms) (made stored : ℕ)
+    (h : History) : Type 0 where
+  pub calls : made ≡ made_of keeps h.entries h.totals
+  pub stores : stored ≡ stored_of keeps h.entries h.totals
+  pub kept : terms_of h ≡ kept_terms terms
+  pub run : LeadsTo terms.began.state.table made stored (table_in h)
 
 -- no call was made
 abbrev pub AreNone : Bool → History → Type 0
@@ -75,17 +76,19 @@ counts_code =
 
 -- one entry more, which is no store, or is one
 abbrev pub one_call : CallerCounts → CallerCounts
-one_call t = record { number = t.number; made = t.made + 1; stored = t.stored }
+one_call t = record t { made = t.made + 1 }
 
 abbrev pub one_store : CallerCounts → CallerCounts
-one_store t = record { number = t.number; made = t.made + 1; stored = t.stored + 1 }
+one_store t = record t { made = t.made + 1; stored = t.stored + 1 }
 
--- the counts after these calls: a refused one is no entry
+-- the counts after a call, and after some: a refused one is no entry
+abbrev pub counts_with : CallerCounts → CallMade → CallerCounts
+counts_with t (Stored slot target reply) = one_store t
+counts_with t (Refined buffer reply) = one_call t
+counts_with t (Refused refusal) = t
+
 abbrev pub counts_after : CallerCounts → List CallMade → CallerCounts
-counts_after t [] = t
-counts_after t (Stored slot target reply ∷ ms) = counts_after (one_store t) ms
-counts_after t (Refined buffer reply ∷ ms) = counts_after (one_call t) ms
-counts_after t (Refused refusal ∷ ms) = counts_after t ms
+counts_after t ms = fold counts_with t ms
 
 -- the counts tell of the calls that were made, and the heap which answers these can have
 abbrev pub CountsDid : Shape → CallerCounts → List CallMade → CallerCounts → Type 0
@@ -93,10 +96,7 @@ CountsDid layout t calls u = (u ≡ counts_after t calls) × AreAnswersAt layout
 
 pub counts_after_then : (t : CallerCounts) (xs ys : List CallMade)
     → counts_after (counts_after t xs) ys ≡ counts_after t (xs ++ ys)
-counts_after_then t [] ys = refl
-counts_after_then t (Stored slot target reply ∷ xs) ys = counts_after_then (one_store t) xs ys
-counts_after_then t (Refined buffer reply ∷ xs) ys = counts_after_then (one_call t) xs ys
-counts_after_then t (Refused refusal ∷ xs) ys = counts_after_then t xs ys
+counts_after_then t xs ys = sym (fold-append counts_with t xs ys)
 
 pub counts_after_number : (t : CallerCounts) (ms : List CallMade)
     → (counts_after t ms).number ≡ t.number

@@ -18,39 +18,26 @@ Leaves AskFlush t = (mutator_log t.mutator).cards ≡ []
 Leaves (AskStore slot target) t = Unit {0}
 Leaves AskWork t = Unit {0}
 
+-- what the last of these calls leaves, or `none` where there are none
+abbrev pub LeftBy : Type 0 → List Ask → CallerState → Type 0
+LeftBy none [] t = none
+LeftBy none (a ∷ asks) t = LeftBy (Leaves a t) asks t
+
 -- No call leaves log and sender; a flush that was the last call leaves an empty log.
 abbrev pub LeavesLog : CallerState → List Ask → CallerState → Type 0
-LeavesLog s [] t = t.mutator ≡ s.mutator
-LeavesLog s (a ∷ []) t = Leaves a t
-LeavesLog s (a ∷ b ∷ asks) t = LeavesLog s (b ∷ asks) t
+LeavesLog s asks t = LeftBy (t.mutator ≡ s.mutator) asks t
 
 leaves_same : (a : Ask) (t u : CallerState) → u.mutator ≡ t.mutator → Leaves a t → Leaves a u
 leaves_same AskFlush t u e h = ap (λ m. (mutator_log m).cards) e ∙ h
 leaves_same (AskStore slot target) t u e h = tt
 leaves_same AskWork t u e h = tt
 
-log_same : (s t u : CallerState) (xs : List Ask) → u.mutator ≡ t.mutator → LeavesLog s xs t
-    → LeavesLog s xs u
-log_same s t u [] e h = e ∙ h
-log_same s t u (a ∷ []) e h = leaves_same a t u e h
-log_same s t u (a ∷ b ∷ xs) e h = log_same s t u (b ∷ xs) e h
-
-log_behind : (s t u : CallerState) (y : Ask) (ys : List Ask) → LeavesLog t (y ∷ ys) u
-    → LeavesLog s (y ∷ ys) u
-log_behind s t u y [] h = h
-log_behind s t u y (z ∷ ys) h = log_behind s t u z ys h
-
-log_after : (s t u : CallerState) (xs : List Ask) (y : Ask) (ys : List Ask) → LeavesLog t (y ∷ ys) u
-    → LeavesLog s (xs ++ y ∷ ys) u
-log_after s t u [] y ys h = log_behind s t u y ys h
-log_after s t u (x ∷ []) y ys h = log_behind s t u y ys h
-log_after s t u (x ∷ z ∷ xs) y ys h = log_after s t u (z ∷ xs) y ys h
-
-log_then : (s t u : CallerState) (xs ys : List Ask) → LeavesLog s xs t → LeavesLog t ys u
-    → LeavesLog s (xs ++ ys) u
-log_then s t u xs [] h k =
-    subst (λ l. LeavesLog s l u) (sym (append-nil xs)) (log_same s t u xs k h)
-log_then s t u xs (y ∷ ys) h k = log_after s t u xs y ys k
+left_then : (P Q : Type 0) (t u : CallerState) (xs ys : List Ask) → (u.mutator ≡ t.mutator → P → Q)
+    → LeftBy P xs t → LeavesLog t ys u → LeftBy Q (xs ++ ys) u
+left_then P Q t u [] [] same h k = same k h
+left_then P Q t u [] (y ∷ ys) same h k = k
+left_then P Q t u (x ∷ xs) ys same h k =
+    left_then (Leaves x t) (Leaves x u) t u xs ys (leaves_same x t u) h k
 
 -- A caller made these calls: it is the same caller, each store counts once, and each store makes at
 -- least one entry. At most two are made for a store, one for a flush, and one for each parcel that
@@ -85,7 +72,8 @@ caller_did_then limit s t u xs ys p q = record {
   mark = q.mark ∙ p.mark;
   stored = omega (arith, p.stored, q.stored, count_more is_store_ask xs ys);
   least = omega (arith, p.least, q.least, count_more is_store_ask xs ys);
-  log = log_then s t u xs ys p.log q.log;
+  log = left_then (t.mutator ≡ s.mutator) (u.mutator ≡ s.mutator) t u xs ys (λ e h. e ∙ h) p.log
+      q.log;
   most = omega (arith, p.most, q.most, sum_by-append (most_for limit) xs ys);
   each = record {
     parcels = p.each.parcels ++ q.each.parcels;

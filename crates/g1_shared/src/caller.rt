@@ -67,11 +67,9 @@ impl<M: Terms, S: Ledger> CallerCounts<M, S> {
         ensures stored { (result.1.parts ≡ 1) × (result.1.amount ≡ self.stored) }
     {
         let CallerCounts {
-            number: _,
-            made: _,
-            stored: _,
             made_share,
             stored_share,
+            ..
         } = self;
         (made_share, stored_share)
     }
@@ -129,11 +127,7 @@ impl<M: Terms, S: Ledger> Caller<M, S> {
         ensures made { (result.0.parts ≡ 1) × (result.0.amount ≡ self.counts.made) }
         ensures stored { (result.1.parts ≡ 1) × (result.1.amount ≡ self.counts.stored) }
     {
-        let Caller {
-            counts,
-            mutator: _,
-            taker: _,
-        } = self;
+        let Caller { counts, .. } = self;
         counts.into_shares()
     }
 }

@@ -49,11 +49,7 @@ impl<'a, R, M: Terms, S: Ledger, H: Keeps> SharedDesk<'a, R, M, S, H> {
         ensures caller { result ≡ self.entry.caller }
         ensures of { IsCallerOf self.entry.shared.now result }
     {
-        let SharedDesk {
-            rt: _,
-            shared: _,
-            caller,
-        } = self;
+        let SharedDesk { caller, .. } = self;
         caller
     }
 }

@@ -63,13 +63,9 @@ replies_more ts t = sym (map-append (λ (q : Turn). q.reply) ts (t ∷ []))
 sums_turn : (ts : List Turn) (sum : RefineReply) (t : Turn) → IsSumOf (replies_of ts) sum → All (λ r. r.short ≡ false) (replies_of ts) → IsSumOf (replies_of (ts ++ t ∷ [])) (sums_with sum t.reply)
 sums_turn ts sum t h all = subst (λ l. IsSumOf l (sums_with sum t.reply)) (replies_more ts t) (sums_more (replies_of ts) sum t.reply h all)
 
-is_short : (b : Bool) → false ≡ not b → b ≡ true
-is_short true h = refl
-is_short false h = cc
-
-is_whole : (b : Bool) → true ≡ not b → b ≡ false
-is_whole true h = cc
-is_whole false h = refl
+not_of : (b more : Bool) → more ≡ not b → b ≡ not more
+not_of true more h = ap not (sym h)
+not_of false more h = ap not (sym h)
 
 -- calls after calls are calls
 abbrev Then : {S : Type 0} → (S → List CallMade → S → Type 0) → Type 0
@@ -87,7 +83,7 @@ taken_more before ts t mid new was is =
 pub round_goes_on : {S : Type 0} (did : S → List CallMade → S → Type 0) (then : Then did) (old : S) (before : List Parcel) (calls : ℕ) (mid new : Progress S) (more : Bool) → IsRoundSoFar did old before calls mid → more ≡ true → IsNextOf did mid more new → IsRoundSoFar did old before (calls + 1) new
 round_goes_on did then old before calls mid new more h goes (inl call) =
     let t : Turn = record { parcel = call.parcel; reply = call.reply } in
-    let whole : t.reply.short ≡ false = is_whole t.reply.short (sym goes ∙ call.goes_on) in
+    let whole : t.reply.short ≡ false = not_of t.reply.short true (sym goes ∙ call.goes_on) in
     record {
       turns = h.turns ++ t ∷ [];
       made = one_more did then old mid.state new.state h.turns t h.made call.made;
@@ -101,7 +97,7 @@ round_goes_on did then old before calls mid new more h goes (inl call) =
 round_goes_on did then old before calls mid new more h goes (inr none) = absurd (cc (goes, none.ends))
 
 -- a round that made whole calls alone ends where they are all, or the line was empty
-round_stops : {S : Type 0} (did : S → List CallMade → S → Type 0) (old : S) (before : List Parcel) (calls most : ℕ) (p : Progress S) → IsRoundSoFar did old before calls p → calls ≤ most → (calls ≡ most) ⊎ FoundEmpty p.taken → IsRound did old before most p.sum p.taken p.state
+pub round_stops : {S : Type 0} (did : S → List CallMade → S → Type 0) (old : S) (before : List Parcel) (calls most : ℕ) (p : Progress S) → IsRoundSoFar did old before calls p → calls ≤ most → (calls ≡ most) ⊎ FoundEmpty p.taken → IsRound did old before most p.sum p.taken p.state
 round_stops did old before calls most p h few ends = record {
   turns = h.turns;
   refused = None;
@@ -118,15 +114,11 @@ round_stops did old before calls most p h few ends = record {
   all = λ _. elim ends [ inl made ↦ inl (h.many ∙ made) | inr empty ↦ inr empty ];
 }
 
--- a round that made all its calls
-pub round_done : {S : Type 0} (did : S → List CallMade → S → Type 0) (old : S) (before : List Parcel) (calls most : ℕ) (p : Progress S) → IsRoundSoFar did old before calls p → calls ≡ most → IsRound did old before most p.sum p.taken p.state
-round_done did old before calls most p h made = round_stops did old before calls most p h (omega (arith, made)) (inl made)
-
 -- a round ends before its last call where the line was empty or the call was short
 pub round_ends : {S : Type 0} (did : S → List CallMade → S → Type 0) (then : Then did) (old : S) (before : List Parcel) (calls most : ℕ) (mid new : Progress S) (more : Bool) → IsRoundSoFar did old before calls mid → calls < most → more ≡ false → IsNextOf did mid more new → IsRound did old before most new.sum new.taken new.state
 round_ends did then old before calls most mid new more h less ends (inl call) =
     let t : Turn = record { parcel = call.parcel; reply = call.reply } in
-    let short : t.reply.short ≡ true = is_short t.reply.short (sym ends ∙ call.goes_on) in
+    let short : t.reply.short ≡ true = not_of t.reply.short false (sym ends ∙ call.goes_on) in
     let taken = taken_more before h.turns t mid.taken new.taken h.taken call.taken in
     record {
       turns = h.turns ++ t ∷ [];

@@ -5,20 +5,16 @@ use Rattle.g1_layout.specs.declared.kind.Kind.{Kind}
 use Rattle.g1_log.specs.Log.{Cards}
 use Rattle.g1_log.specs.Line.{taken_by}
 
-handed_by : (filled : Bool) (cards buffer : List ℕ) → (if filled then None else Some cards) ≡ Some buffer → buffer ≡ cards
-handed_by true cards buffer is = cc
-handed_by false cards buffer is = cc
+handed_by : (less : Bool) (cards : List ℕ) (place : Option (List ℕ)) → place ≡ (if less then None else Some cards) → IsSome place → place ≡ Some cards
+handed_by true cards place is some = absurd (cc (subst IsSome is some))
+handed_by false cards place is some = is
 
 -- a log hands out a buffer only to a logged store, with the store's card last
-handed_out : (kind : Kind) (log : Cards) (card : ℕ) (buffer : List ℕ) → buffer_of kind log card ≡ Some buffer → (kind ≡ Logged) × (buffer ≡ log.cards ++ card ∷ [])
-handed_out Logged log card buffer is = (refl, handed_by (nat_lt (length log.cards + 1) log.size) (log.cards ++ card ∷ []) buffer is)
-handed_out SameRegion log card buffer is = absurd (cc is)
-handed_out Null log card buffer is = absurd (cc is)
-handed_out AlreadyDirty log card buffer is = absurd (cc is)
-
 pub handed_some : (kind : Kind) (log : Cards) (card : ℕ) (place : Option (List ℕ)) → place ≡ buffer_of kind log card → IsSome place → (kind ≡ Logged) × (place ≡ Some (log.cards ++ card ∷ []))
-handed_some kind log card None is some = absurd (cc some)
-handed_some kind log card (Some buffer) is some = let out = handed_out kind log card buffer (sym is) in (out.0, ap Some out.1)
+handed_some Logged log card place is some = (refl, handed_by (nat_lt (length log.cards + 1) log.size) (log.cards ++ card ∷ []) place is some)
+handed_some SameRegion log card place is some = absurd (cc (subst IsSome is some))
+handed_some Null log card place is some = absurd (cc (subst IsSome is some))
+handed_some AlreadyDirty log card place is some = absurd (cc (subst IsSome is some))
 
 -- what a store that filled its log answers
 pub store_passed : (first : StoreReply) (help : Help) → first ≡ filled → record { kind = first.kind; fill = (passed help).fill; refined = (passed help).refined; short = (passed help).short } ≡ store_answer first help

@@ -1,10 +1,6 @@
--- Lists of asks, threads and jobs with one more.
-use Rattle.std.specs.Prelude.{◌≡◌, ◌+◌, ◌<◌, ◌∷◌, ◌++◌}
-use Rattle.g1_steps.specs.{ℕ, List, [], length, take, get_or, map, sym, ap, ◌∙◌, append_assoc, take_more, map-append, AllZip, Step, ask_of, asks_of}
-
-pub asks_more : (steps : List Step) (i : ℕ) (d : Step) → i < length steps → asks_of (take (i + 1) steps) ≡ asks_of (take i steps) ++ ask_of (get_or steps i d) ∷ []
-asks_more steps i d h =
-    ap asks_of (take_more steps i d h) ∙ map-append ask_of (take i steps) (get_or steps i d ∷ [])
+-- Lists of threads and jobs with one more.
+use Rattle.std.specs.Prelude.{◌≡◌, ◌∷◌, ◌++◌}
+use Rattle.g1_steps.specs.{List, [], map, sym, ap, ◌∙◌, append_assoc, map-append, AllZip}
 
 -- one thread more was started, with the first of the jobs that were left
 pub started_more : {H J : Type 0} (f : H → J) (hs now : List H) (h : H) (j : J) (rest next all : List J) → map f hs ++ rest ≡ all → rest ≡ j ∷ next → now ≡ hs ++ h ∷ [] → f h ≡ j → map f now ++ next ≡ all

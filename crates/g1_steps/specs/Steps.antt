@@ -39,18 +39,9 @@ pub record IsPassed {S : Type 0} (did : S → List CallMade → S
 -- the answer of a store whose own answer was the first
 abbrev pub store_answer : StoreReply → Help → StoreReply
 store_answer first None = first
-store_answer first (Some (Ok reply)) = record {
-  kind = first.kind;
-  fill = Helped;
-  refined = reply.refined;
-  short = reply.short;
-}
-store_answer first (Some (Err _)) = record {
-  kind = first.kind;
-  fill = Helped;
-  refined = [];
-  short = true;
-}
+store_answer first (Some (Ok reply)) =
+    record first { fill = Helped; refined = reply.refined; short = reply.short }
+store_answer first (Some (Err _)) = record first { fill = Helped; refined = []; short = true }
 
 -- the answer of a flush of `cards` cards
 abbrev pub flush_answer : ℕ → Help → FlushReply
@@ -147,14 +138,7 @@ buffer_in (Some x) = Some x.buffer
 
 -- the answer of a refinement as it was called: how many buffers the line has is no part of it
 abbrev pub called : RefineReply → RefineReply
-called reply = record {
-  taken = reply.taken;
-  refined = reply.refined;
-  hot = reply.hot;
-  skipped = reply.skipped;
-  left = 0;
-  short = reply.short;
-}
+called reply = record reply { left = 0 }
 
 -- A refinement of what the line gave.
 pub record IsRefinement {S : Type 0} (did : S → List CallMade → S

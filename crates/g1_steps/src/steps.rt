@@ -8,7 +8,6 @@
 
 mod ends;
 mod mutator;
-mod place;
 mod refiner;
 mod standstill;
 

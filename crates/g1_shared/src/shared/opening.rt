@@ -1,10 +1,9 @@
 //! How a book is shared, and how it is given back.
-ghost use Rattle.std.specs.Prelude.{◌≡◌, ◌+◌, ◌-◌, ◌<◌, ◌≤◌};
-ghost use Rattle.g1_shared.specs.{ℕ, [], length, count_by, sum_by, slice_index_or, IfOk, IfErr};
-ghost use Rattle.g1_shared.specs.{IfSome, IsSome, vec_len, vec_capacity, All, into_iter_items};
-ghost use Rattle.g1_shared.specs.{into_iter_len, capacity_of, IsNewTaker, made_of, stored_of};
-ghost use Rattle.g1_shared.specs.{terms_of, table_in, IsNewMutator, AreNewMutators, CallerState};
-ghost use Rattle.g1_shared.specs.{IsNewCaller, AreNone, LeadsTo, kept_terms, shared_terms};
+ghost use Rattle.std.specs.Prelude.{◌≡◌, ◌<◌, ◌≤◌};
+ghost use Rattle.g1_shared.specs.{ℕ, sum_by, slice_index_or, IfOk, IfErr, vec_len, vec_capacity};
+ghost use Rattle.g1_shared.specs.{All, capacity_of, IsNewTaker, made_of, stored_of, terms_of};
+ghost use Rattle.g1_shared.specs.{table_in, AreNewMutators, CallerState, IsNewCaller, AreNone};
+ghost use Rattle.g1_shared.specs.{LeadsTo, kept_terms, shared_terms};
 
 use crate::caller::{Caller, CallerCounts};
 use crate::counted::Counted;
@@ -18,7 +17,6 @@ use g1_log::{Line, Taker};
 use g1_steps::{Mutator, open_line};
 use std::marker::PhantomData;
 use std::sync::ledger::{Blank, Ledger, Share};
-use std::vec::IntoIter;
 
 impl<M: Terms, S: Ledger, H: Keeps> Shared<M, S, H> {
     /// Puts a book without entries under a lock, with a queue of completed buffers beside it, and
@@ -109,13 +107,7 @@ impl<M: Terms, S: Ledger, H: Keeps> Shared<M, S, H> {
         ensures stored { (result.2.parts ≡ S.parts)
             × (result.2.amount ≡ sum_by (λ caller. caller.counts.stored) callers.items) }
     {
-        let Shared {
-            counted,
-            line: _,
-            alloc: _,
-            start: _,
-            of: _,
-        } = self;
+        let Shared { counted, .. } = self;
         let mut callers = callers;
         let last = callers.take_last();
         let (mut made, mut stored) = last.into_shares();
@@ -154,64 +146,13 @@ fn callers_of<M: Terms, S: Ledger>(
     let mut mutators = mutators.into_iter();
     for number in 0..count {
         let counts = CallerCounts::new(number, made.split_off(1, 0), stored.split_off(1, 0));
-        let mutator = next_mutator(line, config, number, &mut mutators);
-        let taker = next_taker(line, &mut takers);
-        all.push_reserved(new_caller(line, config, counts, mutator, taker));
+        let mutator = mutators.next();
+        let taker = takers.take_last();
+        all.push_reserved(Caller {
+            counts,
+            mutator,
+            taker,
+        });
     }
     all
-}
-
-/// The mutator of this number, while there is one.
-fn next_mutator(
-    line: &Line,
-    config: &Config,
-    number: u32,
-    mutators: &mut IntoIter<Mutator>,
-) -> Option<Mutator>
-    requires { AreNewMutators line.now config.now.log number (into_iter_items mutators.old) }
-    ensures rest { AreNewMutators line.now config.now.log (number + 1)
-        (into_iter_items mutators.new) }
-    ensures len { into_iter_len mutators.new ≡ into_iter_len mutators.old - 1 }
-    ensures some { 0 < into_iter_len mutators.old → IsSome result }
-    ensures next { IfSome result (IsNewMutator line.now config.now.log number) }
-{
-    let _line = line;
-    let _config = config;
-    let _number = number;
-    mutators.next()
-}
-
-/// One of the takers.
-fn next_taker(line: &Line, takers: &mut Vec<Taker>) -> Taker
-    requires some { 0 < vec_len takers.old }
-    requires all { All (IsNewTaker line.now) takers.old.items }
-    ensures len { vec_len takers.new + 1 ≡ vec_len takers.old }
-    ensures rest { All (IsNewTaker line.now) takers.new.items }
-    ensures next { IsNewTaker line.now result }
-{
-    let _line = line;
-    takers.take_last()
-}
-
-/// The caller of these counts.
-fn new_caller<M: Terms, S: Ledger>(
-    line: &Line,
-    config: &Config,
-    counts: CallerCounts<M, S>,
-    mutator: Option<Mutator>,
-    taker: Taker,
-) -> Caller<M, S>
-    requires new { (counts.made ≡ 0) × (counts.stored ≡ 0) }
-    requires some { counts.number < M.terms.mutators → IsSome mutator }
-    requires mutator { IfSome mutator (IsNewMutator line.now config.now.log counts.number) }
-    requires taker { IsNewTaker line.now taker }
-    ensures { IsNewCaller line.now config.now.log M.terms.mutators counts.number result }
-{
-    let _line = line;
-    let _config = config;
-    Caller {
-        counts,
-        mutator,
-        taker,
-    }
 }

@@ -2,20 +2,18 @@
 ghost use Rattle.std.specs.Prelude.{◌≡◌, ◌+◌, ◌*◌, ◌<◌, ◌≤◌, ◌↔◌, ◌++◌, ◌∷◌};
 ghost use Rattle.g1_shared.specs.{ℕ, [], length, IfOk, OnErr, OnOk, IfSome, IsNone, All};
 ghost use Rattle.g1_shared.specs.{slice_index_or, true, false, slot_count, card_of, capacity_of};
-ghost use Rattle.g1_shared.specs.{taken_of, IsTakerOf, IsSameTaker, GainsAtMost, Empties};
-ghost use Rattle.g1_shared.specs.{MayRefuse, IsRound, round_size, StoresBy, CountsDid, IsKindAt};
+ghost use Rattle.g1_shared.specs.{GainsAtMost, Empties, MayRefuse, StoresBy, IsKindAt};
 ghost use Rattle.g1_shared.specs.{CallerState, caller_mark, IsCallerOf, caller_log, taken_list};
 ghost use Rattle.g1_shared.specs.{IsFlushAt, IsRefinementAt, IsRoundAt, IsCallerAtPause};
 ghost use Rattle.g1_log.specs.declared.parcel.Parcel.{Parcel as P};
 
-use crate::caller::{Caller, CallerCounts};
+use crate::caller::Caller;
 use crate::ledgers::Terms;
 use crate::locked_calls::LockedCalls;
 use crate::shared::Shared;
 use g1_core::{Fill, RefineReply, StoreReply};
 use g1_history::{Keeps, Refusal};
 use g1_layout::Slot;
-use g1_log::Taker;
 use g1_steps::{FlushReply, empty_line, refine, work};
 use std::sync::Wait;
 use std::sync::ledger::Ledger;
@@ -118,6 +116,7 @@ impl<M: Terms, S: Ledger, H: Keeps> Shared<M, S, H> {
     ///
     /// A refusal at the first take or call is returned. At a later one, or after a short call, the
     /// round ends with `short` true.
+    #[tactic(auto, using(crate::proofs::CountLemmas::round_counted, crate::proofs::CountLemmas::size_within))]
     pub fn work<R: Wait>(&self, rt: &R, caller: &mut Caller<M, S>) -> Result<RefineReply, Refusal>
         requires mine { IsCallerOf self.now caller.old }
         ensures mark { caller_mark caller.new ≡ caller_mark caller.old }
@@ -135,40 +134,13 @@ impl<M: Terms, S: Ledger, H: Keeps> Shared<M, S, H> {
             × (length reply.refined + reply.skipped ≤ 256 * capacity_of self.now)
             × (reply.hot ≤ 256 * capacity_of self.now) × (reply.left ≤ capacity_of self.now)) }
     {
-        self.work_by(rt, &mut caller.counts, &mut caller.taker)
-    }
-
-    /// A round of these counts' caller, by its taker.
-    #[tactic(auto, using(crate::proofs::CountLemmas::round_counted, crate::proofs::CountLemmas::size_within))]
-    fn work_by<R: Wait>(
-        &self,
-        rt: &R,
-        counts: &mut CallerCounts<M, S>,
-        taker: &mut Taker,
-    ) -> Result<RefineReply, Refusal>
-        requires taker { IsTakerOf self.now taker.old }
-        ensures kept { (counts.new.number ≡ counts.old.number)
-            × (counts.new.stored ≡ counts.old.stored) }
-        ensures round { IfOk result (λ reply. (seen : ℕ) × (seen ≤ capacity_of self.now)
-            × IsRound (CountsDid M.terms.layout) counts.old (taken_of taker.old)
-            (round_size M.terms.settings.start seen) reply (taken_of taker.new) counts.new) }
-        ensures given_up { OnErr result (GainsAtMost (taken_of taker.old) 1 (taken_of taker.new)) }
-        ensures made { (counts.old.made ≤ counts.new.made)
-            × (counts.new.made ≤ counts.old.made + capacity_of self.now) }
-        ensures same { IsSameTaker taker.new taker.old }
-        ensures err { OnErr result (counts.new ≡ counts.old) }
-        ensures numbers { IfOk result (λ reply.
-            (reply.taken ≤ capacity_of self.now)
-            × (length reply.refined + reply.skipped ≤ 256 * capacity_of self.now)
-            × (reply.hot ≤ 256 * capacity_of self.now) × (reply.left ≤ capacity_of self.now)) }
-    {
         let mut calls = LockedCalls {
             rt,
             counted: &self.counted,
-            counts,
+            counts: &mut caller.counts,
             alloc: self.alloc,
         };
-        let reply = work(rt, &self.line, taker, &mut calls, self.start)?;
+        let reply = work(rt, &self.line, &mut caller.taker, &mut calls, self.start)?;
         Ok(reply)
     }
 

@@ -40,7 +40,7 @@ fn run_job<D: Desk>(job: Job<D>) -> Job<D>
     let Job {
         mut desk,
         script,
-        outcome: _,
+        ..
     } = job;
     let outcome = match &script {
         Script::Mutate(steps) => mutate(&mut desk, steps.as_slice()),

@@ -46,12 +46,7 @@ impl<'a, R, C> LocalDesk<'a, R, C> {
         ensures calls { result.0 ≡ self.entry.calls }
         ensures ends { result.1 ≡ self.entry.ends }
     {
-        let LocalDesk {
-            rt: _,
-            ends,
-            calls,
-            start: _,
-        } = self;
+        let LocalDesk { ends, calls, .. } = self;
         (calls, ends)
     }
 }

@@ -52,11 +52,7 @@ impl<'a> Ends<'a> {
         ensures of { IsSenderOf self.entry.line.now result.0.sender
             × IsTakerOf self.entry.line.now result.1 }
     {
-        let Ends {
-            line: _,
-            mutator,
-            taker,
-        } = self;
+        let Ends { mutator, taker, .. } = self;
         (mutator, taker)
     }
 

@@ -6,12 +6,12 @@ ghost use Rattle.g1_steps.specs.Prelude.{IsSenderOf, put_of, IsSameSender};
 ghost use Rattle.g1_steps.specs.Steps.{IsPassed, PutsBy, MayRefuse, nothing_flushed};
 
 use crate::calls::Calls;
-use crate::steps::place::BufferPlace;
 use g1_core::{CardList, Fill, StoreReply};
 use g1_history::Refusal;
 use g1_layout::Slot;
 use g1_log::{Buffer, Line, Log, Sender};
 use std::alloc::Global;
+use std::marker::Model;
 use std::sync::Wait;
 
 /// The reply of a flush.
@@ -139,6 +139,29 @@ impl Mutator {
         ensures { IsStopped self.old self.new }
     {
         drop(self.log.take());
+    }
+}
+
+/// Where a completed buffer lies on its way from a log to the queue. Between two calls it is empty.
+#[derive(Drop)]
+pub struct BufferPlace {
+    pub(crate) buffer: Option<Buffer>,
+}
+
+impl Model for BufferPlace {
+    ghost use Rattle.g1_steps.specs.Prelude.{IsNone};
+
+    ghost Value = { Unit {0} };
+
+    ghost view = { λ p. tt };
+
+    ghost invariant = { λ p. IsNone p.buffer };
+}
+
+impl BufferPlace {
+    /// An empty place.
+    pub(crate) fn new() -> BufferPlace {
+        BufferPlace { buffer: None }
     }
 }
 

@@ -1,12 +1,12 @@
 //! What a pause does once the mutators are stopped: it empties their logs and the queue of
 //! completed buffers.
-ghost use Rattle.std.specs.Prelude.{◌≡◌, ◌<◌, ◌++◌, ◌∷◌};
-ghost use Rattle.g1_steps.specs.{ℕ, [], length, slice_index_or, MatchOption, IsTakerOf};
-ghost use Rattle.g1_steps.specs.{IsSameTaker, taken_of, capacity_of, WasEmpty, Empties, IsStopped};
+ghost use Rattle.std.specs.Prelude.{◌<◌};
+ghost use Rattle.g1_steps.specs.{ℕ, length, slice_index_or, IsTakerOf, IsSameTaker, taken_of};
+ghost use Rattle.g1_steps.specs.{capacity_of, Empties, IsStopped};
 ghost use Rattle.g1_steps.specs.declared.steps.mutator.Mutator.{Mutator as M};
 
 use crate::steps::Mutator;
-use g1_log::{Line, Parcel, Taker};
+use g1_log::{Line, Taker};
 use std::sync::Wait;
 
 /// Empties the logs of mutators that are stopped, and the queue by this taker (`empty_line`). It
@@ -38,19 +38,8 @@ pub fn empty_line<R: Wait>(rt: &R, line: &Line, taker: &mut Taker)
 {
     for turn in 0..line.capacity() {
         let _turn = turn;
-        if take(rt, line, taker).is_none() {
+        if line.take(rt, taker).is_none() {
             return;
         }
     }
-}
-
-// Takes one parcel; the contract keeps only what `empty_line` uses.
-fn take<R: Wait>(rt: &R, line: &Line, taker: &mut Taker) -> Option<Parcel>
-    requires taker { IsTakerOf line.now taker.old }
-    ensures taken { MatchOption result ((taken_of taker.new ≡ taken_of taker.old)
-        × WasEmpty taker.old)
-        (λ x. taken_of taker.new ≡ taken_of taker.old ++ x ∷ []) }
-    ensures same { IsSameTaker taker.new taker.old }
-{
-    line.take(rt, taker)
 }

@@ -1,14 +1,17 @@
-use Rattle.std.specs.Prelude.{◌≡◌}
-use Rattle.g1_shared.specs.{rules, arith, length, ap, subst, CallerCounts, IsNewCaller}
-use Rattle.g1_shared.proofs.EachLemmas.{each_more}
+use Rattle.std.specs.Prelude.{◌≡◌, ◌<◌}
+use Rattle.g1_shared.specs.{Some, rules, arith, length, IsNewTaker, IsNewCaller}
+use Rattle.std.proofs.lemmas.List.Elements.{All-pop}
+use Rattle.g1_shared.proofs.EachLemmas.{each_more, begins, next_new}
 use Rattle.g1_shared.proofs.shared.opening.callers_of.Goals as goal
 
 pub loop-number-preserved : goal.loop-number-preserved
 loop-number-preserved g c =
     let was = c.loop-number.invariant in
     let len : length c.loop-number.all.items ≡ c.loop-number.number = search rules in
-    let number = ap (λ (t : CallerCounts). t.number) c.new-counts.ensures in
-    let new = subst (λ n. IsNewCaller c.args.line.now c.args.config.now.log g.M.Terms.terms.mutators n c.new_caller.result) number c.new_caller.ensures in (
+    let takers = All-pop (IsNewTaker c.args.line.now) _ _ (Some c.take_last-taker.result) c.take_last-taker.ensures.items was.7 in
+    let next = next_new _ _ c.loop-number.number _ _ _ _ _ c.next-mutator.ensures.cases (search rules) was.9 in
+    let some = λ (below : c.loop-number.number < g.M.Terms.terms.mutators). c.next-mutator.ensures.variant.1 (omega (arith, below)) in
+    let new = begins c.args.line.now c.args.config.now.log g.M.Terms.terms.mutators c.loop-number.number _ _ _ c.new-counts.ensures some next.0 takers.1 in (
       omega arith,
       search rules,
       omega arith,
@@ -16,8 +19,8 @@ loop-number-preserved g c =
       search rules,
       search rules,
       omega arith,
-      c.next_taker-taker.ensures.rest,
-      omega arith,
-      c.next_mutator-mutator.ensures.rest,
+      takers.0,
+      omega (arith, next.2),
+      next.1,
       each_more (IsNewCaller c.args.line.now c.args.config.now.log g.M.Terms.terms.mutators) _ _ _ c.loop-number.number c.push_reserved.ensures.items len was.10 new,
     )

@@ -1,4 +1,4 @@
-use Rattle.g1_shared.proofs.DeskLemmas.{desk_worked}
+use Rattle.g1_shared.proofs.CountLemmas.{desk_worked}
 use Rattle.g1_shared.proofs.shared_desk.SharedDeskDesk.work.Goals as goal
 
 pub returns-clause-ok : goal.returns-clause-ok

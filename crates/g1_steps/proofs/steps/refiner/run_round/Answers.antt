@@ -1,5 +1,5 @@
-use Rattle.g1_steps.specs.{true, arith, rules}
-use Rattle.g1_steps.proofs.RoundLemmas.{round_goes_on, round_ends, round_refused, round_done}
+use Rattle.g1_steps.specs.{true, inl, arith, rules}
+use Rattle.g1_steps.proofs.RoundLemmas.{round_goes_on, round_ends, round_refused, round_stops}
 use Rattle.g1_steps.proofs.steps.refiner.run_round.Goals as goal
 
 pub loop-turn-preserved : goal.loop-turn-preserved
@@ -21,4 +21,4 @@ returns-in-Err-clause-round g c =
     (λ i. let was = c.in-Err.ensures.err.1 i in record { taken = was.taken; refined = was.refined; hot = was.hot; skipped = was.skipped; left = was.left; short = true })
 
 pub returns-clause-round : goal.returns-clause-round
-returns-clause-round g c = round_done _ _ _ _ _ _ c.loop-turn.invariant.0 (omega arith)
+returns-clause-round g c = round_stops _ _ _ _ _ _ c.loop-turn.invariant.0 (omega arith) (inl (omega arith))
