@@ -1,9 +1,8 @@
 -- What the steps add up to.
 use Rattle.std.specs.Prelude.{◌≡◌, ◌+◌, ◌≤◌, ◌∷◌, ◌++◌, if◌then◌else◌}
-use Rattle.g1_steps.specs.{ℕ, Bool, true, false, List, [], Option, Some, None, refl, sym, subst, ap, ◌∙◌, inl, inr, arith, append_assoc, append-nil, length, length-append, map, nat_lt, SameRegion, Null, AlreadyDirty, Logged, Parcel, Result, Ok, Err, IfOk, IsNone, IsSome, MatchOption, taker_view, taken_of, WasOfLength, WasEmpty, Taker, RefineReply, buffer_of, Full, StoreReply, Entry, store_entry, refine_entry, History, IsEntered, Refusal, CallMade, Stored, Refined, Refused, AreCalls, entries_made, Grows, IsBookCall, Turn, round_calls, replies_of, Help, passed, filled, store_answer, GainsAtMost, Empties, IsTake, IsRefinement}
+use Rattle.g1_steps.specs.{ℕ, Bool, true, false, List, [], Option, Some, None, refl, sym, subst, ap, ◌∙◌, inl, inr, arith, append_assoc, append-nil, length, length-append, map, nat_lt, SameRegion, Null, AlreadyDirty, Logged, Parcel, Ok, Err, IsNone, IsSome, MatchOption, taken_of, WasEmpty, Taker, buffer_of, Full, StoreReply, Entry, store_entry, refine_entry, History, IsEntered, Refusal, CallMade, Stored, Refined, Refused, AreCalls, entries_made, Grows, IsBookCall, Turn, round_calls, replies_of, Help, passed, filled, store_answer, GainsAtMost, Empties}
 use Rattle.g1_layout.specs.declared.kind.Kind.{Kind}
 use Rattle.g1_log.specs.Log.{Cards}
-use Rattle.g1_log.specs.Line.{taken_by}
 
 handed_by : (less : Bool) (cards : List ℕ) (place : Option (List ℕ)) → place ≡ (if less then None else Some cards) → IsSome place → place ≡ Some cards
 handed_by true cards place is some = absurd (cc (subst IsSome is some))
@@ -96,13 +95,3 @@ empties_found xs ys zs taker n most h less has empty is = record {
 pub took_none : (r : Option Parcel) (P : Type 0) (Q : Parcel → Type 0) → IsNone r → MatchOption r P Q → P
 took_none None P Q none h = h
 took_none (Some x) P Q none h = absurd (cc none)
-
--- a taker that knows as much takes as the other does
-take_from : (a b : Taker) (parcel : Option Parcel) (c : Taker) → taker_view b ≡ taker_view a → IsTake b parcel c → IsTake a parcel c
-take_from a b None c same h = (h.0 ∙ ap taken_by same, subst (λ v. WasOfLength 0 v) same h.1)
-take_from a b (Some x) c same h = h ∙ ap (λ v. taken_by v ++ x ∷ []) same
-
-pub refinement_from : {S : Type 0} (did : S → List CallMade → S → Type 0) (old new : S) (a b after : Taker) (result : Result RefineReply Refusal) → taker_view b ≡ taker_view a
-    → IfOk result (λ reply. IsRefinement did old b reply after new) → IfOk result (λ reply. IsRefinement did old a reply after new)
-refinement_from did old new a b after (Ok reply) same h = record { parcel = h.parcel; take = take_from a b h.parcel after same h.take; made = h.made }
-refinement_from did old new a b after (Err refusal) same h = h
