@@ -24,9 +24,8 @@ pub use Rattle.g1_handles.specs.Queries.{Finds, Overflows, RefersTo, TellsMember
 pub use Rattle.g1_handles.specs.Queries.{TellsStatus}
 pub use Rattle.g1_handles.specs.RaceStores.{CanStoreAll, Exchanges, FindsOther, StoresAll, Swaps}
 pub use Rattle.g1_handles.specs.Racing.{held_racers, held_readers, held_sweepers, IfRacer, IfRole}
-pub use Rattle.g1_handles.specs.Racing.{IfSweeper, OfRacer, OfRole, OfSweeper}
-pub use Rattle.g1_handles.specs.Racing.{racing_in, Stores, StoresData, sweeping_in}
-pub use Rattle.g1_handles.specs.Racing.{Sweeps, TakesLog}
+pub use Rattle.g1_handles.specs.Racing.{IfSweeper, OfRacer, OfRole, OfSweeper, racing_in, Stores}
+pub use Rattle.g1_handles.specs.Racing.{StoresData, sweeping_in, Sweeps, TakesLog}
 pub use Rattle.g1_handles.specs.Readers.{AreReadersLike, AreReadersOf, IsReadBy, IsReadEndRefused}
 pub use Rattle.g1_handles.specs.Readers.{IsReaderRefused, IsReadRefused, OfReader, reader_layout}
 pub use Rattle.g1_handles.specs.Readers.{reading_in, ReadsNext, ReadsPair, ReadsPending}

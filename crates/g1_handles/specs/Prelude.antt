@@ -1,15 +1,14 @@
 -- What the crate takes from the libraries below it.
 pub use Rattle.std.proofs.Common.{[], ap, arith, Box, cond, inl, inr, length-append, List, lit<}
-pub use Rattle.std.proofs.Common.{map, refl, rules, set, slice_index_or, subst, suc, sym, take}
-pub use Rattle.std.proofs.Common.{ℕ, ◌∙◌}
+pub use Rattle.std.proofs.Common.{map, refl, rules, set, slice_index_or, subst, suc, sym, take, ℕ}
+pub use Rattle.std.proofs.Common.{◌∙◌}
 pub use Rattle.std.proofs.Math.ListN.{get_or-map}
 pub use Rattle.std.proofs.Math.Seq.{map-set_same, take-suc}
 pub use Rattle.std.proofs.Props.{props}
 pub use Rattle.std.proofs.lemmas.Bool.{cases_lt, eqb-false, eqb-true, not-true}
-pub use Rattle.std.proofs.lemmas.List.{drop-set-lt, get_or-set_other}
-pub use Rattle.std.proofs.lemmas.List.{get_or-set_same, get_or-take, get_or_default, length-map}
-pub use Rattle.std.proofs.lemmas.List.{length-set, length-take, length_push}
-pub use Rattle.std.proofs.lemmas.List.{map-append, take_more_set}
+pub use Rattle.std.proofs.lemmas.List.{drop-set-lt, get_or-set_other, get_or-set_same, get_or-take}
+pub use Rattle.std.proofs.lemmas.List.{get_or_default, length-map, length-set, length-take}
+pub use Rattle.std.proofs.lemmas.List.{length_push, map-append, take_more_set}
 pub use Rattle.std.proofs.lemmas.List.Elements.{All-contains, All-from_all_within, All-map, All-nil}
 pub use Rattle.std.proofs.lemmas.List.Elements.{All-push, All-take, AllWithin-more_set}
 pub use Rattle.std.proofs.lemmas.List.Elements.{AllWithin-upto}
@@ -80,7 +79,6 @@ pub use Rattle.g1_race.specs.Telling.{marked_cards}
 pub use Rattle.g1_race.specs.declared.race.Race.{Race}
 pub use Rattle.g1_race.specs.declared.race.Racer.{Racer}
 pub use Rattle.g1_race.specs.declared.race.Sweeper.{Sweeper}
-pub use Rattle.g1_race_words.specs.Begin.{Start}
 pub use Rattle.g1_race_words.specs.Rule.{beginning, IsWord, slot_card}
 pub use Rattle.g1_race_words.specs.Seats.{IsFound}
 pub use Rattle.g1_race_words.specs.declared.view.View.{View}

@@ -2,19 +2,18 @@
 //!
 //! - [`handle`] has the handle, and [`open`] opens and closes it.
 //! - [`store`], [`batch`], [`refinement`] and [`pause`] are the path of a card.
-//! - [`clearing`] and [`redirection`] may follow an evacuation.
+//! - [`evacuation`] has what may follow one: the clear and the redirect.
 //! - [`copy`] copies a range of slots. [`queries`] and [`members`] read what is known, and
 //!   [`verify`] checks it for a debug build.
 
 pub mod batch;
-pub mod clearing;
 pub mod copy;
+pub mod evacuation;
 pub mod handle;
 pub mod members;
 pub mod open;
 pub mod pause;
 pub mod queries;
-pub mod redirection;
 pub mod refinement;
 pub mod store;
 pub mod verify;

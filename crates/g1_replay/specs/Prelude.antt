@@ -7,11 +7,11 @@ pub use Rattle.std.proofs.Common.{Some, subst, suc, sym, take, true, vec_capacit
 pub use Rattle.std.proofs.Common.{zero-add, ℕ, ⊎_elim, ◌∙◌}
 pub use Rattle.std.proofs.KnownBytes.{Appends-nil, Appends-trans, Consumes-nil, Consumes-trans}
 pub use Rattle.std.proofs.Props.{props}
-pub use Rattle.std.proofs.lemmas.Bool.{cases_Bool, cond-false, cond-true, eq-eqb}
-pub use Rattle.std.proofs.lemmas.Bool.{eqb-true, false≢true, le-ltb, lt-ltb, ne_eqb, true≢false}
+pub use Rattle.std.proofs.lemmas.Bool.{cases_Bool, cond-false, cond-true, eq-eqb, eqb-true}
+pub use Rattle.std.proofs.lemmas.Bool.{false≢true, le-ltb, lt-ltb, ne_eqb, true≢false}
 pub use Rattle.std.proofs.lemmas.List.{drop-take, get_or-map, get_or-set_other, get_or-set_same}
 pub use Rattle.std.proofs.lemmas.List.{length-append, length-drop, length-map, length-set}
-pub use Rattle.std.proofs.lemmas.List.{take-append-drop, take-take, take_all, take_more}
+pub use Rattle.std.proofs.lemmas.List.{take-append-drop, take-take, take_more}
 pub use Rattle.std.proofs.lemmas.List.Concat.{flat_map-append}
 pub use Rattle.std.proofs.lemmas.List.Elements.{All-cons, All-contains, All-head, All-nil, All-pop}
 pub use Rattle.std.proofs.lemmas.List.Elements.{All-push, All-rest, All-same, All-set, All-tail}
@@ -24,9 +24,8 @@ pub use Rattle.std.specs.Iterator.{YieldsFirst}
 pub use Rattle.std.specs.List.{AllZip, cons_option, filter_map, flat_map}
 pub use Rattle.std.specs.Option.{option_or}
 pub use Rattle.std.specs.Prelude.{[], All, Bool, codes, count_by, Err, IfErr, IfNone, IfOk, IfSome}
-pub use Rattle.std.specs.Prelude.{IsErrAnd, IsNone, IsSome, MatchResult, Ok, OnOk}
-pub use Rattle.std.specs.Prelude.{option_to_list, Result, slice_index, slice_index_or, sum_by}
-pub use Rattle.std.specs.Prelude.{unwrap_or, zero}
+pub use Rattle.std.specs.Prelude.{IsErrAnd, IsNone, IsSome, MatchResult, Ok, OnOk, option_to_list}
+pub use Rattle.std.specs.Prelude.{Result, slice_index, slice_index_or, sum_by, unwrap_or, zero}
 pub use Rattle.std.specs.Vec.Iter.{into_iter_items, into_iter_len}
 pub use Rattle.arrayvec.specs.ArrayVec.{array_vec_len}
 pub use Rattle.g1_core.specs.Adoption.{IsPairOf}
@@ -82,8 +81,8 @@ pub use Rattle.g1_steps.specs.Lent.{Grows, IsBookCall}
 pub use Rattle.g1_steps.specs.Made.{AreCalls, CallMade, Refined, Stored}
 pub use Rattle.g1_steps.specs.Ran.{Ran}
 pub use Rattle.g1_steps.specs.Rounds.{IsRound, replies_of, round_calls, round_size, Turn}
-pub use Rattle.g1_steps.specs.Steps.{buffer_in, called, Empties, filled, flush_answer, Help}
-pub use Rattle.g1_steps.specs.Steps.{help_calls, IsStored, nothing_flushed, PutsBy, store_answer}
+pub use Rattle.g1_steps.specs.Steps.{called, Empties, filled, flush_answer, Help, help_calls}
+pub use Rattle.g1_steps.specs.Steps.{IsStored, nothing_flushed, PutsBy, store_answer}
 pub use Rattle.g1_steps.specs.declared.crew.desk.Script.{Script}
 pub use Rattle.g1_steps.specs.declared.crew.desk.Script.TheVariants.{Mutate, Refine}
 pub use Rattle.g1_steps.specs.declared.crew.desk.Step.{Step}
@@ -92,7 +91,7 @@ pub use Rattle.g1_steps.specs.declared.steps.mutator.FlushReply.{FlushReply}
 pub use Rattle.g1_steps.specs.declared.steps.mutator.Mutator.{Mutator}
 pub use Rattle.g1_trace.proofs.PutLemmas.{front_more, front_then, puts_none, puts_then}
 pub use Rattle.g1_trace.specs.Bytes.{AppendsFront, Puts}
-pub use Rattle.g1_trace.specs.Grammar.{IsCommandCall, IsCommandOf, read_command, read_header}
+pub use Rattle.g1_trace.specs.Grammar.{IsCommandCall, IsCommandOf, read_command}
 pub use Rattle.g1_trace.specs.Text.{book_full_line, call_line, drained_line, fault_line}
 pub use Rattle.g1_trace.specs.Text.{flushed_line, no_memory_line, no_thread_line, read_failed_line}
 pub use Rattle.g1_trace.specs.Text.{refine_text, refined_line, store_text, stored_line, stores_text}

@@ -6,6 +6,7 @@ ghost use Rattle.g1_c.specs.Prelude.{IsCallRefused, SaysNotOpen, LacksCard, Lack
 ghost use Rattle.g1_c.specs.Calls.{TellsRefusal};
 
 use crate::calling::on_core;
+use crate::tell::{tell, tell_whether};
 use g1_handles::code::{DONE, NULL};
 use g1_handles::one_core::handle::Handle;
 use g1_handles::one_core::queries::{is_pending_in, status_in, target_in};
@@ -32,14 +33,8 @@ pub extern "C" fn g1_target(alloc: Global, handle: &mut Handle, slot: u32, targe
     ensures told { TellsRefusal 0 result handle.old.value handle.new.value (target.new ≡ 4294967295)
         (IsCallRefused handle.old.value (λ old. LacksSlot old.state.table.layout slot)) }
 {
-    *target = NULL;
-    match on_core!(alloc, handle, target_in(slot)) {
-        Err(refusal) => refusal.word(),
-        Ok(word) => {
-            *target = word;
-            DONE
-        }
-    }
+    let answer = on_core!(alloc, handle, target_in(slot));
+    tell(answer, NULL, target)
 }
 
 /// As in `g1.h`.
@@ -60,16 +55,8 @@ pub extern "C" fn g1_is_pending(
         (IsCallRefused handle.old.value (λ old. LacksCard old.state.table.layout card)) }
     ensures same { handle.new.value ≡ handle.old.value }
 {
-    match on_core!(alloc, handle, is_pending_in(card)) {
-        Err(refusal) => {
-            *pending = 0;
-            refusal.word()
-        }
-        Ok(answer) => {
-            *pending = answer as u32;
-            DONE
-        }
-    }
+    let answer = on_core!(alloc, handle, is_pending_in(card));
+    tell_whether(answer, pending)
 }
 
 /// As in `g1.h`.

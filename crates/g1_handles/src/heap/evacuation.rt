@@ -7,12 +7,12 @@ ghost use Rattle.g1_handles.specs.{RefersOut, cleared_of, IsClearWord, LacksRegi
 
 use crate::code::Refusal;
 use crate::heap::at_pause::PausedHeap;
-use crate::one_core::clearing::words_of;
+use crate::one_core::evacuation::words_of;
 use g1_layout::{Layout, Region};
 
 /// Empties the remembered set of a region, once no card is dirty and no slot outside the region
 /// refers into it. Returns the word of the reply and the number that goes with it, as
-/// [`clear_in`](crate::one_core::clearing::clear_in) does. Unless that word is 0, nothing has
+/// [`clear_in`](crate::one_core::evacuation::clear_in) does. Unless that word is 0, nothing has
 /// changed. Returns `NoRegion` if the call was refused.
 #[tactic(auto, using(crate::proofs::Kept::kept_same))]
 pub fn clear_at(heap: &mut PausedHeap, region: u32) -> Result<(u32, u32), Refusal>

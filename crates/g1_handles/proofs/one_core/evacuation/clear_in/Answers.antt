@@ -1,6 +1,6 @@
 -- The words stand for the core's reply.
 use Rattle.g1_handles.specs.{ℕ, sym, subst, ClearReply, ClearsTo}
-use Rattle.g1_handles.proofs.one_core.clearing.clear_in.Goals as goal
+use Rattle.g1_handles.proofs.one_core.evacuation.clear_in.Goals as goal
 
 pub returns-clause-cleared : goal.returns-clause-cleared
 returns-clause-cleared c =

@@ -2,7 +2,7 @@
 use Rattle.std.specs.Prelude.{◌≡◌}
 use Rattle.g1_handles.specs.{ℕ, ap, subst, arith, card_count, redirect_refined, RedirectsTo}
 use Rattle.g1_handles.proofs.{few_refined, fits_words}
-use Rattle.g1_handles.proofs.one_core.redirection.redirect_in.Goals as goal
+use Rattle.g1_handles.proofs.one_core.evacuation.redirect_in.Goals as goal
 
 pub returns-in-Ok-clause-redirected : goal.returns-in-Ok-clause-redirected
 returns-in-Ok-clause-redirected c =

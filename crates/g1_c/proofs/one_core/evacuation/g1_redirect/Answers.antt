@@ -1,6 +1,6 @@
 -- The array has room for the list.
 use Rattle.g1_c.specs.{rules, length, FitIn, visit_so}
-use Rattle.g1_c.proofs.one_core.redirection.g1_redirect.Goals as goal
+use Rattle.g1_c.proofs.one_core.evacuation.g1_redirect.Goals as goal
 
 pub write_list-requires : goal.write_list-requires
 write_list-requires c =
