@@ -158,3 +158,6 @@ module _ {P : Type 0} {g : Ghosts P} {T : Type 0} (seen : Member P g → P → T
       (λ a e. role_seen seen h f (λ s. R s a) old new a (subst (λ r. IsVisit (Made seen h f) old r new) e is) (so a))
       (λ r e. role_refused seen h f (λ s. Why s r) old new r (subst (λ r. IsVisit (Made seen h f) old r new) e is) (why r))
       (role_same h f old new answer is (same answer))
+
+-- what a store in a race cites together
+pub ruleset of_a_store = (of_kind, role_made, taken_2, tells_none)

@@ -1,19 +1,16 @@
-//! Stores of references and refinements that are entered in the history.
-ghost use Rattle.std.specs.Prelude.{◌≡◌, ◌≤◌, ◌<◌};
-ghost use Rattle.g1_history.specs.{IfOk, OnErr, IfSome, IsNone, slot_count, card_of, option_map};
-ghost use Rattle.g1_history.specs.{cards_in};
+//! Stores of references that are entered in the history.
+ghost use Rattle.std.specs.Prelude.{◌≡◌, ◌<◌};
+ghost use Rattle.g1_history.specs.{IfOk, OnErr, IfSome, IsNone, slot_count, card_of};
 
 use crate::book::Book;
 use crate::keeps::Keeps;
 use crate::refusal::Refusal;
-use crate::room::{enter_refined, list_room};
-use g1_core::{Call, CardList, RefineReply, Reply, StoreReply};
+use g1_core::{Call, CardList, Reply, StoreReply};
 use g1_layout::Slot;
 use g1_log::{Buffer, Log};
 
 impl<H: Keeps> Book<H> {
-    ghost use Rattle.g1_history.specs.{store_entry, refine_entry, DoesStore, DoesRefine, IsLent};
-    ghost use Rattle.g1_history.specs.{Made, RefusesBy, layout_in};
+    ghost use Rattle.g1_history.specs.{store_entry, DoesStore, IsLent, Made, RefusesBy, layout_in};
 
     /// Stores a reference, or null, with the given log, as the core does, and enters the call
     /// (docs/rules.md, The barrier).
@@ -90,51 +87,6 @@ impl<H: Keeps> Book<H> {
         let none = CardList::new(self.alloc);
         self.history.enter(caller, call, answer, none);
         Ok(reply)
-    }
-
-    /// Refines a buffer, as the core does, and enters the call: the buffer's cards take their
-    /// turns, oldest first. `None` refines nothing, and is entered too (docs/rules.md,
-    /// Refinement).
-    ///
-    /// A short reply is entered. Returns `BookFull` exactly if the history is full, `NoMemory` if
-    /// room for the entry, for its list or for the reply's list was refused. Either changes
-    /// nothing. The entry's list takes 4 bytes for each refined card.
-    pub fn refine(&mut self, caller: u32, buffer: Option<&Buffer>) -> Result<RefineReply, Refusal>
-        ensures made { IfOk result (λ reply. Made H.KEEPS self.old (refine_entry caller reply)
-            (DoesRefine (option_map (λ b. b.now) buffer.entry) reply) self.new) }
-        ensures err { RefusesBy H.KEEPS self.old result self.new }
-    {
-        self.history.make_room()?;
-        let room = list_room::<H>(self.alloc, cards_in(buffer))?;
-        let reply = self.core.refine(buffer)?;
-        let answer = Reply::Refined {
-            taken: reply.taken,
-            hot: reply.hot,
-            skipped: reply.skipped,
-            left: reply.left,
-            short: reply.short,
-        };
-        enter_refined(
-            &mut self.history,
-            room,
-            caller,
-            Call::Refine,
-            answer,
-            &reply.refined,
-        );
-        Ok(reply)
-    }
-}
-
-/// Returns how many cards a refinement of the buffer refines at most: the cards of the buffer, or 0
-/// if there is none. Constant time.
-pub fn cards_in(buffer: Option<&Buffer>) -> usize
-    ensures cards { result ≡ cards_in (option_map (λ b. b.now) buffer.entry) }
-    ensures few { result ≤ 256 }
-{
-    match buffer {
-        Some(lent) => lent.cards().len(),
-        None => 0,
     }
 }
 

@@ -65,7 +65,7 @@ impl RaceTable {
     ///
     /// Takes 8 bytes a word, twice while it begins. Returns `AllocError` if memory was refused:
     /// nothing is left of the table.
-    #[tactic(auto, using(crate::proofs::going_first, crate::proofs::null_begun, crate::proofs::zeros))]
+    #[tactic(auto, using(crate::proofs::going_first, crate::proofs::null_begun))]
     pub fn open(alloc: Global, shape: Shape) -> Result<(RaceTable, RaceSeat), AllocError>
         requires shape { IsWholeShape shape }
         requires members { 0 < shape.members }

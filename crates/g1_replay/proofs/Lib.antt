@@ -25,3 +25,4 @@ use PlayingLemmas.*
 use RaceLemmas.*
 use RanLemmas.*
 use ScriptedLemmas.*
+use TakenLemmas.*

@@ -3,3 +3,4 @@ pub mod CountLemmas
 pub mod EachLemmas
 pub mod KindLemmas
 use CallLemmas.*
+use CountLemmas.*

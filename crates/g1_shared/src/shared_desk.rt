@@ -54,7 +54,7 @@ impl<'a, R, M: Terms, S: Ledger, H: Keeps> SharedDesk<'a, R, M, S, H> {
     }
 }
 
-#[tactic(auto, using(crate::proofs::CountLemmas::makes_none, crate::proofs::CountLemmas::makes_lost))]
+#[tactic(auto, using(crate::proofs::makes_none, crate::proofs::makes_lost))]
 impl<'a, R: Wait, M: Terms, S: Ledger, H: Keeps> Desk for SharedDesk<'a, R, M, S, H> {
     ghost did = { λ s asks t. DeskDid (capacity_of s.shared.now) s.caller asks
         (capacity_of t.shared.now) t.caller };

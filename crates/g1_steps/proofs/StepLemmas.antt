@@ -95,3 +95,6 @@ empties_found xs ys zs taker n most h less has empty is = record {
 pub took_none : (r : Option Parcel) (P : Type 0) (Q : Parcel → Type 0) → IsNone r → MatchOption r P Q → P
 took_none None P Q none h = h
 took_none (Some x) P Q none h = absurd (cc none)
+
+-- what emptying the queue cites together
+pub ruleset of_a_take = (gains_no_more, gains_one_more, empties_full, empties_found)

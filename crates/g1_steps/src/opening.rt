@@ -37,7 +37,7 @@ pub fn open_line(
 }
 
 /// A mutator with an empty log for each sender.
-#[tactic(auto, using(crate::specs::vec_len, crate::proofs::OpeningLemmas::mutators_more))]
+#[tactic(auto, using(crate::proofs::OpeningLemmas::mutators_more))]
 fn mutators_of(
     line: &Line,
     config: &Config,

@@ -43,7 +43,7 @@ pub extern "C" fn g1_race_swap_word(
 }
 
 /// As in `g1.h`.
-#[tactic(auto, using(crate::proofs::of_kind, crate::proofs::role_made, crate::proofs::taken_2, crate::proofs::tells_none,))]
+#[tactic(auto, using(crate::proofs::of_a_store))]
 #[unsafe(no_mangle)]
 pub extern "C" fn g1_race_compare_exchange_word(
     alloc: Global,

@@ -118,6 +118,7 @@ fn members_at(heap: &mut PausedHeap, region: u32, cards: &mut [u32]) -> Result<T
     Ok(write_set(heap, region, cards))
 }
 
+/// Writes the cards of a region's set as far as the array reaches, and counts them all.
 #[tactic(auto, using(crate::proofs::SetLemmas::shows_none))]
 fn write_set(heap: &mut PausedHeap, region: Region, array: &mut [u32]) -> Told
     requires { region < heap.old.layout.regions }

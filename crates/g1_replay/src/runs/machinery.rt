@@ -29,7 +29,7 @@ impl Machinery {
     /// An empty heap, history and queue of completed buffers.
     ///
     /// Returns `NoMemory` if a growth for heap, queue or callers was refused.
-    #[tactic(auto, using(crate::proofs::TakenLemmas::are_new_logs, crate::proofs::TakenLemmas::are_senders))]
+    #[tactic(auto, using(crate::proofs::are_new_logs, crate::proofs::are_senders))]
     pub(crate) fn open(
         alloc: Global,
         layout: Layout,

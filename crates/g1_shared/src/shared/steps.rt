@@ -86,7 +86,7 @@ impl<M: Terms, S: Ledger, H: Keeps> Shared<M, S, H> {
     ///
     /// If the call is refused, a buffer that was taken is given up. Each of its cards is then
     /// pending by its mark, unless it was refined meanwhile.
-    #[tactic(auto, using(crate::proofs::CountLemmas::refinement_gains))]
+    #[tactic(auto, using(crate::proofs::refinement_gains))]
     pub fn refine<R: Wait>(&self, rt: &R, caller: &mut Caller<M, S>) -> Result<RefineReply, Refusal>
         requires mine { IsCallerOf self.now caller.old }
         ensures mark { caller_mark caller.new ≡ caller_mark caller.old }
@@ -116,7 +116,7 @@ impl<M: Terms, S: Ledger, H: Keeps> Shared<M, S, H> {
     ///
     /// A refusal at the first take or call is returned. At a later one, or after a short call, the
     /// round ends with `short` true.
-    #[tactic(auto, using(crate::proofs::CountLemmas::round_counted, crate::proofs::CountLemmas::size_within))]
+    #[tactic(auto, using(crate::proofs::round_counted, crate::proofs::size_within))]
     pub fn work<R: Wait>(&self, rt: &R, caller: &mut Caller<M, S>) -> Result<RefineReply, Refusal>
         requires mine { IsCallerOf self.now caller.old }
         ensures mark { caller_mark caller.new ≡ caller_mark caller.old }

@@ -30,7 +30,7 @@ pub fn stand_still<R: Wait>(rt: &R, line: &Line, taker: &mut Taker, mutators: &m
 /// meanwhile.
 ///
 /// If nothing is put meanwhile, the queue is then empty.
-#[tactic(auto, using(crate::proofs::gains_no_more, crate::proofs::gains_one_more, crate::proofs::empties_full, crate::proofs::empties_found))]
+#[tactic(auto, using(crate::proofs::of_a_take))]
 pub fn empty_line<R: Wait>(rt: &R, line: &Line, taker: &mut Taker)
     requires taker { IsTakerOf line.now taker.old }
     ensures emptied { Empties (taken_of taker.old) (capacity_of line.now) (taken_of taker.new) }
