@@ -62,12 +62,8 @@ fn store_all<R: Threads + Wait + Sync>(
     ensures all { All (λ r. racer_race r ≡ race_id race.now) result.items }
     ensures len { vec_len result ≡ vec_len racers }
 {
-    thread::for_each_mut(
-        rt,
-        racers.as_mut_slice(),
-        2,
-        &|k, racer| store_each(rt, race, racer, &stores[k % 2], &to),
-    );
+    let store = |k: usize, racer: &mut Racer| store_each(rt, race, racer, &stores[k % 2], &to);
+    thread::for_each_mut(rt, racers.as_mut_slice(), 2, &store);
     racers
 }
 
@@ -102,12 +98,8 @@ fn refine_all<R: Threads + Wait + Sync>(
     ensures all { All (λ s. sweeper_race s ≡ race_id race.now) result.items }
     ensures len { vec_len result ≡ vec_len sweepers }
 {
-    thread::for_each_mut(
-        rt,
-        sweepers.as_mut_slice(),
-        2,
-        &|_, sweeper| refine_each(rt, race, sweeper, &from),
-    );
+    let refine = |_: usize, sweeper: &mut Sweeper| refine_each(rt, race, sweeper, &from);
+    thread::for_each_mut(rt, sweepers.as_mut_slice(), 2, &refine);
     sweepers
 }
 

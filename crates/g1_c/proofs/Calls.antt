@@ -1,15 +1,9 @@
 -- What a clause of an exported call says once the call's result is known.
 use Rattle.std.specs.Prelude.{◌≡◌, ◌≤◌, ◌⊎◌}
-use Rattle.g1_c.specs.{ℕ, arith, subst, MutBor, Option, Some, None, Result, Ok, Err, IsSomeAnd, IfSome, Pause, Refusal, OfKind, kind_word, refusal_word, TellsRefusal, Tells, Answers, IsHeapRefused, IsRoleRefused, refl, sym, OfRole, IfRole, SaysNoMember, IsSameHeap, OfPaused, SaysNoHeap, SaysNotPaused, IsCalled, role_ok, role_of, role_why, role_if, visit_same, called_ok, called_why, called_same}
-use Rattle.std.specs.Fn.{FnOnceReturnsAtMut}
+use Rattle.g1_c.specs.{ℕ, arith, subst, Option, Some, None, Result, Ok, Err, IsSomeAnd, IfSome, Pause, Reason, OfKind, kind_word, refusal_word, IsHeapRefused, IsRoleRefused, refl, sym, OfRole, IfRole, SaysNoMember, IsSameHeap, OfPaused, SaysNoHeap, SaysNotPaused, IsCalled, IsVisit, FnOnceReturnsAtMut, RacingHeap, Ghosts, Member, Kind, TellsRefusal, Tells, IsTold, MutBor, called_ok, called_why, called_same, role_ok, role_of, role_why, role_if, visit_same}
 use denote.Param.Members.{Once}
-use Rattle.g1_handles.specs.declared.heap.racing_heap.RacingHeap.{RacingHeap}
-use Rattle.g1_handles.specs.declared.member.Role.{Ghosts}
-use Rattle.g1_handles.specs.declared.member.Member.{Member}
-use Rattle.g1_layout.specs.declared.kind.Kind.{Kind}
-use Rattle.g1_handles.specs.Codes.{IsVisit}
 
-module _ {V : Type 0} (most word : ℕ) (old new : Option V) (Untold : Type 0) (Why : Refusal → Type 0) where
+module _ {V : Type 0} (most word : ℕ) (old new : Option V) (Untold : Type 0) (Why : Reason → Type 0) where
   -- what a call did is no refusal
   pub tells_none : word ≤ most → TellsRefusal most word old new Untold Why
   tells_none done = record {
@@ -18,12 +12,12 @@ module _ {V : Type 0} (most word : ℕ) (old new : Option V) (Untold : Type 0) (
     same = λ above. absurd (omega (arith, done, above));
   }
 
-  pub tells : (r : Refusal) → word ≡ refusal_word r → Untold → Why r → new ≡ old → TellsRefusal most word old new Untold Why
+  pub tells : (r : Reason) → word ≡ refusal_word r → Untold → Why r → new ≡ old → TellsRefusal most word old new Untold Why
   tells r is untold why same = record { untold = λ _. untold; why = λ _. (r, is, why); same = λ _. same }
 
 -- a question whose answer is told
-module _ {V A : Type 0} (word : ℕ) (told : A) (old new : Option V) (Untold : Type 0) (Is : A → Type 0) (Why : Refusal → Type 0) where
-  answers : (answer : Result A Refusal) → Tells answer word told Untold → ((a : A) → answer ≡ Ok a → Is a) → ((r : Refusal) → answer ≡ Err r → Why r) → new ≡ old → Answers word told Untold old new Is Why
+module _ {V A : Type 0} (word : ℕ) (told : A) (old new : Option V) (Untold : Type 0) (Is : A → Type 0) (Why : Reason → Type 0) where
+  answers : (answer : Result A Reason) → Tells answer word told Untold → ((a : A) → answer ≡ Ok a → Is a) → ((r : Reason) → answer ≡ Err r → Why r) → new ≡ old → IsTold word told Untold old new Is Why
   answers (Ok a) (done, is) so why same = record {
     answer = λ _. subst Is (sym is) (so a refl);
     refusal = tells_none 0 word old new Untold Why (omega (arith, done));
@@ -63,8 +57,8 @@ module _ {P : Type 0} {g : Ghosts P} {T : Type 0} (seen : Member P g → P → T
   if_role_so R Q None so is = tt
   if_role_so R Q (Some m) so is = if_so (λ p. R (seen m p)) (λ p. Q (seen m p)) m.role (λ p. so (seen m p)) is
 
-  module _ {F A : Type 0} (h : Once F (MutBor (Member P g) × Unit {0}) (Result A Refusal × (MutBor (Member P g) × Unit {0}))) (f : F) where
-    abbrev Made : Member P g → Result A Refusal → Member P g → Type 0
+  module _ {F A : Type 0} (h : Once F (MutBor (Member P g) × Unit {0}) (Result A Reason × (MutBor (Member P g) × Unit {0}))) (f : F) where
+    abbrev Made : Member P g → Result A Reason → Member P g → Type 0
     Made m r n = FnOnceReturnsAtMut h f m r n
 
     -- a call that answers
@@ -75,7 +69,7 @@ module _ {P : Type 0} {g : Ghosts P} {T : Type 0} (seen : Member P g → P → T
         role_ok seen Made R old new answer (λ m n call. moved (λ x y. OfRole seen (Some x) (λ a. OfRole seen (Some y) (λ b. R a b))) call.shows call.leaves (so call.shown call.left call.met)) is
 
     -- one that is refused
-    pub role_refused : (Why : T → Type 0) (old new : Option (Member P g)) (r : Refusal) → IsVisit Made old (Err r) new
+    pub role_refused : (Why : T → Type 0) (old new : Option (Member P g)) (r : Reason) → IsVisit Made old (Err r) new
         → ((m n : MutBor (Member P g)) → h.post f (m, tt) (Err r, (n, tt)) → SaysNoMember (Some m.now) r ⊎ OfRole seen (Some m.now) Why)
         → SaysNoMember old r ⊎ OfRole seen old Why
     role_refused Why old new r is so =
@@ -86,35 +80,35 @@ module _ {P : Type 0} {g : Ghosts P} {T : Type 0} (seen : Member P g → P → T
     role_seen R old new answer is so =
         role_of seen Made R old new answer (λ m n call. moved (λ x y. OfRole seen (Some x) R) call.shows call.leaves (so call.shown call.left call.met)) is
 
-    held : (R : T → Type 0) (old new : Option (Member P g)) (r : Result A Refusal) → IsVisit Made old r new
+    held : (R : T → Type 0) (old new : Option (Member P g)) (r : Result A Reason) → IsVisit Made old r new
         → ((m n : MutBor (Member P g)) → h.post f (m, tt) (r, (n, tt)) → IfRole seen (Some m.now) R) → IfRole seen old R
     held R old new r is so =
         role_if seen Made R old new r (λ m n call. moved (λ x y. IfRole seen (Some x) R) call.shows call.leaves (so call.shown call.left call.met)) is
 
     -- what cannot be refused was not
-    pub taken_1 : (X : T → Type 0) (Z : Type 0) (old new : Option (Member P g)) (r : Refusal) → IsVisit Made old (Err r) new
+    pub taken_1 : (X : T → Type 0) (Z : Type 0) (old new : Option (Member P g)) (r : Reason) → IsVisit Made old (Err r) new
         → ((m n : MutBor (Member P g)) → h.post f (m, tt) (Err r, (n, tt)) → IfRole seen (Some m.now) (λ a. X a → ⊥)) → IfRole seen old (λ a. X a → Z)
     taken_1 X Z old new r is so =
         if_role_so (λ a. X a → ⊥) (λ a. X a → Z) old (λ a none x. absurd (none x)) (held (λ a. X a → ⊥) old new (Err r) is so)
 
-    pub taken_2 : (X Y : T → Type 0) (Z : Type 0) (old new : Option (Member P g)) (r : Refusal) → IsVisit Made old (Err r) new
+    pub taken_2 : (X Y : T → Type 0) (Z : Type 0) (old new : Option (Member P g)) (r : Reason) → IsVisit Made old (Err r) new
         → ((m n : MutBor (Member P g)) → h.post f (m, tt) (Err r, (n, tt)) → IfRole seen (Some m.now) (λ a. X a → Y a → ⊥)) → IfRole seen old (λ a. X a → Y a → Z)
     taken_2 X Y Z old new r is so =
         if_role_so (λ a. X a → Y a → ⊥) (λ a. X a → Y a → Z) old (λ a none x y. absurd (none x y)) (held (λ a. X a → Y a → ⊥) old new (Err r) is so)
 
-    pub taken_3 : (W X Y : T → Type 0) (Z : Type 0) (old new : Option (Member P g)) (r : Refusal) → IsVisit Made old (Err r) new
+    pub taken_3 : (W X Y : T → Type 0) (Z : Type 0) (old new : Option (Member P g)) (r : Reason) → IsVisit Made old (Err r) new
         → ((m n : MutBor (Member P g)) → h.post f (m, tt) (Err r, (n, tt)) → IfRole seen (Some m.now) (λ a. W a → X a → Y a → ⊥)) → IfRole seen old (λ a. W a → X a → Y a → Z)
     taken_3 W X Y Z old new r is so =
         if_role_so (λ a. W a → X a → Y a → ⊥) (λ a. W a → X a → Y a → Z) old (λ a none w x y. absurd (none w x y)) (held (λ a. W a → X a → Y a → ⊥) old new (Err r) is so)
 
-module _ {V F A : Type 0} (h : Once F (MutBor V × Unit {0}) (Result A Refusal × (MutBor V × Unit {0}))) (f : F) where
-  pub role_same : (old new : Option V) (r : Result A Refusal) → IsVisit (λ m r n. FnOnceReturnsAtMut h f m r n) old r new
+module _ {V F A : Type 0} (h : Once F (MutBor V × Unit {0}) (Result A Reason × (MutBor V × Unit {0}))) (f : F) where
+  pub role_same : (old new : Option V) (r : Result A Reason) → IsVisit (λ m r n. FnOnceReturnsAtMut h f m r n) old r new
       → ((m n : MutBor V) → h.post f (m, tt) (r, (n, tt)) → n.now ≡ m.now) → new ≡ old
   role_same old new r is so =
       visit_same (λ m r n. FnOnceReturnsAtMut h f m r n) old new r (λ m n call. moved (λ x y. y ≡ x) call.shows call.leaves (so call.shown call.left call.met)) is
 
-module _ {F A : Type 0} (h : Once F (MutBor Pause × Unit {0}) (Result A Refusal × (MutBor Pause × Unit {0}))) (f : F) where
-  abbrev Done : Pause → Result A Refusal → Pause → Type 0
+module _ {F A : Type 0} (h : Once F (MutBor Pause × Unit {0}) (Result A Reason × (MutBor Pause × Unit {0}))) (f : F) where
+  abbrev Done : Pause → Result A Reason → Pause → Type 0
   Done p r q = FnOnceReturnsAtMut h f p r q
 
   -- the same of a heap at a pause
@@ -123,22 +117,22 @@ module _ {F A : Type 0} (h : Once F (MutBor Pause × Unit {0}) (Result A Refusal
   heap_made R old new answer is so =
       called_ok Done R old new answer (λ p q call. moved R call.shows call.leaves (so call.shown call.left call.met)) is
 
-  pub heap_refused : (Why : Pause → Type 0) (old new : Option RacingHeap) (r : Refusal) → IsCalled Done old (Err r) new
+  pub heap_refused : (Why : Pause → Type 0) (old new : Option RacingHeap) (r : Reason) → IsCalled Done old (Err r) new
       → ((p q : MutBor Pause) → h.post f (p, tt) (Err r, (q, tt)) → Why p.now) → SaysNoHeap old r ⊎ SaysNotPaused old r ⊎ OfPaused old Why
   heap_refused Why old new r is so =
       called_why Done (λ p s. Why p) old new r (λ p q call. moved (λ x y. Why x) call.shows call.leaves (so call.shown call.left call.met)) is
 
-  pub heap_same : (old new : Option RacingHeap) (r : Result A Refusal) → IsCalled Done old r new
+  pub heap_same : (old new : Option RacingHeap) (r : Result A Reason) → IsCalled Done old r new
       → ((p q : MutBor Pause) → h.post f (p, tt) (r, (q, tt)) → q.now ≡ p.now) → new ≡ old
   heap_same old new r is so =
       called_same Done old new r (λ p q call. moved (λ x y. y ≡ x) call.shows call.leaves (so call.shown call.left call.met)) is
 
-  pub heap_answers : (R : Pause → Pause → A → Type 0) (Why : Pause → Refusal → Type 0) (old new : Option RacingHeap) (answer : Result A Refusal) (word : ℕ) (told : A) (Untold : Type 0)
+  pub heap_answers : (R : Pause → Pause → A → Type 0) (Why : Pause → Reason → Type 0) (old new : Option RacingHeap) (answer : Result A Reason) (word : ℕ) (told : A) (Untold : Type 0)
       → IsCalled Done old answer new → Tells answer word told Untold
       → ((a : A) (p q : MutBor Pause) → h.post f (p, tt) (Ok a, (q, tt)) → R p.now q.now a)
-      → ((r : Refusal) (p q : MutBor Pause) → h.post f (p, tt) (Err r, (q, tt)) → Why p.now r)
-      → ((r : Result A Refusal) (p q : MutBor Pause) → h.post f (p, tt) (r, (q, tt)) → q.now ≡ p.now)
-      → Answers word told Untold old new (λ a. IsSameHeap old new (λ o n. R o n a)) (IsHeapRefused old Why)
+      → ((r : Reason) (p q : MutBor Pause) → h.post f (p, tt) (Err r, (q, tt)) → Why p.now r)
+      → ((r : Result A Reason) (p q : MutBor Pause) → h.post f (p, tt) (r, (q, tt)) → q.now ≡ p.now)
+      → IsTold word told Untold old new (λ a. IsSameHeap old new (λ o n. R o n a)) (IsHeapRefused old Why)
   heap_answers R Why old new answer word told Untold is tells so why same =
       answers word told old new Untold (λ a. IsSameHeap old new (λ o n. R o n a)) (IsHeapRefused old Why) answer tells
       (λ a e. heap_made (λ o n. R o n a) old new a (subst (λ r. IsCalled Done old r new) e is) (so a))
@@ -146,18 +140,20 @@ module _ {F A : Type 0} (h : Once F (MutBor Pause × Unit {0}) (Result A Refusal
       (heap_same old new answer is (same answer))
 
 -- a reader's question
-module _ {P : Type 0} {g : Ghosts P} {T : Type 0} (seen : Member P g → P → T) {F A : Type 0} (h : Once F (MutBor (Member P g) × Unit {0}) (Result A Refusal × (MutBor (Member P g) × Unit {0}))) (f : F) where
-  pub role_answers : (R : T → A → Type 0) (Why : T → Refusal → Type 0) (old new : Option (Member P g)) (answer : Result A Refusal) (word : ℕ) (told : A) (Untold : Type 0)
+module _ {P : Type 0} {g : Ghosts P} {T : Type 0} (seen : Member P g → P → T) {F A : Type 0} (h : Once F (MutBor (Member P g) × Unit {0}) (Result A Reason × (MutBor (Member P g) × Unit {0}))) (f : F) where
+  pub role_answers : (R : T → A → Type 0) (Why : T → Reason → Type 0) (old new : Option (Member P g)) (answer : Result A Reason) (word : ℕ) (told : A) (Untold : Type 0)
       → IsVisit (Made seen h f) old answer new → Tells answer word told Untold
       → ((a : A) (m n : MutBor (Member P g)) → h.post f (m, tt) (Ok a, (n, tt)) → OfRole seen (Some m.now) (λ s. R s a))
-      → ((r : Refusal) (m n : MutBor (Member P g)) → h.post f (m, tt) (Err r, (n, tt)) → SaysNoMember (Some m.now) r ⊎ OfRole seen (Some m.now) (λ s. Why s r))
-      → ((r : Result A Refusal) (m n : MutBor (Member P g)) → h.post f (m, tt) (r, (n, tt)) → n.now ≡ m.now)
-      → Answers word told Untold old new (λ a. OfRole seen old (λ s. R s a)) (IsRoleRefused seen old Why)
+      → ((r : Reason) (m n : MutBor (Member P g)) → h.post f (m, tt) (Err r, (n, tt)) → SaysNoMember (Some m.now) r ⊎ OfRole seen (Some m.now) (λ s. Why s r))
+      → ((r : Result A Reason) (m n : MutBor (Member P g)) → h.post f (m, tt) (r, (n, tt)) → n.now ≡ m.now)
+      → IsTold word told Untold old new (λ a. OfRole seen old (λ s. R s a)) (IsRoleRefused seen old Why)
   role_answers R Why old new answer word told Untold is tells so why same =
       answers word told old new Untold (λ a. OfRole seen old (λ s. R s a)) (IsRoleRefused seen old Why) answer tells
       (λ a e. role_seen seen h f (λ s. R s a) old new a (subst (λ r. IsVisit (Made seen h f) old r new) e is) (so a))
       (λ r e. role_refused seen h f (λ s. Why s r) old new r (subst (λ r. IsVisit (Made seen h f) old r new) e is) (why r))
       (role_same h f old new answer is (same answer))
 
--- what a store in a race cites together
-pub ruleset of_a_store = (of_kind, role_made, taken_2, tells_none)
+-- what the exports of a room cite
+pub ruleset heap_calls = (heap_made, called_same, tells_none)
+
+pub ruleset role_calls = (of_kind, role_made, role_answers, taken_1, taken_2, tells_none)

@@ -1,18 +1,21 @@
 -- What the crate takes from the libraries below it.
-pub use Rattle.std.proofs.Common.{sym, arith, MutBor, refl, rules, subst, ◌∙◌}
+pub use Rattle.std.proofs.Common.{arith, MutBor, refl, rules, subst, sym, ◌∙◌}
+pub use Rattle.std.specs.Fn.{FnOnceReturnsAtMut}
 pub use Rattle.std.specs.Prelude.{Err, IfSome, IsSome, IsSomeAnd, length, None, Ok, Option, Result}
 pub use Rattle.std.specs.Prelude.{Some, take, ℕ}
 pub use Rattle.arrayvec.specs.ArrayVec.{array_vec_len}
-pub use Rattle.g1_core.specs.Machine.{IsOnlyRead, Machine, new_machine}
+pub use Rattle.g1_core.specs.Barrier.{stored_machine}
+pub use Rattle.g1_core.specs.Machine.{IsOnlyRead, new_machine}
+pub use Rattle.g1_core.specs.Run.{kind_of}
 pub use Rattle.g1_handles.proofs.CalledLemmas.{called_ok, called_same, called_why}
 pub use Rattle.g1_handles.proofs.VisitLemmas.{role_if, role_of, role_ok, role_why, visit_same}
 pub use Rattle.g1_handles.proofs.VisitLemmas.{visit_so}
-pub use Rattle.g1_handles.specs.AtPause.{ClearsAt, Copies, DrainsAtPause, Forgets, HasWord}
-pub use Rattle.g1_handles.specs.AtPause.{Redirects, RefersOut, Refines, SlotRefers, StoresAllAt}
-pub use Rattle.g1_handles.specs.AtPause.{StoresAt, StoresDataAt, Wipes}
+pub use Rattle.g1_handles.specs.AtPause.{DrainsAtPause, HasWord, RefersOut, SlotRefers}
+pub use Rattle.g1_handles.specs.AtPause.{StoresAllAt}
 pub use Rattle.g1_handles.specs.Batch.{IsFaultAt, made_all}
-pub use Rattle.g1_handles.specs.Codes.{Between, IsRefusal, IsStoreOf, kind_word, layout_of, OfKind}
-pub use Rattle.g1_handles.specs.Codes.{OfOpen, reference_of, refusal_word, settings_of}
+pub use Rattle.g1_handles.specs.Codes.{Between, IsRefusal, IsStoreOf, IsVisit, kind_word, layout_of}
+pub use Rattle.g1_handles.specs.Codes.{OfKind, OfOpen, reference_of, refusal_word, settings_of}
+pub use Rattle.g1_handles.specs.Counting.{stored_as}
 pub use Rattle.g1_handles.specs.HeapCalls.{IsCalled, IsHeapRefused}
 pub use Rattle.g1_handles.specs.Lacks.{LacksCard, LacksPair, LacksPlace, LacksRanges, LacksRegion}
 pub use Rattle.g1_handles.specs.Lacks.{LacksSlot, LacksSlots}
@@ -23,6 +26,8 @@ pub use Rattle.g1_handles.specs.Phases.{BeginsReading, ComesToPause, EndsReading
 pub use Rattle.g1_handles.specs.Queries.{Finds, Overflows, RefersTo, TellsMembers, TellsPending}
 pub use Rattle.g1_handles.specs.Queries.{TellsStatus}
 pub use Rattle.g1_handles.specs.RaceStores.{CanStoreAll, Exchanges, FindsOther, StoresAll, Swaps}
+pub use Rattle.g1_handles.specs.RaceWords.{CanStoreWord, FindsOtherWord, IsExchangeWordRefused}
+pub use Rattle.g1_handles.specs.RaceWords.{IsSwapWordRefused, MayHave, SwapsWord}
 pub use Rattle.g1_handles.specs.Racing.{held_racers, held_readers, held_sweepers, IfRacer, IfRole}
 pub use Rattle.g1_handles.specs.Racing.{IfSweeper, OfRacer, OfRole, OfSweeper, racing_in, Stores}
 pub use Rattle.g1_handles.specs.Racing.{StoresData, sweeping_in, Sweeps, TakesLog}
@@ -33,12 +38,19 @@ pub use Rattle.g1_handles.specs.Readers.{ReadsTarget, ReadsWord}
 pub use Rattle.g1_handles.specs.Refusals.{AreMembersRefused, AreStoresRefused, IsCallRefused}
 pub use Rattle.g1_handles.specs.Refusals.{IsDrainRefused, IsOpenRefused, IsRaceDataRefused}
 pub use Rattle.g1_handles.specs.Refusals.{IsRaceExchangeRefused, IsRaceStoreRefused}
-pub use Rattle.g1_handles.specs.Refusals.{IsRedirectRefused, IsRefinementRefused, IsSweepRefused}
-pub use Rattle.g1_handles.specs.Refusals.{IsRoleRefused, SaysNoMember, SaysNotOpen}
-pub use Rattle.g1_handles.specs.Replies.{AreOnlyRead, ClearsTo, DrainsTo, FitIn, IsWritten}
-pub use Rattle.g1_handles.specs.Replies.{RedirectsTo, RefinesTo, reply_of}
+pub use Rattle.g1_handles.specs.Refusals.{IsRedirectRefused, IsRefinementRefused, IsRoleRefused}
+pub use Rattle.g1_handles.specs.Refusals.{IsSweepRefused, SaysNoMember, SaysNotOpen}
+pub use Rattle.g1_handles.specs.Replies.{AreOnlyRead, ClearsTo, CopiesSlots, DrainsTo, FitIn}
+pub use Rattle.g1_handles.specs.Replies.{IsWritten, RedirectsTo, RefinesTo, reply_of}
 pub use Rattle.g1_handles.specs.Sets.{HasFirst}
-pub use Rattle.g1_handles.specs.declared.code.Refusal.{Refusal}
+pub use Rattle.g1_handles.specs.declared.code.Reason.{Reason}
+pub use Rattle.g1_handles.specs.declared.heap.racing_heap.RacingHeap.{RacingHeap}
+pub use Rattle.g1_handles.specs.declared.member.Member.{Member}
+pub use Rattle.g1_handles.specs.declared.member.Role.{Ghosts}
 pub use Rattle.g1_layout.specs.Shape.{card_count, slot_count}
+pub use Rattle.g1_layout.specs.declared.kind.Kind.{Kind}
+pub use Rattle.g1_race.specs.Calls.{ClearsAt, Copies, Forgets, Redirects, Refines, StoresAt}
+pub use Rattle.g1_race.specs.Calls.{StoresDataAt, Wipes}
 pub use Rattle.g1_race.specs.Members.{race_layout, race_words}
 pub use Rattle.g1_race.specs.Over.{Pause, table_at}
+pub use Rattle.g1_race.specs.Reading.{IsNextMember}

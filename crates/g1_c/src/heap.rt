@@ -3,6 +3,7 @@
 //! - [`life`] opens a heap, lets it go on, pauses it, and closes it.
 //! - [`queries`], [`drains`], [`stores`], [`copy`], [`evacuation`], [`words`] and [`verify`] are
 //!   calls at a pause. [`reading`] lets several threads read the heap there.
+#![tactic(auto, using(crate::proofs::heap_calls))]
 
 pub mod copy;
 pub mod drains;

@@ -14,7 +14,7 @@
 //! - [`member`] has the calls of a racer, a sweeper or a reader.
 //!
 //! A call returns a word below 8 if it was made, and else the word of a
-//! [`Refusal`](g1_handles::code::Refusal). What it leaves then is said once, by the record
+//! [`Reason`](g1_handles::code::Reason). What it leaves then is said once, by the record
 //! `TellsRefusal` of `specs/Calls.antt`.
 //!
 //! What only the caller can know is left to the caller: that a handle is zeros or was opened here,

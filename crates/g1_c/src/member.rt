@@ -6,6 +6,7 @@
 //!   that return or compare the one before.
 //! - [`counts`] tells what a racer and a sweeper have done.
 //! - [`reader_queries`] has the calls of a reader at a pause.
+#![tactic(auto, using(crate::proofs::role_calls))]
 
 pub mod batch;
 pub mod counts;

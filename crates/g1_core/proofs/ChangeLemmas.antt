@@ -1,10 +1,54 @@
--- The changes of a redirect: what one is, and what it makes of a table.
-use Rattle.std.specs.Prelude.{◌≡◌, ◌≢◌, ◌⊎◌, ◌<◌, ◌+◌, ◌*◌, ◌∷◌}
-use Rattle.g1_core.specs.{inl, inr, ℕ, suc, Bool, true, false, List, [], length, get_or, Option, Some, None, refl, sym, ap, ◌∙◌, subst, arith, map, Contains, All, nat_eq, count_by, IfSome, IsDistinct, cons_option, enumerate_from, cases_lt, eqb-true, and_parts, true≢false, false_from_ne_true, get_or-set_same, get_or-set_other, get_or_past, All-set, Shape, slot_count, same_offset, same_offset_region, Change, IsCore, enters, moved_target, change_at, changes_of, changed, Cells, Ring, Pairs, AreRead, get_or-map, length-map}
-use Rattle.std.proofs.Common.{set as list_set}
-use Rattle.std.proofs.lemmas.Map.Made.{Contains-tail}
-use Rattle.g1_core.proofs.SetLemmas.{front_apart, rest_distinct}
-use Rattle.g1_core.proofs.PlaceLemmas.{map_set, count_set, count_none, map_same}
+-- A list that is mapped and counted by place, once one place is written; and the changes of a redirect: what
+-- one is, and what it makes of a table.
+use Rattle.std.specs.Prelude.{◌≡◌, ◌<◌, ◌≤◌, ◌+◌, ◌∷◌, ◌≢◌, ◌⊎◌, ◌*◌}
+use Rattle.g1_core.specs.{IsDistinct-tail, ◌∙◌, ℕ, zero, suc, Bool, true, false, cond, List, [], length, get_or, refl, sym, ap, arith, map, count_by, sum_by, enumerate_from, get_or-map, length-map, length-enumerate_from, All, list_set, ext_get_or, map-set, set-get_or, inl, inr, Option, Some, None, subst, Contains, nat_eq, IfSome, IsDistinct, cons_option, cases_lt, eqb-true, and_parts, true≢false, false_from_ne_true, get_or-set_same, get_or-set_other, get_or_past, All-set, Shape, slot_count, same_offset, same_offset_region, Change, IsCore, enters, moved_target, change_at, changes_of, changed, Cells, Ring, Pairs, AreRead, Contains-tail}
+use Rattle.std.proofs.lemmas.List.Sums.{sum_by-le, sum_by-set}
+use Rattle.g1_core.proofs.SetLemmas.{at_its_place, front_apart}
+
+enumerate_set : {X : Type 0} (n : ℕ) (xs : List X) (k : ℕ) (v : X) → enumerate_from n (list_set xs k v) ≡ list_set (enumerate_from n xs) k (n + k, v)
+enumerate_set n [] k v = refl
+enumerate_set {X} n (x ∷ xs) zero v = let first : n ≡ n + 0 = omega arith in ap (λ (i : ℕ). (i, v) ∷ enumerate_from (n + 1) xs) first
+enumerate_set {X} n (x ∷ xs) (suc k) v =
+    let next : n + 1 + k ≡ n + suc k = omega arith in
+    ap (λ (ys : List (ℕ × X)). (n, x) ∷ ys) (enumerate_set (n + 1) xs k v ∙ ap (λ (i : ℕ). list_set (enumerate_from (n + 1) xs) k (i, v)) next)
+
+module _ {X : Type 0} (xs : List X) (d : X) where
+  written_at : (k : ℕ) (v : X) → enumerate_from 0 (list_set xs k v) ≡ list_set (enumerate_from 0 xs) k (k, v)
+  written_at k v = enumerate_set 0 xs k v ∙ ap (λ (i : ℕ). list_set (enumerate_from 0 xs) k (i, v)) (let first : 0 + k ≡ k = omega arith in first)
+
+  module _ {Y : Type 0} (f : ℕ × X → Y) (e : Y) where
+    pub map_at : (k : ℕ) → k < length xs → get_or (map f (enumerate_from 0 xs)) k e ≡ f (k, get_or xs k d)
+    map_at k below = get_or-map f (enumerate_from 0 xs) k (k, d) e (omega (arith, length-enumerate_from 0 xs)) ∙ ap f (at_its_place xs d k (k, d) below)
+
+    pub map_set : (k : ℕ) (v : X) → k < length xs → f (k, v) ≡ f (k, get_or xs k d) → map f (enumerate_from 0 (list_set xs k v)) ≡ map f (enumerate_from 0 xs)
+    map_set k v below same =
+        ap (map f) (written_at k v) ∙ map-set f (enumerate_from 0 xs) k (k, v)
+        ∙ ap (list_set (map f (enumerate_from 0 xs)) k) (same ∙ sym (map_at k below)) ∙ set-get_or (map f (enumerate_from 0 xs)) k e
+
+  -- nothing is to change
+  pub map_same : (f : ℕ × X → X) → ((k : ℕ) → k < length xs → f (k, get_or xs k d) ≡ get_or xs k d) → map f (enumerate_from 0 xs) ≡ xs
+  map_same f each = ext_get_or d _ _ (length-map (enumerate_from 0 xs) f ∙ length-enumerate_from 0 xs) (λ k lt. let below : k < length xs = omega (arith, length-map (enumerate_from 0 xs) f, length-enumerate_from 0 xs) in map_at f d k below ∙ each k below)
+
+  module _ (p : ℕ × X → Bool) where
+    abbrev one_if : ℕ × X → ℕ
+    one_if q = cond (p q) 1 0
+
+    -- one less is counted
+    pub count_set : (k : ℕ) (v : X) → k < length xs → p (k, v) ≡ false → p (k, get_or xs k d) ≡ true → count_by p (enumerate_from 0 (list_set xs k v)) + 1 ≡ count_by p (enumerate_from 0 xs)
+    count_set k v below gone there =
+        let both : sum_by one_if (list_set (enumerate_from 0 xs) k (k, v)) + one_if (get_or (enumerate_from 0 xs) k (k, d)) ≡ sum_by one_if (enumerate_from 0 xs) + one_if (k, v) = sum_by-set one_if (enumerate_from 0 xs) k (k, v) (k, d) (omega (arith, length-enumerate_from 0 xs)) in
+        let one : one_if (get_or (enumerate_from 0 xs) k (k, d)) ≡ 1 = ap one_if (at_its_place xs d k (k, d) below) ∙ ap (λ b. cond b 1 0) there in
+        let none : one_if (k, v) ≡ 0 = ap (λ b. cond b 1 0) gone in
+        let here : count_by p (enumerate_from 0 (list_set xs k v)) ≡ sum_by one_if (list_set (enumerate_from 0 xs) k (k, v)) = ap (count_by p) (written_at k v) in
+        omega arith
+
+    pub count_none : ((k : ℕ) → k < length xs → p (k, get_or xs k d) ≡ false) → count_by p (enumerate_from 0 xs) ≡ 0
+    count_none each =
+        let none : All (λ q. one_if q ≤ 0) (enumerate_from 0 xs) = λ k q lt.
+        let below : k < length xs = omega (arith, length-enumerate_from 0 xs) in
+        let is : one_if (get_or (enumerate_from 0 xs) k q) ≡ 0 = ap one_if (at_its_place xs d k q below) ∙ ap (λ b. cond b 1 0) (each k below) in
+        omega arith in
+        omega (arith, sum_by-le one_if 0 (enumerate_from 0 xs) none)
 
 module _ (l : Shape) (from to : ℕ) where
   -- what becomes of a slot: it is not changed, or it is
@@ -51,7 +95,7 @@ module _ (l : Shape) (from to : ℕ) where
         (sym (map_same refs None (moved_target l from to) (λ k inside. left_stays k (get_or refs k None) (out k))), sym (count_none refs None (enters l from) (λ k inside. out k)))
     all_moved (s ∷ slots) refs distinct each = elim (change_cases s (get_or refs s None)) [
       | inl left ↦
-          let rest = all_moved slots refs (rest_distinct s slots distinct) (λ slot h. Contains-tail s slots slot (λ e. true≢false (sym h ∙ ap (λ (q : ℕ). enters l from (q, get_or refs q None)) (sym e) ∙ left.away)) (each slot h)) in
+          let rest = all_moved slots refs (IsDistinct-tail nat_eq s slots distinct) (λ slot h. Contains-tail s slots slot (λ e. true≢false (sym h ∙ ap (λ (q : ℕ). enters l from (q, get_or refs q None)) (sym e) ∙ left.away)) (each slot h)) in
           let none : changes_of l refs from to (s ∷ slots) ≡ changes_of l refs from to slots = ap (λ (o : Option Change). cons_option o (changes_of l refs from to slots)) left.none in
           (ap (λ (cs : List Change). changed refs cs) none ∙ rest.0, ap (λ (cs : List Change). length cs) none ∙ rest.1)
       | inr c ↦
@@ -59,7 +103,7 @@ module _ (l : Shape) (from to : ℕ) where
           let here : Change = record { slot = s; place = same_offset l c.old to } in
           let inside : s < length refs = elim (cases_lt s (length refs)) [ inl lt ↦ lt | inr past ↦ let null : None ≡ Some c.old = sym (get_or_past refs s None past) ∙ c.refers in cc ] in
           let gone : enters l from (s, get_or (list_set refs s v) s None) ≡ false = ap (λ (o : Option ℕ). enters l from (s, o)) (get_or-set_same refs s v None inside) ∙ moved_away s c.old in
-          let rest = all_moved slots (list_set refs s v) (rest_distinct s slots distinct) (λ slot h.
+          let rest = all_moved slots (list_set refs s v) (IsDistinct-tail nat_eq s slots distinct) (λ slot h.
           let other : slot ≢ s = λ e. true≢false (sym h ∙ ap (λ (q : ℕ). enters l from (q, get_or (list_set refs s v) q None)) e ∙ gone) in
           Contains-tail s slots slot (λ e. other (sym e)) (each slot (ap (λ (o : Option ℕ). enters l from (slot, o)) (sym (get_or-set_other refs s slot v None other)) ∙ h))) in
           let all : changes_of l refs from to (s ∷ slots) ≡ here ∷ changes_of l (list_set refs s v) from to slots = ap (λ (o : Option Change). cons_option o (changes_of l refs from to slots)) c.change ∙ ap (λ (cs : List Change). here ∷ cs) (sym (same_changes refs s v slots (front_apart s slots distinct))) in

@@ -1,20 +1,18 @@
 -- A clear is a step of the plain table: the set of a region has each card that enters it.
-use Rattle.std.specs.Prelude.{◌≡◌, ◌<◌, ◌≤◌, ◌+◌, ◌-◌, ◌*◌}
-use Rattle.g1_core.specs.{inl, inr, ℕ, eqb, List, [], length, Some, None, refl, sym, ap, ◌∙◌, subst, arith, Contains, not, nat_cmp, mul-le-mul_right, eq-eqb, and_from, true≢false, card_of, CardSet, PairSet, Cells, Pairs, AreTied, list_at, without, Ring, Enters, IsCovered, IsRecorded, AreOutside, IsCore, IsLater, AreParts, pending_of, table_from, state_from, machine_from, Clear, IsFirstInto, IsStep, Answers, settled, ClearReply, clear_entry, DoesClear, member_count, IsLeastOn, AreRead}
+use Rattle.std.specs.Prelude.{◌≡◌, ◌<◌, ◌≤◌, ◌+◌, ◌*◌}
+use Rattle.g1_core.specs.{◌∙◌, inl, inr, ℕ, eqb, List, [], length, Some, None, refl, sym, ap, subst, arith, Contains, nat_cmp, mul-le-mul_right, eq-eqb, and_from, true≢false, card_of, CardSet, PairSet, Cells, Pairs, AreTied, list_at, without, Ring, Enters, IsCovered, IsRecorded, AreOutside, IsCore, IsLater, AreParts, pending_of, table_from, state_from, machine_from, Clear, IsFirstInto, IsStep, Answers, settled, ClearReply, clear_entry, DoesClear, member_count, IsLeastOn, AreRead, and_parts}
+use Rattle.g1_core.specs.Machine.{Machine, Settings, Table}
 use Rattle.std.specs.FinSet as set
-use Rattle.g1_core.specs.Table.{Table}
-use Rattle.g1_core.specs.declared.config.Settings.{Settings}
-use Rattle.g1_core.specs.Machine.{Machine}
 use Rattle.g1_core.specs.declared.entry.Reply.TheVariants as reply
 use Rattle.g1_core.specs.declared.reply.ClearReply.TheVariants as clear_reply
 use Rattle.g1_core.proofs.SetLemmas.{pair_total, pair_exact, few_distinct}
-use Rattle.g1_core.proofs.RunLemmas.{has_slots, step_covered, cleared_outside}
+use Rattle.g1_core.proofs.RunLemmas.{has_slots, step_covered, forgotten}
 use Rattle.g1_core.proofs.MarkLemmas.{none_of}
 use Rattle.g1_core.proofs.RefinedLemmas.{refined_none}
 use Rattle.g1_core.proofs.StoreLemmas.{none_refinable}
 use Rattle.g1_core.proofs.LeastSlotLemmas.{read_table}
 use Rattle.g1_core.proofs.ChangeLemmas.{read_core}
-use Rattle.g1_core.proofs.SoundLemmas.{core_sound, core_later, same_later, step_later}
+use Rattle.g1_core.proofs.QueryLemmas.{core_sound, core_later, same_later, step_later}
 
 -- how many slots are read for the members of a region
 pub few_read : (sets : Pairs) (heap now : Cells) (region : ℕ) → AreTied sets → AreRead heap now (length (list_at sets.lists region) * heap.layout.slots) → now.reads ≤ heap.reads + member_count (table_from heap sets.pairs) region * heap.layout.slots
@@ -46,12 +44,11 @@ clear_step caller t new region answer numbers answers after = record {
   after = after ∙ sym (ap (settled (Clear region) (reply.Clear answer)) (refined_none t));
 }
 
--- what a clear leaves
-pub record IsClearedTo (m : Machine) (region : ℕ) (answer : ClearReply) (heap : Cells) (sets : Pairs) (ring : Ring) (pending : ℕ) (settings : Settings) : Type 0 where
-  pub core : IsCore heap sets ring pending
-  pub did : DoesClear region answer m (machine_from heap sets.pairs ring settings)
-  pub step : (caller : ℕ) → IsStep m.state.table (clear_entry caller region answer) (table_from heap sets.pairs)
-  pub later : IsLater m (machine_from heap sets.pairs ring settings)
+-- what a clear does
+pub record IsClearedTo (old : Machine) (region : ℕ) (answer : ClearReply) (new : Machine) : Type 0 where
+  pub did : DoesClear region answer old new
+  pub step : (caller : ℕ) → IsStep old.state.table (clear_entry caller region answer) new.state.table
+  pub later : IsLater old new
 
 -- of the machine that a core stands for
 module _ (heap : Cells) (sets : Pairs) (ring : Ring) (pending : ℕ) (settings : Settings) (machine : Machine) (core : IsCore heap sets ring pending) (view : machine_from heap sets.pairs ring settings ≡ machine) (region : ℕ) (within : region < machine.state.table.layout.regions) where
@@ -64,13 +61,12 @@ module _ (heap : Cells) (sets : Pairs) (ring : Ring) (pending : ℕ) (settings :
   inside : region < heap.layout.regions
   inside = rw (← view) at within
 
-  seen : (answer : ClearReply) (heap' : Cells) (sets' : Pairs) → IsClearedTo m region answer heap' sets' ring pending settings → IsClearedTo machine region answer heap' sets' ring pending settings
-  seen answer heap' sets' = subst (λ (m : Machine). IsClearedTo m region answer heap' sets' ring pending settings) view
+  seen : (answer : ClearReply) (new : Machine) → IsClearedTo m region answer new → IsClearedTo machine region answer new
+  seen answer new = subst (λ (m : Machine). IsClearedTo m region answer new) view
 
   -- some cards are pending
-  pub pending_at : 0 < pending → IsClearedTo machine region (clear_reply.Pending pending) heap sets ring pending settings
-  pending_at some = seen (clear_reply.Pending pending) heap sets (record {
-    core = core;
+  pub pending_at : 0 < pending → IsClearedTo machine region (clear_reply.Pending pending) machine
+  pending_at some = subst (λ (m : Machine). IsClearedTo m region (clear_reply.Pending pending) m) view (record {
     did = record { refused = λ _. record { state = refl; settings = refl; reads = omega arith }; ring = refl; unread = λ _. refl; reads = omega arith };
     step = λ caller. clear_step caller t t region (clear_reply.Pending pending) inside (λ after. (refl, core.parts.known, omega arith)) refl;
     later = core_later heap sets ring pending core settings m refl refl refl;
@@ -90,11 +86,10 @@ module _ (heap : Cells) (sets : Pairs) (ring : Ring) (pending : ℕ) (settings :
     kept = read_core heap now sets ring pending _ core read
 
     -- a slot still enters the region
-    pub entered_at : (slot : ℕ) → IsLeastOn t (list_at sets.lists region) region (Some slot) → IsClearedTo machine region (clear_reply.StillReferenced slot) now sets ring pending settings
+    pub entered_at : (slot : ℕ) → IsLeastOn t (list_at sets.lists region) region (Some slot) → IsClearedTo machine region (clear_reply.StillReferenced slot) (machine_from now sets.pairs ring settings)
     entered_at slot least =
         let same : state_from now sets.pairs ring ≡ m.state = ap (λ (h : Cells). state_from h sets.pairs ring) read.cells in
-        seen (clear_reply.StillReferenced slot) now sets (record {
-          core = kept;
+        seen (clear_reply.StillReferenced slot) (machine_from now sets.pairs ring settings) (record {
           did = record { refused = λ _. record { state = same; settings = refl; reads = read.grown }; ring = refl; unread = contradicted; reads = few_read sets heap now region tied read };
           step = λ caller. clear_step caller t (table_from now sets.pairs) region (clear_reply.StillReferenced slot) inside (λ after. (refl, empty, first_enters t region (list_at sets.lists region) empty core.parts.cover recorded slot least)) (read_table heap now _ sets.pairs read);
           later = same_later m (machine_from now sets.pairs ring settings) same refl (core_sound heap sets ring pending core) read.grown;
@@ -108,16 +103,15 @@ module _ (heap : Cells) (sets : Pairs) (ring : Ring) (pending : ℕ) (settings :
       cleared_step : (caller : ℕ) → IsStep t (clear_entry caller region clear_reply.Cleared) (table_from now sets'.pairs)
       cleared_step caller = clear_step caller t (table_from now sets'.pairs) region clear_reply.Cleared inside (λ after. (refl, empty, none_enters t region (list_at sets.lists region) empty core.parts.cover recorded least)) cleared_table
 
-      cleared_core : IsCore now sets' ring pending
+      pub cleared_core : IsCore now sets' ring pending
       cleared_core =
           let cover : IsCovered (table_from now sets'.pairs) = subst IsCovered (sym (cleared_step 0).after) (step_covered t (clear_entry 0 region clear_reply.Cleared) (has_slots heap.layout core.parts.cells.shape) (cleared_step 0).allowed core.parts.cover) in
-          let outside : AreOutside (table_from now sets'.pairs) = subst AreOutside (sym cleared_table) (cleared_outside t region core.parts.outside) in
+          let outside : AreOutside (table_from now sets'.pairs) = subst AreOutside (sym cleared_table) (λ card other r. core.parts.outside card other (and_parts _ _ (sym (forgotten t.recorded region (card, other)) ∙ r)).0) in
           let parts : AreParts now sets.pairs ring pending = kept.parts in
           record { layouts = layout ∙ kept.layouts; parts = search (parts, cover, outside) }
 
-      pub granted_at : IsClearedTo machine region clear_reply.Cleared now sets' ring pending settings
-      granted_at = seen clear_reply.Cleared now sets' (record {
-        core = cleared_core;
+      pub granted_at : IsClearedTo machine region clear_reply.Cleared (machine_from now sets'.pairs ring settings)
+      granted_at = seen clear_reply.Cleared (machine_from now sets'.pairs ring settings) (record {
         did = record { refused = λ not. absurd (not refl); ring = refl; unread = contradicted; reads = few_read sets heap now region tied read };
         step = cleared_step;
         later = step_later m (machine_from now sets'.pairs ring settings) (clear_entry 0 region clear_reply.Cleared) (cleared_step 0) refl (core_sound now sets' ring pending cleared_core) read.grown;

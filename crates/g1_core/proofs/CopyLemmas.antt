@@ -1,9 +1,8 @@
 -- A range of slots that is copied, slot by slot.
 use Rattle.std.specs.Prelude.{◌≡◌, ◌≢◌, ◌⊎◌, ◌+◌, ◌-◌, ◌<◌, ◌≤◌}
-use Rattle.g1_core.specs.{ℕ, zero, suc, Bool, cond, true, false, Option, None, refl, sym, ap, ◌∙◌, subst, inl, inr, arith, get_or-set_other, target_of, stored, copied, IsLater, nat_cmp_total, exact_unsigned, set_comm}
+use Rattle.g1_core.specs.{◌∙◌, ℕ, zero, suc, Bool, cond, true, false, Option, None, refl, sym, ap, subst, inl, inr, arith, get_or-set_other, target_of, stored, copied, IsLater, nat_cmp_total, exact_unsigned, set_comm}
+use Rattle.g1_core.specs.Machine.{Machine, Table}
 use Rattle.std.specs.FinSet as set
-use Rattle.g1_core.specs.Table.{Table}
-use Rattle.g1_core.specs.Machine.{Machine}
 use Rattle.g1_core.proofs.TableLemmas.{stored_pending}
 
 -- two stores into different slots may change places

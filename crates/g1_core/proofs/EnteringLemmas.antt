@@ -1,11 +1,10 @@
 -- The slots of a card that enter a region, as a heap answers one after another.
-use Rattle.std.specs.Prelude.{◌≡◌, ◌≢◌, ◌<◌, ◌≤◌, ◌+◌, ◌-◌, ◌*◌, ◌^◌, ◌∷◌, ◌++◌}
-use Rattle.g1_core.specs.{inl, inr, ℕ, suc, true, cond, List, [], get_or, Option, Some, None, refl, sym, ap, ◌∙◌, subst, arith, not, range_with_len, eqb-true, eqb-false, eq-eqb, ne_eqb, and_parts, and_from, not-true, append-nil, Shape, IsShape, slot_count, card_of, region_of, region_of_card, slot_at, same_offset, PairSet, card_of-row, region_of-row, Cells, AreCells, with_reads, Change, table_from, enters, IsLeastOn, AreRead, change_at, changes_of, slots_of, length, Contains, cons_option, card_of-in_row, region_of_slot}
+use Rattle.std.specs.Prelude.{◌≡◌, ◌≢◌, ◌≤◌, ◌+◌, ◌-◌, ◌*◌, ◌^◌, ◌∷◌, ◌++◌}
+use Rattle.g1_core.specs.{◌∙◌, inl, inr, ℕ, suc, true, cond, List, [], get_or, Option, Some, None, refl, sym, ap, subst, arith, not, range_with_len, eqb-true, eqb-false, eq-eqb, ne_eqb, and_parts, and_from, not-true, append-nil, Shape, IsShape, region_of, region_of_card, slot_at, same_offset, PairSet, region_of-row, Cells, with_reads, Change, table_from, enters, IsLeastOn, AreRead, change_at, changes_of, slots_of, Contains, cons_option, card_of-in_row, region_of_slot}
 use Rattle.g1_heap.specs.Listing.{RefersInto}
 use Rattle.g1_heap.specs.Entering.{HasNoneInto, IsNextInto}
 use Rattle.g1_core.proofs.ChangeLemmas.{change_cases}
 use Rattle.g1_core.proofs.LeastSlotLemmas.{NoneBefore, card_none, card_first, read_more}
-use Rattle.g1_core.proofs.TableLemmas.{is_slot}
 use Rattle.g1_core.proofs.WalkLemmas.{changes_next, changes_both, range_split, from_range}
 
 -- more reads
@@ -20,15 +19,6 @@ read_some old new more bound is = record {
 module _ (heap now new : Cells) (offset : ℕ) (before : AreRead heap now offset) (bound : now.reads ≤ 2 ^ 64 - 1) where
   pub walked : (found : ℕ) → offset ≤ found → new ≡ with_reads now (found + 1 - offset) → AreRead heap new (found + 1)
   walked found on is = read_more heap now new offset (found + 1 - offset) (found + 1) before (read_some now new (found + 1 - offset) bound is) (omega arith)
-
--- what is found lies in the heap, and its slot on the card
-pub place_within : (heap now : Cells) (most : ℕ) (l : Shape) (card from start found place : ℕ) → AreCells heap → AreRead heap now most → l ≡ heap.layout → IsNextInto now.layout now.refs card from start found place → place < slot_count l
-place_within heap now most l card from start found place cells read same next =
-    let n : IsNextInto heap.layout heap.refs card from start found place = subst (λ (h : Cells). IsNextInto h.layout h.refs card from start found place) read.cells next in
-    rw (n.refers, ← same) at (cells.places (slot_at heap.layout card found) None (is_slot heap.refs (slot_at heap.layout card found) place n.refers))
-
-pub slot_on : (l m : Shape) (card offset slot : ℕ) → offset < m.slots → slot ≡ slot_at l card offset → l ≡ m → card_of m slot ≡ card
-slot_on l m card offset slot within at same = ap (card_of m) (at ∙ ap (λ (l : Shape). slot_at l card offset) same) ∙ card_of-row m card offset within
 
 -- the least slot of a card that enters the region
 module _ (heap : Cells) (card region : ℕ) (shape : IsShape heap.layout) (pairs : PairSet) where

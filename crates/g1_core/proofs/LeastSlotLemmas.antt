@@ -1,16 +1,13 @@
 -- The least slot that enters a region, and what is read to find it.
 use Rattle.std.specs.Prelude.{◌≡◌, ◌≢◌, ◌<◌, ◌≤◌, ◌+◌, ◌-◌, ◌*◌, ◌∷◌, ◌++◌}
-use Rattle.g1_core.specs.{inl, inr, ℕ, min, List, [], length, get_or, Option, Some, None, refl, sym, ap, ◌∙◌, subst, arith, take, All, Contains, slice_get, mul-le-mul_right, cases_lt, Contains-append_cases, get_or_from_slice_get, IsShape, slot_count, card_count, card_of, region_of_card, slot_at, PairSet, IsInRow, row_of_card, row_of_slot, card_of_below, region_of_slot, Cells, Enters, table_from, IsLeastOn, AreRead}
-use Rattle.std.proofs.lemmas.Nat.{row_fits}
+use Rattle.g1_core.specs.{◌∙◌, inl, inr, ℕ, min, List, [], length, get_or, Option, Some, None, sym, ap, subst, arith, take, All, Contains, slice_get, mul-le-mul_right, cases_lt, Contains-append_cases, get_or_from_slice_get, IsShape, slot_count, card_count, card_of, region_of_card, slot_at, PairSet, IsInRow, row_of_card, row_of_slot, card_of_below, region_of_slot, Cells, Enters, table_from, IsLeastOn, AreRead}
 use Rattle.g1_core.specs.Table.{Table}
+use Rattle.std.proofs.lemmas.Nat.{row_fits}
 use Rattle.g1_core.proofs.MarkLemmas.{one_of, itself}
 use Rattle.g1_core.proofs.TableLemmas.{is_slot}
 use Rattle.g1_core.proofs.WalkLemmas.{take_next}
 
 -- reads add up
-pub read_none : (heap : Cells) (most : ℕ) → AreRead heap heap most
-read_none heap most = record { cells = refl; grown = omega arith; few = omega arith }
-
 pub read_more : (a b c : Cells) (m n k : ℕ) → AreRead a b m → AreRead b c n → m + n ≤ k → AreRead a c k
 read_more a b c m n k first second fits = record {
   cells = second.cells ∙ ap (λ (h : Cells). let r : Cells = record { layout = h.layout; refs = h.refs; marks = h.marks; reads = c.reads } in r) first.cells;
@@ -137,12 +134,11 @@ read_next heap now new index before here =
     let slots : now.layout.slots ≡ heap.layout.slots = ap (λ (h : Cells). h.layout.slots) before.cells in
     read_more heap now new (index * heap.layout.slots) now.layout.slots ((index + 1) * heap.layout.slots) before here (omega arith)
 
--- what was read for some of the cards, and for one of them more, is at most what all of them have
-pub read_all : (heap now : Cells) (index many : ℕ) → AreRead heap now (index * heap.layout.slots) → index ≤ many → AreRead heap now (many * heap.layout.slots)
-read_all heap now index many read fits = read_at_most heap now (index * heap.layout.slots) (many * heap.layout.slots) read (mul-le-mul_right heap.layout.slots fits)
-
+-- what was read for some of the cards and for one of them more is at most what all of them have
 pub read_one_more : (heap now new : Cells) (index many : ℕ) → AreRead heap now (index * heap.layout.slots) → AreRead now new now.layout.slots → index < many → AreRead heap new (many * heap.layout.slots)
-read_one_more heap now new index many before here fits = read_all heap new (index + 1) many (read_next heap now new index before here) (omega arith)
+read_one_more heap now new index many before here fits =
+    let all : index + 1 ≤ many = omega arith in
+    read_at_most heap new ((index + 1) * heap.layout.slots) (many * heap.layout.slots) (read_next heap now new index before here) (mul-le-mul_right heap.layout.slots all)
 
 -- what is read for the cards up to an index but one of them
 abbrev pub before_but : ℕ → ℕ → ℕ

@@ -1,12 +1,24 @@
--- How long the lists of a reply can be.
-use Rattle.std.specs.Prelude.{◌≤◌, ◌+◌, ◌∷◌}
-use Rattle.g1_core.specs.{ℕ, List, [], length, take, Option, Some, ap, arith, length-append, Offer, RefineReply, AreRefinable, refined, State, Round, refined_by, hot_by, skipped_by, offer_to, turn, turns, start, IsTurned, AreCardsRead, DoesRefine, nat_cmp_total, exact_unsigned, All-contains, IsPending}
-use Rattle.std.proofs.lemmas.Bool.{cases_cond}
-use Rattle.std.proofs.lemmas.List.{length-take}
+-- How many slots turns read, and how long the lists of a reply can be.
+use Rattle.std.specs.Prelude.{◌≡◌, ◌<◌, ◌≤◌, ◌+◌, ◌*◌, ◌^◌, ◌∷◌}
+use Rattle.g1_core.specs.{ℕ, arith, reads_after, List, [], length, take, Option, Some, ap, length-append, Offer, RefineReply, AreRefinable, State, Round, refined_by, hot_by, skipped_by, offer_to, turn, turns, start, IsTurned, AreCardsRead, DoesRefine, nat_cmp_total, exact_unsigned, All-contains, IsPending, cases_cond, length-take}
+use Rattle.g1_core.specs.Machine.{Machine, Table}
 use Rattle.std.specs.FinSet as set
-use Rattle.g1_core.specs.Table.{Table}
-use Rattle.g1_core.specs.Machine.{Machine}
 use Rattle.g1_core.proofs.SetLemmas.{few_distinct}
+
+-- the count does not fall
+pub reads_grow : (old more new : ℕ) → old < 2 ^ 64 → new ≡ reads_after old more → old ≤ new
+reads_grow old more new h is = omega arith
+
+-- the slots of no card, and of one
+pub none_read : (reads slots n : ℕ) → reads < 2 ^ 64 → n ≡ 0 → reads ≡ reads_after reads (n * slots)
+none_read reads slots n h none = rw none (omega arith)
+
+pub one_read : (reads slots n : ℕ) → n ≡ 1 → reads_after reads slots ≡ reads_after reads (n * slots)
+one_read reads slots n one = rw one (omega arith)
+
+-- of some cards, and then of others
+pub more_read : (old mid new slots size a b n : ℕ) → mid ≡ reads_after old (a * slots) → new ≡ reads_after mid (b * size) → size ≡ slots → n ≡ a + b → new ≡ reads_after old (n * slots)
+more_read old mid new slots size a b n first second same sum = rw (second, first, same, sum) (omega arith)
 
 -- no more cards are refined than are pending
 pub refined_few : (t : Table) (cards : List ℕ) → AreRefinable t cards → length cards ≤ set.len t.pending

@@ -1,8 +1,6 @@
 -- The card table and the set of pending cards.
-use Rattle.std.specs.Prelude.{◌≡◌, ◌≢◌, ◌⊎◌, ◌<◌, ◌≤◌, ◌+◌, ◌-◌, ◌∷◌, ◌↔◌}
-use Rattle.g1_core.specs.{inl, inr, ℕ, zero, suc, true, false, cond, List, [], length, get_or, Some, refl, sym, ap, ◌∙◌, arith, Contains, enumerate_from, filter_map, nat_cmp, nat_cmp_total, eq_by_cmp_equiv, exact_unsigned, cases_lt, cases_eq, or_left, true≢false, get_or-set_same, get_or-set_other, get_or_past, length-enumerate_from, Mark, Clean, Dirty, Held, pending_of, marked_card, CardSet, set_of}
-use Rattle.std.proofs.Common.{set as list_set}
-use Rattle.std.proofs.lemmas.Bool.{cases_cond}
+use Rattle.std.specs.Prelude.{◌≡◌, ◌≢◌, ◌⊎◌, ◌<◌, ◌≤◌, ◌+◌, ◌∷◌, ◌↔◌}
+use Rattle.g1_core.specs.{◌∙◌, inl, inr, ℕ, zero, suc, true, false, cond, List, [], length, get_or, Some, refl, sym, ap, arith, Contains, enumerate_from, filter_map, nat_cmp, nat_cmp_total, eq_by_cmp_equiv, exact_unsigned, cases_lt, cases_eq, or_left, true≢false, get_or-set_same, get_or-set_other, get_or_past, length-enumerate_from, Mark, Clean, Dirty, Held, pending_of, marked_card, CardSet, set_of, list_set, cases_cond}
 use Rattle.std.specs.FinSet as set
 use Rattle.g1_core.proofs.SetLemmas.{same_cards, in_list, in_set, from_places, to_places, one_fewer}
 

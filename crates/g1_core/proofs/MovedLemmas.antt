@@ -1,11 +1,10 @@
 -- What moving references from one region to another does to the plain table.
 use Rattle.std.specs.Prelude.{◌≡◌, ◌≢◌, ◌⊎◌, ◌<◌, ◌*◌, ◌&&◌, ◌||◌}
-use Rattle.g1_core.specs.{inl, inr, ℕ, Bool, true, cond, eqb, length, get_or, Option, Some, None, sym, ap, ◌∙◌, subst, arith, not, filter_map, enumerate_from, eqb-false, eq-eqb, ne_eqb, not-true, or_cases, or_left, or_right, and_parts, and_from, true≢false, length-map, length-enumerate_from, Shape, card_of, region_of, region_of_card, same_offset, same_offset_region, pair_cmp, target_of, IsRecorded, Holds, IsCovered, enters, moved_target, moved_pair, moved}
-use Rattle.std.specs.FinSet as set
+use Rattle.g1_core.specs.{◌∙◌, inl, inr, ℕ, Bool, true, cond, eqb, length, get_or, Option, Some, None, sym, ap, subst, arith, not, filter_map, enumerate_from, eqb-false, eq-eqb, ne_eqb, not-true, or_cases, or_left, or_right, and_parts, and_from, true≢false, length-map, length-enumerate_from, Shape, card_of, region_of, region_of_card, same_offset, same_offset_region, pair_cmp, target_of, IsRecorded, Holds, IsCovered, enters, moved_target, moved_pair, moved}
 use Rattle.g1_core.specs.Table.{Table}
+use Rattle.std.specs.FinSet as set
 use Rattle.g1_core.proofs.SetLemmas.{pair_total, pair_exact, listed, unlisted, from_places, to_places}
-use Rattle.g1_core.proofs.PlaceLemmas.{map_at}
-use Rattle.g1_core.proofs.ChangeLemmas.{IsChanged, change_cases}
+use Rattle.g1_core.proofs.ChangeLemmas.{map_at, IsChanged, change_cases}
 use Rattle.g1_core.proofs.TableLemmas.{region_of_slot, is_slot}
 
 pair_if : (card to : ℕ) (p : ℕ × ℕ) (b : Bool) → cond {A = Option (ℕ × ℕ)} b (Some (card, to)) None ≡ Some p → (b ≡ true) × (◌≡◌ {A = ℕ × ℕ} (card, to) p)

@@ -1,12 +1,10 @@
 -- A new core, and a call that changes nothing.
 use Rattle.std.specs.Prelude.{◌≡◌, ◌<◌, ◌≤◌}
-use Rattle.g1_core.specs.{inl, inr, ℕ, List, [], get_or, None, refl, sym, ap, ◌∙◌, subst, arith, replicate, IfSome, IsDistinct, nat_cmp, cases_lt, true≢false, length-replicate, get_or-replicate, get_or_past, All-replicate, Shape, IsShape, slot_count, card_count, Mark, Clean, new_cells, Cells, Pairs, new_pairs, Ring, new_ring, IsCovered, AreRefinable, refined, opening, new_machine, State, IsCore, AreParts, pending_of, state_from, machine_from, IsStep, RefineReply, refine_entry}
+use Rattle.g1_core.specs.{◌∙◌, inl, inr, ℕ, List, [], get_or, None, refl, sym, ap, subst, arith, replicate, IfSome, IsDistinct, nat_cmp, cases_lt, true≢false, length-replicate, get_or-replicate, get_or_past, All-replicate, Shape, IsShape, slot_count, card_count, Mark, Clean, new_cells, Cells, Pairs, new_pairs, Ring, new_ring, IsCovered, AreRefinable, refined, opening, new_machine, State, IsCore, AreParts, pending_of, state_from, machine_from, IsStep, RefineReply, refine_entry, pair_cmp}
+use Rattle.g1_core.specs.Machine.{Settings, Table}
 use Rattle.std.specs.FinSet as set
-use Rattle.g1_core.specs.Table.{Table}
-use Rattle.g1_core.specs.declared.config.Settings.{Settings}
 use Rattle.g1_core.proofs.SetLemmas.{same_cards}
 use Rattle.g1_core.proofs.TableLemmas.{opening_covered}
-use Rattle.g1_core.proofs.RunLemmas.{opening_outside}
 use Rattle.g1_core.proofs.MarkLemmas.{held_clean, from_pending}
 use Rattle.g1_core.proofs.RefinedLemmas.{refined_none}
 use Rattle.g1_core.proofs.StoreLemmas.{none_refinable}
@@ -47,7 +45,7 @@ module _ (l : Shape) (limit capacity : ℕ) (shape : IsShape l) (some : 1 ≤ ca
     held = λ q. (λ c. absurd (omega (arith, c.1)), λ held. absurd (held_clean _ held (all_clean (card_count l) q)));
     known = sym (ap set.len (none_pending (card_count l)) ∙ set.len-empty nat_cmp);
     cover = subst IsCovered (sym (ap (λ (s : State). s.table) new_state)) (opening_covered l);
-    outside = opening_outside l;
+    outside = λ card region r. absurd (true≢false (sym r ∙ set.contains-empty pair_cmp (card, region)));
   }
 
 module _ (l : Shape) (s : Settings) (limit capacity : ℕ) (heap : Cells) (sets : Pairs) (ring : Ring) (shape : IsShape l) (some : 1 ≤ capacity) (el : limit ≡ s.hot) (ec : capacity ≡ s.ring)
@@ -56,7 +54,4 @@ module _ (l : Shape) (s : Settings) (limit capacity : ℕ) (heap : Cells) (sets 
   made_core = rw (eh, es, er) (record { layouts = refl; parts = new_parts l limit capacity shape some })
 
   pub made_machine : machine_from heap sets.pairs ring s ≡ new_machine l s
-  made_machine =
-      (λ i. machine_from (eh i) (es i).pairs (er i) s)
-      ∙ (λ i. record { state = new_state l limit capacity shape some i; settings = s; reads = 0 })
-      ∙ (λ i. record { state = record { table = opening l; ring = new_ring l (el i) (ec i) }; settings = s; reads = 0 })
+  made_machine = rw (eh, es, er, new_state l limit capacity shape some, el, ec) refl

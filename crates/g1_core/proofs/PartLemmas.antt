@@ -1,11 +1,9 @@
 -- The parts of a core and the state that they stand for.
 use Rattle.std.specs.Prelude.{◌≡◌, ◌≢◌, ◌<◌, ◌+◌, ◌∷◌, ◌++◌, ◌↔◌, ◌≤◌}
-use Rattle.g1_core.specs.{inl, inr, ℕ, suc, true, false, cond, List, [], length, get_or, drop, Option, Some, None, refl, sym, ap, ◌∙◌, subst, arith, Contains, nat_eq, slice_get, IsDistinct, cases_eq, false_from_ne_true, length-set, Contains-push, Contains-append_left, Contains-push_cases, PairSet, Mark, Clean, Dirty, Held, Cells, with_mark, with_reads, Offer, Ring, answer, popped, IsCovered, IsPending, refined, State, IsPlaced, AreParts, pending_of, table_from, state_from, gained, is_dirty, offer_to, AreCells, AreOutside, nat_cmp_total, exact_unsigned}
-use Rattle.std.proofs.Common.{set as list_set}
-use Rattle.std.proofs.lemmas.Map.Made.{Contains-tail}
-use Rattle.std.specs.FinSet as set
+use Rattle.g1_core.specs.{IsDistinct-tail, ◌∙◌, inl, inr, ℕ, suc, true, false, cond, List, [], length, get_or, drop, Option, Some, None, refl, sym, ap, subst, arith, Contains, nat_eq, slice_get, IsDistinct, cases_eq, false_from_ne_true, length-set, Contains-push, Contains-append_left, Contains-push_cases, PairSet, Mark, Clean, Dirty, Held, Cells, with_mark, with_reads, Offer, Ring, answer, popped, IsCovered, IsPending, refined, State, IsPlaced, AreParts, pending_of, table_from, state_from, gained, is_dirty, offer_to, AreCells, AreOutside, nat_cmp_total, exact_unsigned, list_set, Contains-tail}
 use Rattle.g1_core.specs.Table.{Table}
-use Rattle.g1_core.proofs.SetLemmas.{All_by_member, front_apart, rest_distinct, some_member}
+use Rattle.std.specs.FinSet as set
+use Rattle.g1_core.proofs.SetLemmas.{All_by_member, front_apart, some_member}
 use Rattle.g1_core.proofs.TableLemmas.{refined_covered}
 use Rattle.g1_core.proofs.RunLemmas.{refined_outside}
 use Rattle.g1_core.proofs.MarkLemmas.{held_clean, dirty_clean, dirty_held, marked_cases, from_pending, to_pending, is_card, pending_cleaned, pending_kept, mark_here, mark_there, one_less}
@@ -117,7 +115,7 @@ module _ (heap : Cells) (pairs : PairSet) (ring : Ring) (pending : ℕ) (parts :
     left_is = ap (λ (xs : List ℕ). drop 1 xs) cards
 
     pub left_distinct : IsDistinct nat_eq (popped ring).cards
-    left_distinct = rw left_is (rest_distinct oldest rest whole)
+    left_distinct = rw left_is (IsDistinct-tail nat_eq oldest rest whole)
 
     others : (q : ℕ) → Contains rest q ↔ (Contains (oldest ∷ rest) q × (q ≢ oldest))
     others q = (

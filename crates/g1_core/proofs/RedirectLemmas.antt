@@ -1,11 +1,9 @@
 -- The redirect, whole and short, is a step of the plain table.
 use Rattle.std.specs.Prelude.{◌≡◌, ◌≢◌, ◌<◌, ◌≤◌, ◌*◌}
-use Rattle.g1_core.specs.{ℕ, List, length, refl, sym, ap, ◌∙◌, subst, arith, All, enumerate_from, length-enumerate_from, count_by-le-length, slot_count, slot_count_limit, Change, IsCore, pending_of, table_from, state_from, machine_from, enters, moved, moved_count, changes_of, slots_on, changed, AreGaining, IsMoved, AreMembersRead, Cells, Ring, Pairs, AreTied, list_at, of_region, without, AreRead}
+use Rattle.g1_core.specs.{◌∙◌, ℕ, List, length, refl, sym, ap, subst, arith, All, enumerate_from, length-enumerate_from, count_by-le-length, slot_count, slot_count_limit, Change, IsCore, pending_of, table_from, state_from, machine_from, enters, moved_count, changes_of, slots_on, changed, AreGaining, IsMoved, AreMembersRead, Cells, Ring, Pairs, AreTied, list_at, of_region, without, AreRead}
+use Rattle.g1_core.specs.Machine.{Machine, Settings}
 use Rattle.std.specs.FinSet as set
-use Rattle.g1_core.specs.Machine.{Machine}
 use Rattle.g1_core.proofs.ClearLemmas.{few_read}
-use Rattle.g1_core.specs.declared.config.Settings.{Settings}
-use Rattle.g1_core.specs.declared.reply.Redirected.TheVariants as answers
 use Rattle.g1_core.proofs.ChangeLemmas.{read_core}
 use Rattle.g1_core.proofs.ReferenceLemmas.{every_moved, slots_within, places_within, moved_core, moved_state, moved_reads}
 

@@ -1,8 +1,8 @@
 -- The changes of a region's members are all that a redirect has to move.
 use Rattle.std.specs.Prelude.{◌≡◌, ◌≢◌, ◌<◌, ◌*◌}
-use Rattle.g1_core.specs.{inl, inr, ℕ, true, List, length, get_or, Option, Some, None, refl, sym, ap, ◌∙◌, subst, arith, map, Result, Ok, Err, Contains, All, count_by, OnErr, filter_map, enumerate_from, eqb-true, eqb-false, and_parts, true≢false, not-true, length-map, length-enumerate_from, Contains-get_or, Shape, IsShape, slot_count, card_of, region_of, region_of_card, same_offset, same_offset_below, Change, IsCore, pending_of, table_from, state_from, Holds, IsCovered, IsRecorded, enters, moved_target, moved_pair, moved, change_at, changes_of, slots_of, slots_on, changed, AreGaining, Cells, PairSet, pair_cmp, Ring, Pairs, AreTied, list_at, of_region, without, AreRead, AreCells, AreOutside}
-use Rattle.std.specs.FinSet as set
+use Rattle.g1_core.specs.{◌∙◌, inl, inr, ℕ, true, List, length, get_or, Option, Some, None, refl, sym, ap, subst, arith, map, Result, Ok, Err, Contains, All, count_by, OnErr, filter_map, enumerate_from, eqb-true, eqb-false, and_parts, true≢false, not-true, length-map, length-enumerate_from, Contains-get_or, Shape, IsShape, slot_count, card_of, region_of, region_of_card, same_offset, same_offset_below, Change, IsCore, pending_of, table_from, state_from, Holds, IsCovered, IsRecorded, enters, moved_target, moved_pair, moved, change_at, changes_of, slots_of, slots_on, changed, AreGaining, Cells, PairSet, pair_cmp, Ring, Pairs, AreTied, list_at, of_region, without, AreRead, AreCells, AreOutside}
 use Rattle.g1_core.specs.Table.{Table}
+use Rattle.std.specs.FinSet as set
 use Rattle.g1_core.proofs.SetLemmas.{same_pairs, in_pairs, to_pairs, from_kept, to_kept, All_by_member, from_places, to_places}
 use Rattle.g1_core.proofs.TableLemmas.{region_of_slot, is_slot}
 use Rattle.g1_core.proofs.RunLemmas.{has_slots, holds_outside}
@@ -119,8 +119,8 @@ module _ (heap : Cells) (sets : Pairs) (ring : Ring) (pending : ℕ) (core : IsC
       length_is : length (changed heap.refs changes) ≡ slot_count l
       length_is = ap (λ (rs : List (Option ℕ)). length rs) every_moved.0 ∙ length-map (enumerate_from 0 heap.refs) (moved_target l from to) ∙ length-enumerate_from 0 heap.refs ∙ core.parts.cells.slots
 
-      after_core : IsCore after sets' ring pending
-      after_core =
+      pub moved_core : IsCore heap' sets' ring pending
+      moved_core =
           let places = changed_places l changes heap.refs core.parts.cells.places places_within in
           let cells : AreCells after = record { shape = shape; slots = length_is; places = places; cards = core.parts.cells.cards } in
           let cover : IsCovered (table_from after sets'.pairs) = subst IsCovered (sym table_is) (moved_covered from to t some apart nothing core.parts.cover) in
@@ -128,10 +128,7 @@ module _ (heap : Cells) (sets : Pairs) (ring : Ring) (pending : ℕ) (core : IsC
             | inl old ↦ core.parts.outside card region old
             | inr holds ↦ holds_outside (table_from after sets'.pairs) shape length_is places card region (subst (λ (t : Table). Holds t card region) (sym table_is) holds)
           ] in
-          record { layouts = layout ∙ core.layouts; parts = search (cells, cover, outside) }
-
-      pub moved_core : IsCore heap' sets' ring pending
-      moved_core = subst (λ (h : Cells). IsCore h sets' ring pending) (sym heap_is) after_core
+          subst (λ (h : Cells). IsCore h sets' ring pending) (sym heap_is) (record { layouts = layout ∙ core.layouts; parts = search (cells, cover, outside) })
 
       pub moved_state : state_from heap' sets'.pairs ring ≡ record { table = moved from to t; ring = ring }
       moved_state = ap (λ (h : Cells). state_from h sets'.pairs ring) heap_is ∙ (λ i. record { table = table_is i; ring = ring })

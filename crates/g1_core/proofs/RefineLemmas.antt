@@ -1,8 +1,7 @@
 -- The turns of cards over the parts of a core.
 use Rattle.std.specs.Prelude.{◌≡◌, ◌≢◌, ◌<◌, ◌≤◌, ◌+◌, ◌∷◌, ◌++◌}
-use Rattle.g1_core.specs.{inl, inr, ℕ, List, [], length, get_or, take, Option, Some, None, refl, sym, ap, ◌∙◌, subst, Contains, length-set, fold_more, Clean, Dirty, Held, Cells, with_mark, with_reads, Pairs, Offer, Cold, Kept, Out, Ring, answer, offered, cards_after, popped, PairSet, refined, State, IsCore, AreParts, table_from, state_from, machine_from, gained, Round, turn_by, turn, turns, start, offer_to, state_after, refined_by, hot_by, skipped_by}
-use Rattle.g1_core.specs.declared.config.Settings.{Settings}
-use Rattle.g1_core.specs.Machine.{Machine}
+use Rattle.g1_core.specs.{◌∙◌, inl, inr, ℕ, List, [], length, get_or, take, Option, Some, None, refl, sym, ap, subst, Contains, length-set, fold_more, Clean, Dirty, Held, Cells, with_mark, with_reads, Pairs, Offer, Cold, Kept, Out, Ring, answer, offered, cards_after, popped, PairSet, refined, State, IsCore, AreParts, table_from, state_from, machine_from, gained, Round, turn_by, turn, turns, start, offer_to, state_after, refined_by, hot_by, skipped_by}
+use Rattle.g1_core.specs.Machine.{Machine, Settings}
 use Rattle.g1_core.proofs.MarkLemmas.{held_clean, dirty_clean, is_card, mark_there}
 use Rattle.g1_core.proofs.TurnLemmas.{answer_cases}
 use Rattle.g1_core.proofs.RefinedLemmas.{refined_none}

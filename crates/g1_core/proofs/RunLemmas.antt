@@ -1,9 +1,9 @@
 -- Laws of permitted runs.
 use Rattle.std.specs.Prelude.{◌≡◌, ◌≢◌, ◌<◌, ◌*◌, ◌∷◌, ◌++◌, ◌&&◌}
-use Rattle.g1_core.specs.{inl, inr, ℕ, eqb, List, [], refl, sym, ap, ◌∙◌, subst, arith, fold, not, mul-pos, append-nil, append_assoc, fold-append, and_from, ne_eqb, Shape, IsShape, card_of, region_of, PairSet, opening, IsCovered, refined, Call, Reply, Entry, Store, Clear, written, settled, Answers, IsCallOf, table_after, IsAllowed, IsStep, table_of_history, IsPermitted, length, Option, None, All, IfSome, true≢false, and_parts, slot_count, card_count, region_of_card, pair_cmp, card_of_below, region_of_below, Holds, AreOutside}
-use Rattle.std.specs.FinSet as set
+use Rattle.g1_core.specs.{◌∙◌, inl, inr, ℕ, eqb, List, [], refl, sym, ap, subst, arith, fold, not, mul-pos, append-nil, append_assoc, fold-append, and_from, ne_eqb, Shape, IsShape, card_of, region_of, PairSet, opening, IsCovered, refined, Call, Reply, Entry, Store, Clear, written, settled, Answers, IsCallOf, table_after, IsAllowed, IsStep, table_of_history, IsPermitted, length, Option, None, All, IfSome, slot_count, card_count, region_of_card, card_of_below, region_of_below, Holds, AreOutside}
 use Rattle.g1_core.specs.Table.{Table}
 use Rattle.g1_core.specs.declared.entry.Call.TheVariants.{Redirect}
+use Rattle.std.specs.FinSet as set
 use Rattle.g1_core.specs.declared.entry.Reply.TheVariants as reply
 use Rattle.g1_core.specs.declared.reply.ClearReply.TheVariants as clear_reply
 use Rattle.g1_core.proofs.SetLemmas.{pair_exact}
@@ -102,10 +102,3 @@ module _ (t : Table) (shape : IsShape t.layout) (slots : length t.refs ≡ slot_
     | inl old ↦ outside card region old
     | inr held ↦ holds_outside card region (Holds_from_held t card region held)
   ]
-
--- the pairs that a granted clear leaves
-pub cleared_outside : (t : Table) (region : ℕ) → AreOutside t → AreOutside (settled (Clear region) (reply.Clear clear_reply.Cleared) t)
-cleared_outside t region outside card other r = outside card other (and_parts _ _ (sym (forgotten t.recorded region (card, other)) ∙ r)).0
-
-pub opening_outside : (l : Shape) → AreOutside (opening l)
-opening_outside l card region r = absurd (true≢false (sym r ∙ set.contains-empty pair_cmp (card, region)))

@@ -1,11 +1,9 @@
 -- Membership in sets of cards and of pairs, what a filter keeps, and how many members a set has at least.
 use Rattle.std.specs.Prelude.{◌≡◌, ◌<◌, ◌∷◌, ◌+◌, ◌-◌, ◌≤◌}
-use Rattle.g1_core.specs.{ℕ, zero, suc, true, List, [], length, get_or, Option, Some, None, refl, sym, ap, ◌∙◌, subst, arith, Contains, All, Contains-get_or, filter_map, cons_option, nat_cmp_total, exact_unsigned, set_of, enumerate_from, get_or_default, get_or-enumerate_from, length-enumerate_from, inl, inr, cond, not, nat_eq, IsDistinct, IsDistinct-tail, Equal-is, cases_lt, and_from, true≢false, false_from_ne_true}
+use Rattle.g1_core.specs.{◌∙◌, ℕ, zero, suc, true, List, [], length, get_or, Option, Some, None, refl, sym, ap, subst, arith, Contains, All, Contains-get_or, filter_map, cons_option, nat_cmp_total, exact_unsigned, set_of, enumerate_from, get_or_default, get_or-enumerate_from, length-enumerate_from, inl, inr, cond, not, nat_eq, IsDistinct, IsDistinct-tail, Equal-is, cases_lt, and_from, true≢false, false_from_ne_true, AllPairs-from_IsDistinct, Decides-eqb}
 use Rattle.std.specs.declared.cmp.Ordering.{Ordering}
 use Rattle.std.specs.declared.cmp.Ordering.TheVariants.{Equal}
 use Rattle.std.specs.Cmp.{IsTotalOrder}
-use Rattle.std.proofs.lemmas.Map.Made.{AllPairs-from_IsDistinct}
-use Rattle.std.proofs.lemmas.Bool.Decides.{Decides-eqb}
 use Rattle.std.specs.FinSet as set
 pub use Rattle.g1_layout.proofs.SetLemmas.{pair_total, pair_exact, same_bools, same_pairs, same_cards, listed, unlisted, in_pairs, to_pairs, of_card_from, of_card_to}
 
@@ -21,9 +19,6 @@ All_by_member P xs each k d lt = each (get_or xs k d) (Contains-get_or xs k d lt
 -- the front of distinct cards is apart from the rest
 pub front_apart : (x : ℕ) (xs : List ℕ) → IsDistinct nat_eq (x ∷ xs) → Contains xs x → ⊥
 front_apart x xs h (k, lt, e) = AllPairs-from_IsDistinct Decides-eqb (x ∷ xs) h 0 (suc k) x (omega arith) (omega arith) (sym e)
-
-pub rest_distinct : (x : ℕ) (xs : List ℕ) → IsDistinct nat_eq (x ∷ xs) → IsDistinct nat_eq xs
-rest_distinct x xs h = IsDistinct-tail nat_eq x xs h
 
 -- what a filter_map keeps
 module _ {X Y : Type 0} (h : X → Option Y) where
@@ -81,6 +76,6 @@ module _ {K : Type 0} {R : K → K → Ordering} (o : IsTotalOrder R) (exact : (
   pub few_distinct : (f : ℕ → K) → ((a b : ℕ) → f a ≡ f b → a ≡ b) → (xs : List ℕ) (s : set.FinSet R) → IsDistinct nat_eq xs → ((x : ℕ) → Contains xs x → set.contains s (f x) ≡ true) → length xs ≤ set.len s
   few_distinct f one [] s distinct each = omega arith
   few_distinct f one (x ∷ xs) s distinct each =
-      let rest : length xs ≤ set.len (set.remove s (f x)) = few_distinct f one xs (set.remove s (f x)) (rest_distinct x xs distinct) (λ y c.
+      let rest : length xs ≤ set.len (set.remove s (f x)) = few_distinct f one xs (set.remove s (f x)) (IsDistinct-tail nat_eq x xs distinct) (λ y c.
       set.contains-remove o s (f x) (f y) ∙ and_from _ _ (ap not (false_from_ne_true _ (λ e. front_apart x xs distinct (subst (Contains xs) (one y x (exact (f y) (f x) ((Equal-is (R (f y) (f x))).0 e))) c)))) (each y (suc c.0, omega (arith, c.1), c.2))) in
       omega (arith, one_fewer s (f x) (each x (0, omega arith, refl)))

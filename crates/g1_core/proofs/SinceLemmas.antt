@@ -1,9 +1,9 @@
 -- What is recorded at the end of a run, a card has held since the last clear.
 use Rattle.std.specs.Prelude.{◌≡◌, ◌≢◌, ◌⊎◌, ◌∷◌, ◌++◌}
-use Rattle.g1_core.specs.{take, inl, inr, ℕ, true, List, [], length, drop, sym, ap, ◌∙◌, subst, arith, Contains, All, not, nat_cmp, take_all, drop_all, take-append-le, drop-append-le, length-append, All-nil, All-push, true≢false, and_parts, eq-eqb, Shape, card_of, region_of, region_of_card, pair_cmp, opening, Holds, IsCovered, IsRecorded, refined, held, Call, Reply, Entry, Store, Clear, written, settled, table_after, IsAllowed, table_of_history, IsPermitted, Clears, ClearsBy, HeldSince, IsExact, drained}
-use Rattle.std.specs.FinSet as set
+use Rattle.g1_core.specs.{◌∙◌, take, inl, inr, ℕ, true, List, [], length, drop, sym, ap, subst, arith, Contains, All, not, nat_cmp, take_all, drop_all, take-append-le, drop-append-le, length-append, All-nil, All-push, true≢false, and_parts, eq-eqb, Shape, card_of, region_of, region_of_card, pair_cmp, opening, Holds, IsCovered, IsRecorded, refined, held, Call, Reply, Entry, Store, Clear, written, settled, table_after, IsAllowed, table_of_history, IsPermitted, Clears, ClearsBy, HeldSince, IsExact, drained}
 use Rattle.g1_core.specs.Table.{Table}
 use Rattle.g1_core.specs.declared.entry.Call.TheVariants.{Redirect}
+use Rattle.std.specs.FinSet as set
 use Rattle.g1_core.specs.declared.entry.Reply.TheVariants as reply
 use Rattle.g1_core.specs.declared.reply.ClearReply.TheVariants as clear_reply
 use Rattle.g1_core.proofs.MovedLemmas.{moved_known}
@@ -50,15 +50,10 @@ since_now l entries card region h =
 
 -- each recorded card held since the last clear
 module _ (l : Shape) (some : HasSlots l) where
-  Since : List Entry → Type 0
+  abbrev Since : List Entry → Type 0
   Since entries = (card region : ℕ) → IsRecorded (table_of_history l entries) card region → HeldSince l entries card region
 
-  since_none : Since []
-  unfolding Since
-  since_none card region h = absurd (true≢false (sym h ∙ set.contains-empty pair_cmp (card, region)))
-
   since_step : (entries : List Entry) (e : Entry) → Since entries → Since (entries ++ e ∷ [])
-  unfolding Since
   since_step entries e known card region h =
       let t : Table = table_of_history l entries in
       let u : Table = refined e.refined (written e.call t) in
@@ -77,8 +72,7 @@ module _ (l : Shape) (some : HasSlots l) where
       ]
 
   pub recorded_since : (entries : List Entry) (card region : ℕ) → IsRecorded (table_of_history l entries) card region → HeldSince l entries card region
-  unfolding Since
-  recorded_since = by_push Since since_none since_step
+  recorded_since = by_push Since (λ card region h. absurd (true≢false (sym h ∙ set.contains-empty pair_cmp (card, region)))) since_step
 
   -- a whole drain is exact
   module _ (entries : List Entry) (run : IsPermitted (opening l) entries) (caller region : ℕ) (cards done : List ℕ) (allowed : IsAllowed (table_of_history l entries) (drained caller region cards done)) where

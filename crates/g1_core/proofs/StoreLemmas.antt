@@ -1,11 +1,8 @@
 -- The barrier.
-use Rattle.std.specs.Prelude.{◌≡◌, ◌≢◌, ◌⊎◌, ◌<◌, ◌≤◌, ◌+◌, ◌↔◌}
-use Rattle.g1_core.specs.{inl, inr, ℕ, Bool, true, false, cond, eqb, List, [], length, get_or, Option, Some, None, refl, sym, ap, ◌∙◌, subst, arith, IfSome, IsDistinct, cases_eq, true≢false, false_from_ne_true, length-set, All-set, Shape, slot_count, card_count, card_of, region_of, CardSet, PairSet, card_count_limit, Kind, SameRegion, AlreadyDirty, Logged, Mark, Clean, Dirty, Held, Cells, AreCells, with_ref, with_mark, Pairs, Ring, IsCovered, AreRefinable, refined, State, IsCore, AreParts, pending_of, table_from, state_from, machine_from, Store, IsStep, IsCallOf, kind_of, stored, pending_after, StoreReply, store_entry, stored_machine, Contains}
-use Rattle.std.proofs.Common.{set as list_set}
+use Rattle.std.specs.Prelude.{◌≡◌, ◌≢◌, ◌<◌, ◌≤◌, ◌+◌, ◌↔◌}
+use Rattle.g1_core.specs.{DoesStore, unfilled, ◌∙◌, inl, inr, ℕ, Bool, false, cond, List, [], length, get_or, Option, Some, None, refl, sym, ap, subst, arith, IfSome, IsDistinct, cases_eq, true≢false, false_from_ne_true, length-set, All-set, Shape, slot_count, card_count, card_of, CardSet, PairSet, card_count_limit, Kind, SameRegion, AlreadyDirty, Logged, Mark, Clean, Dirty, Held, Cells, AreCells, with_ref, with_mark, Pairs, Ring, IsCovered, AreRefinable, refined, State, IsCore, AreParts, pending_of, table_from, state_from, machine_from, Store, IsStep, IsCallOf, kind_of, stored, pending_after, StoreReply, store_entry, stored_machine, Contains, list_set}
+use Rattle.g1_core.specs.Machine.{Machine, Settings, Table}
 use Rattle.std.specs.FinSet as set
-use Rattle.g1_core.specs.Table.{Table}
-use Rattle.g1_core.specs.declared.config.Settings.{Settings}
-use Rattle.g1_core.specs.Machine.{Machine}
 use Rattle.g1_core.proofs.TableLemmas.{stored_covered}
 use Rattle.g1_core.proofs.MarkLemmas.{held_clean, dirty_clean, dirty_held, from_pending, to_pending, pending_marked, mark_here, mark_there, few_pending, one_more}
 use Rattle.g1_core.proofs.RefinedLemmas.{refined_none}
@@ -79,29 +76,18 @@ pub none_refinable : (t : Table) → AreRefinable t []
 unfolding IsDistinct
 none_refinable t = record { distinct = tt; pending = λ k d lt. absurd (omega arith) }
 
-pub stored_step : (caller : ℕ) (t new : Table) (slot : ℕ) (target : Option ℕ) (reply : StoreReply) → IsCallOf t.layout (Store slot target) → reply.kind ≡ kind_of t slot target → reply.refined ≡ [] → new ≡ stored t slot target → IsStep t (store_entry caller slot target reply) new
-stored_step caller t new slot target reply numbers kind none after =
+pub stored_step : (caller : ℕ) (old new : Machine) (slot : ℕ) (target : Option ℕ) (reply : StoreReply) → DoesStore slot target reply old new → IsCallOf old.state.table.layout (Store slot target) → IsStep old.state.table (store_entry caller slot target reply) new.state.table
+stored_step caller old new slot target reply did numbers =
+    let after : Table = stored old.state.table slot target in
     record {
-      allowed = record { numbers = numbers; refines = subst (AreRefinable (stored t slot target)) (sym none) (none_refinable (stored t slot target)); answers = (kind, λ _. none) };
-      after = after ∙ sym (ap (λ (ks : List ℕ). refined ks (stored t slot target)) none ∙ refined_none (stored t slot target));
+      allowed = record { numbers = numbers; refines = rw did.refined (none_refinable after); answers = (did.kind, λ _. did.refined) };
+      after = ap (λ (m : Machine). m.state.table) did.machine ∙ sym (ap (λ (ks : List ℕ). refined ks after) did.refined ∙ refined_none after);
     }
 
--- the kind that the barrier finds
-pub kind_at : (heap : Cells) (pairs : PairSet) (ring : Ring) (settings : Settings) (m : Machine) → machine_from heap pairs ring settings ≡ m → (l : Shape) (slot place from to card : ℕ) (target : Option ℕ) (mark : Mark) (b : Bool)
-    → l ≡ heap.layout → target ≡ Some place → false ≡ eqb from to → from ≡ region_of l slot → to ≡ region_of l place → card ≡ card_of l slot → mark ≡ get_or heap.marks card Clean → (mark ≡ Clean → b ≡ false) → (mark ≢ Clean → b ≡ true)
-    → (mark ≡ Clean) ⊎ (mark ≢ Clean) → kind_of m.state.table slot target ≡ cond b AlreadyDirty Logged
-kind_at heap pairs ring settings m view l slot place from to card target mark b same some across first second on read clean marked cases =
-    let found : set.contains m.state.table.pending card ≡ b = ap (λ (m : Machine). set.contains m.state.table.pending card) (sym view) ∙ elim cases [
-      | inl is ↦ clean_mark heap.marks card (sym read ∙ is) ∙ sym (clean is)
-      | inr ne ↦ to_pending heap.marks card (λ e. ne (read ∙ e)) ∙ sym (marked ne)
-    ] in
-    let here : l ≡ m.state.table.layout = same ∙ ap (λ (m : Machine). m.state.table.layout) view in
-    rw (some, ← here, ← first, ← second, ← across, ← on, found) refl
-
 -- What a store leaves.
-pub record IsStored (heap' : Cells) (sets : Pairs) (ring : Ring) (pending' : ℕ) (settings : Settings) (m : Machine) (slot : ℕ) (target : Option ℕ) : Type 0 where
+pub record IsStored (heap' : Cells) (sets : Pairs) (ring : Ring) (pending' : ℕ) (settings : Settings) (m : Machine) (slot : ℕ) (target : Option ℕ) (kind : Kind) : Type 0 where
   pub core : IsCore heap' sets ring pending'
-  pub machine : machine_from heap' sets.pairs ring settings ≡ stored_machine m slot target
+  pub did : DoesStore slot target (unfilled kind) m (machine_from heap' sets.pairs ring settings)
 
 module _ (heap : Cells) (sets : Pairs) (ring : Ring) (pending : ℕ) (settings : Settings) (m : Machine) (core : IsCore heap sets ring pending) (view : machine_from heap sets.pairs ring settings ≡ m)
     (slot : ℕ) (target : Option ℕ) (kind : Kind) (kind_is : kind ≡ kind_of m.state.table slot target) (fits : IfSome target (λ place. place < slot_count m.state.table.layout)) where
@@ -111,23 +97,23 @@ module _ (heap : Cells) (sets : Pairs) (ring : Ring) (pending : ℕ) (settings :
   fit : IfSome target (λ place. place < slot_count heap.layout)
   fit = subst (λ (m : Machine). IfSome target (λ place. place < slot_count m.state.table.layout)) (sym view) fits
 
-  machine_is : (heap' : Cells) → heap'.reads ≡ heap.reads → state_from heap' sets.pairs ring ≡ record { table = stored (table_from heap sets.pairs) slot target; ring = ring } → machine_from heap' sets.pairs ring settings ≡ stored_machine m slot target
-  machine_is heap' reads state = (λ i. record { state = state i; settings = settings; reads = reads i }) ∙ ap (λ (m : Machine). stored_machine m slot target) view
+  did : (heap' : Cells) → heap'.reads ≡ heap.reads → state_from heap' sets.pairs ring ≡ record { table = stored (table_from heap sets.pairs) slot target; ring = ring } → DoesStore slot target (unfilled kind) m (machine_from heap' sets.pairs ring settings)
+  did heap' reads state = record { kind = kind_is; refined = refl; short = refl; machine = (λ i. record { state = state i; settings = settings; reads = reads i }) ∙ ap (λ (m : Machine). stored_machine m slot target) view }
 
-  pub plain_at : (heap' : Cells) → kind ≢ Logged → heap' ≡ with_ref heap slot target → IsStored heap' sets ring pending settings m slot target
-  plain_at heap' plain eh = subst (λ h. IsStored h sets ring pending settings m slot target) (sym eh) (record {
+  pub plain_at : (heap' : Cells) → kind ≢ Logged → heap' ≡ with_ref heap slot target → IsStored heap' sets ring pending settings m slot target kind
+  plain_at heap' plain eh = subst (λ h. IsStored h sets ring pending settings m slot target kind) (sym eh) (record {
     core = record { layouts = core.layouts; parts = plain_parts heap sets.pairs ring pending core.parts slot target kind is fit plain };
-    machine = machine_is (with_ref heap slot target) refl (plain_state heap sets.pairs ring pending core.parts slot target kind is fit plain);
+    did = did (with_ref heap slot target) refl (plain_state heap sets.pairs ring pending core.parts slot target kind is fit plain);
   })
 
   pub logged_at : (heap' : Cells) (pending' card : ℕ) (l : Shape) → kind ≡ Logged → l ≡ heap.layout → card ≡ card_of l slot → card < card_count l → pending' ≡ pending + 1
-      → heap' ≡ with_mark (with_ref heap slot target) card Dirty → IsStored heap' sets ring pending' settings m slot target
+      → heap' ≡ with_mark (with_ref heap slot target) card Dirty → IsStored heap' sets ring pending' settings m slot target kind
   logged_at heap' pending' card l logged same on within more eh =
       let on_card : card ≡ card_of heap.layout slot = on ∙ ap (λ (l : Shape). card_of l slot) same in
       let below : card < card_count heap.layout = subst (λ (l : Shape). card < card_count l) same within in
-      subst (λ h. IsStored h sets ring pending' settings m slot target) (sym eh) (record {
+      subst (λ h. IsStored h sets ring pending' settings m slot target kind) (sym eh) (record {
         core = record { layouts = core.layouts; parts = logged_parts heap sets.pairs ring pending core.parts slot target kind is fit logged card on_card below pending' more };
-        machine = machine_is (with_mark (with_ref heap slot target) card Dirty) refl (logged_state heap sets.pairs ring pending core.parts slot target kind is fit logged card on_card below pending' more);
+        did = did (with_mark (with_ref heap slot target) card Dirty) refl (logged_state heap sets.pairs ring pending core.parts slot target kind is fit logged card on_card below pending' more);
       })
 
 -- one more card is pending, and there are few

@@ -1,14 +1,10 @@
 -- Laws of the plain table.
-use Rattle.std.specs.Prelude.{◌≡◌, ◌≢◌, ◌⊎◌, ◌<◌, ◌/◌, ◌&&◌, ◌||◌}
-use Rattle.g1_core.specs.{inl, inr, ℕ, Bool, true, false, cond, eqb, List, length, get_or, replicate, Option, Some, None, refl, sym, ap, ◌∙◌, subst, arith, not, enumerate_from, div-div-eq-div-mul, mul_comm, eqb-false, ne_eqb, cases_lt, cases_eq, cases_Bool, or_cases, or_left, or_right, and_parts, and_from, nat_cmp_total, eq_by_cmp_equiv, get_or-set_same, get_or-set_other, get_or_past, get_or-replicate, length-replicate, length-set, length-enumerate_from, SameRegion, AlreadyDirty, Logged, Shape, slot_count, card_of, region_of, region_of_card, CardSet, set_of, opening, IsPending, IsRecorded, Crosses, Holds, IsCovered, pair_of, held, refined, pending_after, stored, HoldsIn, eq_by_cmp, nat_cmp, exact_unsigned, Equal-is}
-use Rattle.std.proofs.Common.{set as list_set}
-use Rattle.std.specs.FinSet as set
+use Rattle.std.specs.Prelude.{◌≡◌, ◌≢◌, ◌⊎◌, ◌<◌, ◌&&◌, ◌||◌}
+use Rattle.g1_core.specs.{◌∙◌, inl, inr, ℕ, Bool, true, false, cond, eqb, List, length, get_or, replicate, Option, Some, None, refl, sym, ap, subst, arith, not, enumerate_from, eqb-false, ne_eqb, cases_lt, cases_eq, cases_Bool, or_cases, or_left, or_right, and_parts, and_from, nat_cmp_total, eq_by_cmp_equiv, get_or-set_same, get_or-set_other, get_or_past, get_or-replicate, length-replicate, length-set, length-enumerate_from, SameRegion, AlreadyDirty, Logged, Shape, slot_count, card_of, region_of, region_of_card, CardSet, set_of, opening, IsPending, IsRecorded, Crosses, Holds, IsCovered, pair_of, held, refined, pending_after, stored, HoldsIn, eq_by_cmp, nat_cmp, exact_unsigned, Equal-is, list_set}
 use Rattle.g1_core.specs.Table.{Table}
+use Rattle.std.specs.FinSet as set
+pub use Rattle.g1_layout.proofs.ShapeLemmas.{region_of_slot}
 use Rattle.g1_core.proofs.SetLemmas.{pair_total, pair_exact, listed, unlisted, same_bools, at_its_place, from_places, to_places}
-
--- a slot's region is that of its card
-pub region_of_slot : (l : Shape) (slot : ℕ) → region_of_card l (card_of l slot) ≡ region_of l slot
-region_of_slot l slot = div-div-eq-div-mul slot l.slots l.cards ∙ ap (λ k. slot / k) (mul_comm l.slots l.cards)
 
 -- what makes a pair holds
 made_if : (l : Shape) (refs : List (Option ℕ)) (slot place card region : ℕ) (b : Bool) → get_or refs slot None ≡ Some place → eqb (region_of l slot) (region_of l place) ≡ b → cond {A = Option (ℕ × ℕ)} b None (Some (card_of l slot, region_of l place)) ≡ Some (card, region) → HoldsIn l refs card region
@@ -23,9 +19,6 @@ made : (l : Shape) (refs : List (Option ℕ)) (slot card region : ℕ) (o : Opti
 made l refs slot card region None at e = cc
 made l refs slot card region (Some place) at e = made_if l refs slot place card region (eqb (region_of l slot) (region_of l place)) at refl e
 
-pub pair_across : (l : Shape) (slot place : ℕ) → region_of l slot ≢ region_of l place → pair_of l (slot, Some place) ≡ Some (card_of l slot, region_of l place)
-pair_across l slot place across = ap (λ b. cond {A = Option (ℕ × ℕ)} b None (Some (card_of l slot, region_of l place))) (ne_eqb _ _ across)
-
 -- a slot that refers somewhere is one of the list
 pub is_slot : (xs : List (Option ℕ)) (slot place : ℕ) → get_or xs slot None ≡ Some place → slot < length xs
 is_slot xs slot place e =
@@ -34,7 +27,7 @@ is_slot xs slot place e =
 -- the pair of a slot that crosses is held
 pub crossing_held : (t : Table) (slot place : ℕ) → Crosses t slot place → set.contains (held t) (card_of t.layout slot, region_of t.layout place) ≡ true
 crossing_held t slot place x =
-    unlisted pair_total pair_exact _ _ (to_places (pair_of t.layout) t.refs None slot _ (is_slot t.refs slot place x.refers) (ap (λ (o : Option ℕ). pair_of t.layout (slot, o)) x.refers ∙ pair_across t.layout slot place x.across))
+    unlisted pair_total pair_exact _ _ (to_places (pair_of t.layout) t.refs None slot _ (is_slot t.refs slot place x.refers) (ap (λ (o : Option ℕ). pair_of t.layout (slot, o)) x.refers ∙ ap (λ b. cond {A = Option (ℕ × ℕ)} b None (Some (card_of t.layout slot, region_of t.layout place))) (ne_eqb _ _ x.across)))
 
 -- what holds is held
 pub held_from_Holds : (t : Table) (card region : ℕ) → Holds t card region → set.contains (held t) (card, region) ≡ true

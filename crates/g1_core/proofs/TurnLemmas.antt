@@ -1,9 +1,8 @@
 -- A round of turns refines distinct pending cards.
 use Rattle.std.specs.Prelude.{◌≡◌, ◌≢◌, ◌⊎◌, ◌≤◌, ◌∷◌, ◌++◌}
-use Rattle.g1_core.specs.{inl, inr, ℕ, suc, true, cond, List, [], length, get_or, take, drop, Option, Some, None, refl, sym, ap, ◌∙◌, subst, arith, Contains, All, nat_eq, nat_lt, not, IsDistinct, cases_lt, cases_Bool, and_parts, and_from, lt-ltb, le-ltb, not-true, true≢false, false_from_ne_true, append-nil, Contains-push_cases, All-contains, Offer, Cold, Kept, Out, Ring, answer, cards_after, IsPending, AreRefinable, refined, State, IsPlaced, RefineReply, IsStep, IsTurned, round_of, refine_entry, is_dirty, refined_by, state_after, Round, turn_by, turn, turns, start}
-use Rattle.std.proofs.lemmas.Bool.{cases_cond}
+use Rattle.g1_core.specs.{IsDistinct-tail, ◌∙◌, inl, inr, ℕ, suc, true, cond, List, [], length, get_or, take, drop, Option, Some, None, refl, sym, ap, subst, arith, Contains, All, nat_eq, nat_lt, not, IsDistinct, cases_lt, cases_Bool, and_parts, and_from, lt-ltb, le-ltb, not-true, true≢false, false_from_ne_true, append-nil, Contains-push_cases, All-contains, Offer, Cold, Kept, Out, Ring, answer, cards_after, IsPending, AreRefinable, refined, State, IsPlaced, RefineReply, IsStep, IsTurned, round_of, refine_entry, is_dirty, refined_by, state_after, Round, turn_by, turn, turns, start, cases_cond}
 use Rattle.g1_core.specs.Table.{Table}
-use Rattle.g1_core.proofs.SetLemmas.{All_by_member, in_list, in_set, front_apart, rest_distinct}
+use Rattle.g1_core.proofs.SetLemmas.{All_by_member, in_list, in_set, front_apart}
 use Rattle.g1_core.proofs.TableLemmas.{still_pending}
 use Rattle.g1_core.proofs.MarkLemmas.{one_of}
 use Rattle.g1_core.proofs.RefinedLemmas.{refined_none, refined_both, push_distinct, refinable_push}
@@ -79,7 +78,7 @@ module _ (s : State) (card : ℕ) (placed : IsPlaced s) (dirty : IsDirty s card)
   out_placed o =
       let whole : IsDistinct nat_eq (o.oldest ∷ o.rest) = subst (IsDistinct nat_eq) o.cards placed.distinct in
       let stands : (q : ℕ) → Contains o.rest q → Contains s.ring.cards q = λ q c. rw o.cards (suc c.0, omega (arith, c.1), c.2) in
-      placed_by (Out o.oldest) (o.rest ++ card ∷ []) o.answers (ap (λ (xs : List ℕ). drop 1 xs ++ card ∷ []) o.cards) (push_distinct o.rest card (rest_distinct o.oldest o.rest whole) (λ c. dirty.apart (stands card c))) (λ q c. elim (Contains-push_cases o.rest card q c) [
+      placed_by (Out o.oldest) (o.rest ++ card ∷ []) o.answers (ap (λ (xs : List ℕ). drop 1 xs ++ card ∷ []) o.cards) (push_distinct o.rest card (IsDistinct-tail nat_eq o.oldest o.rest whole) (λ c. dirty.apart (stands card c))) (λ q c. elim (Contains-push_cases o.rest card q c) [
         | inl old ↦ pending_but s.table o.oldest q (in_ring q (stands q old)) (λ e. front_apart o.oldest o.rest whole (subst (Contains o.rest) e old))
         | inr new ↦ subst (IsPending (refined (o.oldest ∷ []) s.table)) new (pending_but s.table o.oldest card dirty.pending (λ e. other o.oldest (rw o.cards (0, omega arith, refl)) (sym e)))
       ])

@@ -1,8 +1,7 @@
 -- The search of a check, slot by slot.
 use Rattle.std.specs.Prelude.{◌≡◌, ◌+◌, ◌-◌, ◌<◌}
-use Rattle.g1_core.specs.{ℕ, List, length, map, get_or, Option, None, Some, ap, sym, ◌∙◌, subst, arith, get_or-map, target_of, IsLater, IsOnlyRead, IsFirst, Differs}
-use Rattle.g1_core.specs.Table.{Table}
-use Rattle.g1_core.specs.Machine.{Machine}
+use Rattle.g1_core.specs.{◌∙◌, ℕ, List, length, map, get_or, Option, None, Some, ap, sym, subst, arith, get_or-map, target_of, IsLater, IsOnlyRead, IsFirst, Differs}
+use Rattle.g1_core.specs.Machine.{Machine, Table}
 
 module _ (Q : ℕ → Type 0) (first : ℕ) where
   pub first_none : (count : ℕ) → ((k : ℕ) → k < count → Q (first + k) → ⊥) → IsFirst Q first count None

@@ -1,10 +1,8 @@
 -- The walk over the slots of some cards that collects the changes of a redirect.
 use Rattle.std.specs.Prelude.{◌≡◌, ◌≢◌, ◌<◌, ◌≤◌, ◌+◌, ◌-◌, ◌*◌, ◌∷◌, ◌++◌, ◌↔◌}
-use Rattle.g1_core.specs.{inl, inr, ℕ, zero, suc, Bool, true, false, eqb, List, [], length, get_or, Option, Some, None, refl, sym, ap, ◌∙◌, subst, arith, take, Contains, nat_eq, not, slice_get, IsDistinct, cons_option, range_with_len, cases_eq, eqb-false, ne_eqb, true≢false, not-true, append-nil, append_assoc, length-append, take_more, get_or-range_with_len, length-range_with_len, flat_map-append, filter_map-append, Contains-append_cases, Contains-append_left, Contains-append_right, Shape, IsShape, card_count, card_of, region_of_card, slot_at, Change, change_at, changes_of, slots_of, slots_on, AreGaining, get_or_from_slice_get, slice_get_within, Cells, Pairs, AreTied, list_at, AreRead, IsInRow, row_of_card, card_of-in_row}
+use Rattle.g1_core.specs.{IsDistinct-tail, ◌∙◌, inl, inr, ℕ, zero, suc, Bool, true, false, eqb, List, [], length, get_or, Option, Some, None, refl, sym, ap, subst, arith, take, Contains, nat_eq, not, slice_get, IsDistinct, cons_option, range_with_len, cases_eq, eqb-false, ne_eqb, true≢false, not-true, append-nil, append_assoc, length-append, take_more, get_or-range_with_len, length-range_with_len, flat_map-append, filter_map-append, Contains-append_cases, Contains-append_left, Contains-append_right, Shape, IsShape, card_count, card_of, region_of_card, slot_at, Change, change_at, changes_of, slots_of, slots_on, AreGaining, get_or_from_slice_get, slice_get_within, Cells, Pairs, AreTied, list_at, AreRead, IsInRow, row_of_card, card_of-in_row, IsDistinct-from_AllPairs, Decides-eqb}
 use Rattle.std.proofs.lemmas.List.Concat.{flat_map-cons}
-use Rattle.std.proofs.lemmas.Map.Made.{IsDistinct-from_AllPairs}
-use Rattle.std.proofs.lemmas.Bool.Decides.{Decides-eqb}
-use Rattle.g1_core.proofs.SetLemmas.{front_apart, rest_distinct}
+use Rattle.g1_core.proofs.SetLemmas.{front_apart}
 use Rattle.g1_core.proofs.MarkLemmas.{one_of, itself}
 use Rattle.g1_core.proofs.RefinedLemmas.{distinct_both}
 
@@ -53,7 +51,7 @@ module _ (l : Shape) (shape : IsShape l) where
   pub distinct_slots : (cards : List ℕ) → IsDistinct nat_eq cards → IsDistinct nat_eq (slots_on l cards)
   unfolding IsDistinct
   distinct_slots [] once = tt
-  distinct_slots (card ∷ cards) once = rw (flat_map-cons (slots_of l) card cards) (distinct_both (slots_of l card) (slots_on l cards) (range_distinct (card * l.slots) l.slots) (distinct_slots cards (rest_distinct card cards once)) (λ slot here there. front_apart card cards once (subst (Contains cards) (on_card card slot here) (from_slots cards slot there))))
+  distinct_slots (card ∷ cards) once = rw (flat_map-cons (slots_of l) card cards) (distinct_both (slots_of l card) (slots_on l cards) (range_distinct (card * l.slots) l.slots) (distinct_slots cards (IsDistinct-tail nat_eq card cards once)) (λ slot here there. front_apart card cards once (subst (Contains cards) (on_card card slot here) (from_slots cards slot there))))
 
 -- the next slot of a walk, and the next card
 module _ (l : Shape) (refs : List (Option ℕ)) (from to : ℕ) where

@@ -1,7 +1,7 @@
 -- A core that is made of references, marked cards and pairs.
 use Rattle.std.specs.Prelude.{◌≢◌, ◌<◌}
-use Rattle.g1_core.specs.Prelude.{ℕ, Bool, true, false, List, Option, map, Shape, card_count}
-use Rattle.g1_core.specs.Prelude.{region_of_card, Mark, Clean, Dirty, new_ring}
+use Rattle.g1_core.specs.Prelude.{ℕ, Bool, true, false, List, Option, map, Shape}
+use Rattle.g1_core.specs.Prelude.{card_count, region_of_card, Mark, Clean, Dirty, new_ring}
 use Rattle.std.specs.FinSet as set
 use Rattle.g1_core.specs.Table.{Table}
 use Rattle.g1_core.specs.declared.config.Settings.{Settings}

@@ -1,8 +1,9 @@
 -- What each call of a core enters in a history, from what it returns, and what it does, from one
 -- machine to the next.
 use Rattle.std.specs.Prelude.{◌≡◌, ◌≢◌, ◌≤◌, ◌<◌, ◌+◌, ◌-◌, ◌*◌, ◌^◌}
-use Rattle.g1_core.specs.Prelude.{ℕ, Bool, List, [], Option, false, length, All, IfSome, IsNone}
-use Rattle.g1_core.specs.Prelude.{min, Shape, slot_count, card_count, Cards}
+use Rattle.g1_core.specs.Prelude.{ℕ, Bool, List, [], Option}
+use Rattle.g1_core.specs.Prelude.{false, length, All, IfSome, IsNone, min, Shape, slot_count}
+use Rattle.g1_core.specs.Prelude.{card_count, Cards}
 use Rattle.std.specs.FinSet as set
 use Rattle.g1_core.specs.declared.reply.StoreReply.{StoreReply}
 use Rattle.g1_core.specs.declared.reply.RefineReply.{RefineReply}

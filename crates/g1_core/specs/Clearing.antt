@@ -1,7 +1,8 @@
 -- What a clear finds: the least slot on some cards that refers into a region, and how many slots
 -- are read for it.
 use Rattle.std.specs.Prelude.{◌≡◌, ◌≤◌, ◌+◌, ◌==◌}
-use Rattle.g1_core.specs.Prelude.{ℕ, List, Option, Some, None, Contains, card_of, Cells}
+use Rattle.g1_core.specs.Prelude.{ℕ, List, Option, Some, None, Contains}
+use Rattle.g1_core.specs.Prelude.{card_of, Cells}
 use Rattle.std.specs.FinSet as set
 use Rattle.g1_core.specs.Table.{Table, Enters}
 

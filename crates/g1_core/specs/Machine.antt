@@ -1,15 +1,16 @@
 -- What contracts see of a core: the plain table, the hot ring with its counts, the settings, and
 -- how many slots were read.
 use Rattle.std.specs.Prelude.{◌∷◌, ◌≡◌, ◌<◌, ◌≤◌, ◌↔◌}
-use Rattle.g1_core.specs.Prelude.{ℕ, List, [], Option, Some, None, length, nat_eq, Contains, All}
-use Rattle.g1_core.specs.Prelude.{IfSome, slice_index_or, refl, IsDistinct, filter_map}
-use Rattle.g1_core.specs.Prelude.{enumerate_from, Coded, code_by, coded×, coded_ℕ, coded_list}
-use Rattle.g1_core.specs.Prelude.{coded_option, Shape, IsShape, shape_code, slot_count, card_count}
-use Rattle.g1_core.specs.Prelude.{CardSet, PairSet, Mark, Clean, Dirty, Held, Cells, AreCells}
-use Rattle.g1_core.specs.Prelude.{Pairs, Ring, ring_code, new_ring}
+use Rattle.g1_core.specs.Prelude.{ℕ, List, [], Option, Some, None, length}
+use Rattle.g1_core.specs.Prelude.{nat_eq, Contains, All, IfSome, slice_index_or, refl, IsDistinct}
+use Rattle.g1_core.specs.Prelude.{filter_map, enumerate_from, Coded, code_by, coded×, coded_ℕ}
+use Rattle.g1_core.specs.Prelude.{coded_list, coded_option, Shape, IsShape, shape_code, slot_count}
+use Rattle.g1_core.specs.Prelude.{card_count, CardSet, PairSet, Mark, Clean, Dirty, Held, Cells}
+use Rattle.g1_core.specs.Prelude.{AreCells, Pairs, Ring, ring_code, new_ring}
 use Rattle.std.specs.FinSet as set
-use Rattle.g1_core.specs.Table.{Table, IsCovered, IsPending, AreOutside, refined, opening}
-use Rattle.g1_core.specs.declared.config.Settings.{Settings}
+pub use Rattle.g1_core.specs.Table.{Table}
+use Rattle.g1_core.specs.Table.{IsCovered, IsPending, AreOutside, refined, opening}
+pub use Rattle.g1_core.specs.declared.config.Settings.{Settings}
 use Rattle.g1_core.specs.Settings.{settings_code}
 
 -- what a refusal leaves as it was

@@ -1,7 +1,7 @@
 -- What a drain does.
 use Rattle.std.specs.Prelude.{◌≡◌, ◌≤◌, ◌<◌, ◌+◌, ◌*◌, ◌⊎◌, ◌↔◌, ◌∷◌, ◌++◌}
-use Rattle.g1_core.specs.Prelude.{ℕ, true, List, [], length, Contains, IsStrictlyIncreasing}
-use Rattle.g1_core.specs.Prelude.{reads_after, Ring, reset}
+use Rattle.g1_core.specs.Prelude.{ℕ, true, List, []}
+use Rattle.g1_core.specs.Prelude.{length, Contains, IsStrictlyIncreasing, reads_after, Ring, reset}
 use Rattle.std.specs.FinSet as set
 use Rattle.g1_core.specs.declared.reply.Drained.{Drained}
 use Rattle.g1_core.specs.declared.reply.Drained.TheVariants.{Cards, Short}

@@ -1,21 +1,23 @@
 -- What the crate takes from the libraries below it.
-pub use Rattle.std.proofs.Common.{[], ap, arith, below_more, Bool, cond, drop, eqb, Err, false}
-pub use Rattle.std.proofs.Common.{get_or, inl, inr, leb, length, List, map, None, Ok, Option, refl}
-pub use Rattle.std.proofs.Common.{Result, rules, Some, subst, suc, sym, take, true, vec_items}
-pub use Rattle.std.proofs.Common.{vec_len, zero, ℕ, ◌∙◌}
-pub use Rattle.std.proofs.Math.Nat.{div-div-eq-div-mul, mul-le-mul, mul-le-mul_right, mul-pos}
-pub use Rattle.std.proofs.Math.Nat.{mul_comm}
-pub use Rattle.std.proofs.lemmas.Bool.{and_from, and_parts, cases_Bool, cases_eq, cases_lt, eq-eqb}
-pub use Rattle.std.proofs.lemmas.Bool.{eqb-false, eqb-true, false_from_ne_true, le-ltb, leb-false}
-pub use Rattle.std.proofs.lemmas.Bool.{leb-true, lt-ltb, ne_eqb, not-true, or_cases, or_left}
-pub use Rattle.std.proofs.lemmas.Bool.{or_right, true≢false}
+pub use Rattle.std.proofs.Common.{[], add-one, ap, arith, below_more, Bool, cond, drop, drop-cons}
+pub use Rattle.std.proofs.Common.{eqb, Err, false, get_or, inl, inr, leb, length, List, map, None}
+pub use Rattle.std.proofs.Common.{Ok, Option, refl, Result, rules, set as list_set, Some, subst}
+pub use Rattle.std.proofs.Common.{suc, sym, take, true, vec_items, vec_len, zero, ℕ, ◌∙◌}
+pub use Rattle.std.proofs.Math.Nat.{mul-le-mul_right, mul-pos}
+pub use Rattle.std.proofs.lemmas.Bool.{and_from, and_parts, cases_Bool, cases_cond, cases_eq}
+pub use Rattle.std.proofs.lemmas.Bool.{cases_lt, eq-eqb, eqb-false, eqb-true, false_from_ne_true}
+pub use Rattle.std.proofs.lemmas.Bool.{le-ltb, leb-false, leb-true, lt-ltb, ne_eqb, not-true}
+pub use Rattle.std.proofs.lemmas.Bool.{or_cases, or_left, or_right, true_from_ne_false, true≢false}
+pub use Rattle.std.proofs.lemmas.Bool.Decides.{Decides-eqb}
 pub use Rattle.std.proofs.lemmas.Cmp.{eq_by_cmp_equiv, nat_cmp_total, nat_eq_equiv}
 pub use Rattle.std.proofs.lemmas.Grind.{common_steps, flat_map-append, fold-append}
 pub use Rattle.std.proofs.lemmas.List.{append-nil, append_assoc, drop-append-le, drop_all}
-pub use Rattle.std.proofs.lemmas.List.{get_or-map, get_or-replicate, get_or-set_other}
-pub use Rattle.std.proofs.lemmas.List.{get_or-set_same, get_or_default, get_or_past, length-append}
-pub use Rattle.std.proofs.lemmas.List.{length-map, length-replicate, length-set, length_push}
-pub use Rattle.std.proofs.lemmas.List.{map-append, set_comm, take-append-le, take_all, take_more}
+pub use Rattle.std.proofs.lemmas.List.{ext_get_or, get_or-append_right, get_or-drop, get_or-map}
+pub use Rattle.std.proofs.lemmas.List.{get_or-replicate, get_or-set_other, get_or-set_same}
+pub use Rattle.std.proofs.lemmas.List.{get_or_default, get_or_past, length-append, length-drop}
+pub use Rattle.std.proofs.lemmas.List.{length-map, length-replicate, length-set, length-take}
+pub use Rattle.std.proofs.lemmas.List.{length_push, map-append, map-set, set-append_right}
+pub use Rattle.std.proofs.lemmas.List.{set-get_or, set_comm, take-append-le, take_all, take_more}
 pub use Rattle.std.proofs.lemmas.List.Elements.{All-contains, All-nil, All-push, All-replicate}
 pub use Rattle.std.proofs.lemmas.List.Elements.{All-set, Contains-append_cases}
 pub use Rattle.std.proofs.lemmas.List.Elements.{Contains-append_left, Contains-append_right}
@@ -26,6 +28,8 @@ pub use Rattle.std.proofs.lemmas.List.FromFn.{length-enumerate_from, length-rang
 pub use Rattle.std.proofs.lemmas.List.Sums.{count_by-le-length, fold_more, sum_by-cons}
 pub use Rattle.std.proofs.lemmas.Map.Keys.{IsDistinct-push, IsDistinct-tail}
 pub use Rattle.std.proofs.lemmas.Map.Lookups.{exact_unsigned}
+pub use Rattle.std.proofs.lemmas.Map.Made.{AllPairs-from_IsDistinct, Contains-tail}
+pub use Rattle.std.proofs.lemmas.Map.Made.{IsDistinct-from_AllPairs}
 pub use Rattle.std.proofs.lemmas.Option.{get_or_from_slice_get, slice_get_read, slice_get_within}
 pub use Rattle.std.specs.Cmp.{Equal-is}
 pub use Rattle.std.specs.Coded.{code_by, Coded, coded_list, coded_option, coded_ℕ, coded×}
@@ -46,8 +50,8 @@ pub use Rattle.g1_hot.specs.Ring.{answer, cards_after, new_ring, offered, popped
 pub use Rattle.g1_hot.specs.Ring.{ring_code}
 pub use Rattle.g1_hot.specs.declared.offer.Offer.{Offer}
 pub use Rattle.g1_hot.specs.declared.offer.Offer.TheVariants.{Cold, Kept, Out}
-pub use Rattle.g1_layout.proofs.ShapeLemmas.{card_count_limit, card_of-in_row, card_of-row}
-pub use Rattle.g1_layout.proofs.ShapeLemmas.{card_of_below, IsInRow, region_of-row, region_of_below}
+pub use Rattle.g1_layout.proofs.ShapeLemmas.{card_count_limit, card_of-in_row, card_of_below}
+pub use Rattle.g1_layout.proofs.ShapeLemmas.{IsInRow, region_of-row, region_of_below}
 pub use Rattle.g1_layout.proofs.ShapeLemmas.{region_of_slot, row_of_card, row_of_slot}
 pub use Rattle.g1_layout.proofs.ShapeLemmas.{same_offset_below, same_offset_region}
 pub use Rattle.g1_layout.proofs.ShapeLemmas.{slot_count_limit}

@@ -1,8 +1,9 @@
 -- What a redirect changes.
 use Rattle.std.specs.Prelude.{◌≡◌, ◌≢◌, ◌≤◌, ◌↔◌, ◌+◌, ◌*◌, if◌then◌else◌}
-use Rattle.g1_core.specs.Prelude.{ℕ, List, [], Option, Some, None, Contains, length, fold}
-use Rattle.g1_core.specs.Prelude.{slice_set, slice_index_or, filter_map, flat_map, range_with_len}
-use Rattle.g1_core.specs.Prelude.{Shape, region_of_card, same_offset, reset}
+use Rattle.g1_core.specs.Prelude.{ℕ, List, [], Option}
+use Rattle.g1_core.specs.Prelude.{Some, None, Contains, length, fold, slice_set, slice_index_or}
+use Rattle.g1_core.specs.Prelude.{filter_map, flat_map, range_with_len, Shape, region_of_card}
+use Rattle.g1_core.specs.Prelude.{same_offset, reset}
 use Rattle.g1_core.specs.declared.redirection.Change.{Change}
 use Rattle.g1_core.specs.declared.reply.Redirected.{Redirected}
 use Rattle.g1_core.specs.declared.reply.Redirected.TheVariants.{Moved, Short}

@@ -1,6 +1,7 @@
 -- What a refinement of a lent buffer does.
 use Rattle.std.specs.Prelude.{◌≡◌, ◌≤◌, ◌+◌, ◌*◌, if◌then◌else◌}
-use Rattle.g1_core.specs.Prelude.{ℕ, false, List, [], Option, Some, None, length, take, reads_after}
+use Rattle.g1_core.specs.Prelude.{ℕ, false, List, [], Option}
+use Rattle.g1_core.specs.Prelude.{Some, None, length, take, reads_after}
 use Rattle.g1_core.specs.declared.reply.RefineReply.{RefineReply}
 use Rattle.g1_core.specs.Machine.{State, Machine}
 use Rattle.g1_core.specs.Turns.{Round, turns, start}

@@ -1,9 +1,10 @@
 -- The step of the plain table that each entry of a history is, and permitted runs.
 use Rattle.std.specs.Prelude.{◌≡◌, ◌≢◌, ◌∷◌, if◌then◌else◌, ◌==◌, ◌<◌, ◌≤◌}
-use Rattle.g1_core.specs.Prelude.{ℕ, List, [], Option, Some, None, length, take, drop, All}
-use Rattle.g1_core.specs.Prelude.{Contains, fold, not, slice_set, IfSome, IsStrictlyIncreasing}
-use Rattle.g1_core.specs.Prelude.{Kind, SameRegion, Null, AlreadyDirty, Logged, Shape, slot_count}
-use Rattle.g1_core.specs.Prelude.{card_count, card_of, region_of, region_of_card, CardSet}
+use Rattle.g1_core.specs.Prelude.{ℕ, List, [], Option}
+use Rattle.g1_core.specs.Prelude.{Some, None, length, take, drop, All, Contains, fold, not}
+use Rattle.g1_core.specs.Prelude.{slice_set, IfSome, IsStrictlyIncreasing, Kind, SameRegion, Null}
+use Rattle.g1_core.specs.Prelude.{AlreadyDirty, Logged, Shape, slot_count, card_count, card_of}
+use Rattle.g1_core.specs.Prelude.{region_of, region_of_card, CardSet}
 use Rattle.std.specs.FinSet as set
 use Rattle.g1_core.specs.declared.entry.Call.{Call}
 use Rattle.g1_core.specs.declared.entry.Call.TheVariants.{Store, Refine, Target, Pending, Members}

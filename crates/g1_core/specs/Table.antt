@@ -1,11 +1,12 @@
 -- The plain table of a heap: what each slot refers to, which cards are pending, and which pairs
 -- (card, region) are recorded. It knows no buffer, count, order or mark.
 use Rattle.std.specs.Prelude.{◌≡◌, ◌≢◌, ◌<◌, ◌==◌, ◌⊎◌, if◌then◌else◌, ◌&&◌}
-use Rattle.g1_core.specs.Prelude.{ℕ, Bool, List, Option, Some, None, IsTrue, replicate}
-use Rattle.g1_core.specs.Prelude.{slice_index_or, nat_eq, All, map, count_by, not, false}
-use Rattle.g1_core.specs.Prelude.{IsDistinct, filter_map, enumerate_from, Shape, slot_count}
-use Rattle.g1_core.specs.Prelude.{card_count, card_of, region_of, region_of_card, same_offset}
-use Rattle.g1_core.specs.Prelude.{HoldsIn, AreCardsOf, CardSet, PairSet, set_of}
+use Rattle.g1_core.specs.Prelude.{ℕ, Bool, List}
+use Rattle.g1_core.specs.Prelude.{Option, Some, None, IsTrue, replicate, slice_index_or, nat_eq}
+use Rattle.g1_core.specs.Prelude.{All, map, count_by, not, false, IsDistinct, filter_map}
+use Rattle.g1_core.specs.Prelude.{enumerate_from, Shape, slot_count, card_count, card_of, region_of}
+use Rattle.g1_core.specs.Prelude.{region_of_card, same_offset, HoldsIn, AreCardsOf, CardSet}
+use Rattle.g1_core.specs.Prelude.{PairSet, set_of}
 use Rattle.std.specs.FinSet as set
 
 pub record Table : Type 0 where

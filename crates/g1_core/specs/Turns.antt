@@ -1,7 +1,8 @@
 -- The turn of a card in refinement, and a round of turns.
 use Rattle.std.specs.Prelude.{◌∷◌, ◌++◌, if◌then◌else◌, ◌&&◌, ◌+◌}
-use Rattle.g1_core.specs.Prelude.{ℕ, Bool, List, [], Option, Some, None, not, fold, Offer, Cold}
-use Rattle.g1_core.specs.Prelude.{Kept, Out, Ring, answer, offered, set_of}
+use Rattle.g1_core.specs.Prelude.{ℕ, Bool, List, [], Option}
+use Rattle.g1_core.specs.Prelude.{Some, None, not, fold, Offer, Cold, Kept, Out, Ring, answer}
+use Rattle.g1_core.specs.Prelude.{offered, set_of}
 use Rattle.std.specs.FinSet as set
 use Rattle.g1_core.specs.Table.{refined}
 use Rattle.g1_core.specs.Machine.{State}

@@ -1,7 +1,8 @@
 -- What a check of a table finds: where a runtime's memory has something else, and where a reference
 -- is on a card that nothing would find again.
 use Rattle.std.specs.Prelude.{◌≢◌, ◌+◌, ◌-◌, ◌<◌, ◌≤◌}
-use Rattle.g1_core.specs.Prelude.{ℕ, List, Option, Some, None, slice_index_or, card_of, region_of}
+use Rattle.g1_core.specs.Prelude.{ℕ, List, Option, Some, None}
+use Rattle.g1_core.specs.Prelude.{slice_index_or, card_of, region_of}
 use Rattle.g1_core.specs.Table.{Table, Crosses, IsPending, IsRecorded, target_of}
 
 -- The least of `count` slots from the first one on of which it is so, or that it is so of none.

@@ -1,8 +1,9 @@
 //! Adoption: makes a core of a table that exists already, and lists the pairs of a core's table.
 ghost use Rattle.std.specs.Prelude.{◌≡◌, ◌<◌, ◌^◌, ◌++◌};
-ghost use Rattle.g1_core.specs.{All, IfSome, IfOk, OnOk, length, map, replicate, slot_count};
-ghost use Rattle.g1_core.specs.{card_count, list_at, AreTied, Clean, IsCovered, pending_of};
-ghost use Rattle.g1_core.specs.{IsPairOf, marks_for, table_with, adopted_machine};
+ghost use Rattle.g1_core.specs.{All, IfSome, IfOk, OnOk, length, map};
+ghost use Rattle.g1_core.specs.{replicate, slot_count, card_count, list_at, AreTied, Clean};
+ghost use Rattle.g1_core.specs.{IsCovered, pending_of, IsPairOf, marks_for, table_with};
+ghost use Rattle.g1_core.specs.{adopted_machine};
 ghost use Rattle.std.specs.FinSet as set;
 
 use crate::config::Config;
@@ -81,6 +82,7 @@ impl Core {
 }
 
 // The recorded pairs, by region.
+#[tactic(auto, using(crate::proofs::of_listed))]
 fn all_pairs(alloc: Global, layout: Layout, sets: &Sets) -> Result<Vec<(Card, Region)>, NoMemory>
     requires { sets.now.layout ≡ layout }
     ensures pairs { IfOk result (λ pairs. set.from_list pairs.items ≡ sets.now.pairs) }
@@ -153,6 +155,7 @@ fn set_references(heap: &mut Heap, refs: &[Option<Slot>])
 }
 
 // Marks cards dirty in a heap of clean cards, and returns how many.
+#[tactic(auto, using(crate::proofs::of_marked))]
 fn mark_cards(heap: &mut Heap, marked: &[bool]) -> u32
     requires clean { heap.old.marks ≡ replicate (card_count heap.old.layout) Clean }
     requires cards { length marked.now ≡ card_count heap.old.layout }

@@ -1,7 +1,7 @@
 //! The write barrier: what a reference store does to the card table and to its mutator's log.
 ghost use Rattle.std.specs.Prelude.{◌≡◌, ◌≢◌, ◌<◌};
-ghost use Rattle.g1_core.specs.{ℕ, [], false, IfSome, IsNone, slot_count, card_count, card_of};
-ghost use Rattle.g1_core.specs.{pushed, handed, fill_of};
+ghost use Rattle.g1_core.specs.{ℕ, [], false, IfSome, IsNone, slot_count};
+ghost use Rattle.g1_core.specs.{card_count, card_of, pushed, handed, fill_of};
 
 use crate::list::CardList;
 use crate::machinery::Core;
@@ -16,6 +16,7 @@ impl Core {
     ghost use Rattle.g1_core.specs.{IsLent};
 
     /// What kind of store it is, and the card that a logged one dirties.
+    #[tactic(auto, using(crate::proofs::of_a_mark))]
     fn kind(&self, slot: Slot, target: &Option<Slot>) -> (Kind, Option<Card>)
         requires slot { slot < slot_count self.now.state.table.layout }
         requires target { IfSome target.now (λ place.

@@ -1,7 +1,8 @@
 //! The clear: a region's remembered set is emptied once no reference enters the region.
 ghost use Rattle.std.specs.Prelude.{◌≡◌, ◌≢◌, ◌≤◌, ◌<◌, ◌+◌, ◌-◌, ◌*◌, ◌∷◌};
-ghost use Rattle.g1_core.specs.{ℕ, [], None, IfSome, IfNone, All, Contains, length, card_count};
-ghost use Rattle.g1_core.specs.{card_of, PairSet, list_at, AreTied, table_from, IsLeastOn, AreRead};
+ghost use Rattle.g1_core.specs.{ℕ, [], None, IfSome};
+ghost use Rattle.g1_core.specs.{IfNone, All, Contains, length, card_count, card_of, PairSet};
+ghost use Rattle.g1_core.specs.{list_at, AreTied, table_from, IsLeastOn, AreRead};
 ghost use Rattle.std.specs.FinSet as set;
 
 use crate::machinery::Core;

@@ -1,6 +1,7 @@
 //! The heap of a core with its remembered sets, and the refinement of one card.
 ghost use Rattle.std.specs.Prelude.{◌≡◌, ◌<◌, ◌≤◌, ◌+◌};
-ghost use Rattle.g1_core.specs.Prelude.{OnOk, OnErr, card_count, Clean, with_mark, with_reads};
+ghost use Rattle.g1_core.specs.Prelude.{OnOk, OnErr, card_count, Clean};
+ghost use Rattle.g1_core.specs.Prelude.{with_mark, with_reads};
 ghost use Rattle.g1_core.specs.Machine.{gained};
 
 use arrayvec::ArrayVec;

@@ -1,8 +1,8 @@
 //! The pause: what is still pending is refined, and then a remembered set is relied on.
 ghost use Rattle.std.specs.Prelude.{◌≡◌, ◌<◌, ◌≤◌, ◌+◌, ◌*◌, ◌++◌, ◌∷◌};
-ghost use Rattle.g1_core.specs.{[], ℕ, true, false, length, slice_index, slice_get, IfOk, OnOk};
-ghost use Rattle.g1_core.specs.{OnErr, IfSome, IfNone, Some, nat_lt, vec_len, vec_capacity, All};
-ghost use Rattle.g1_core.specs.{card_count};
+ghost use Rattle.g1_core.specs.{[], ℕ, true, false, length};
+ghost use Rattle.g1_core.specs.{slice_index, slice_get, IfOk, OnOk, OnErr, IfSome, IfNone, Some};
+ghost use Rattle.g1_core.specs.{nat_lt, vec_len, vec_capacity, All, card_count};
 ghost use Rattle.std.specs.FinSet as set;
 
 use crate::list::CardList;
@@ -80,7 +80,7 @@ impl Core {
     }
 
     /// Refines the dirty cards, ascending, and lists them after those that are there.
-    #[tactic(auto, using(crate::proofs::DrainLoopLemmas::dirty_none))]
+    #[tactic(auto, using(crate::proofs::DrainLemmas::dirty_none))]
     fn drain_dirty(&mut self, refined: &mut Vec<Card>) -> Result<(), NoMemory>
         requires room { vec_len refined.old + set.len self.old.state.table.pending
             ≤ vec_capacity refined.old }
@@ -119,9 +119,7 @@ impl Core {
         ensures err { OnErr result (IsShortDrain self.old refined.new.items self.new) }
     {
         self.drain_ring(refined)?;
-        let Ok(()) = self.drain_dirty(refined) else {
-            return Err(NoMemory);
-        };
+        self.drain_dirty(refined)?;
         Ok(())
     }
 

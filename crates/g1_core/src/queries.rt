@@ -63,11 +63,7 @@ impl Core {
         ensures step { (caller : ℕ)
             → IsStep self.now.state.table (pending_entry caller card result) self.now.state.table }
     {
-        match self.memory.heap.mark(card) {
-            Mark::Clean => return false,
-            Mark::Dirty => return true,
-            Mark::Held => return true,
-        }
+        self.memory.heap.mark(card) != Mark::Clean
     }
 
     /// Returns the cards of a region's remembered set as it is recorded, ascending, each once.

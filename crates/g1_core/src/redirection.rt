@@ -1,9 +1,10 @@
 //! The redirect: the references into a region are moved to another one, and its remembered set is
 //! emptied.
 ghost use Rattle.std.specs.Prelude.{◌≡◌, ◌≢◌, ◌≤◌, ◌<◌, ◌+◌, ◌*◌, ◌++◌};
-ghost use Rattle.g1_core.specs.Prelude.{ℕ, All, IfOk, OnOk, OnErr, length};
+ghost use Rattle.g1_core.specs.Prelude.{ℕ, All, IfOk, OnOk};
+ghost use Rattle.g1_core.specs.Prelude.{OnErr, length, slot_count, card_count, Cells, list_at};
+ghost use Rattle.g1_core.specs.Prelude.{AreTied};
 ghost use Rattle.std.specs.FinSet as set;
-ghost use Rattle.g1_core.specs.Prelude.{slot_count, card_count, Cells, list_at, AreTied};
 ghost use Rattle.g1_core.specs.Clearing.{AreRead};
 ghost use Rattle.g1_core.specs.Redirect.{changes_of, slots_of, slots_on, changed, AreGaining};
 
@@ -117,11 +118,8 @@ fn make_changes(heap: &mut Heap, changes: &[Change])
 }
 
 impl Core {
-    ghost use Rattle.g1_core.specs.Table.{moved_count};
-    ghost use Rattle.g1_core.specs.Machine.{IsLater};
-    ghost use Rattle.g1_core.specs.Run.{IsStep};
-    ghost use Rattle.g1_core.specs.Calls.{redirect_entry, DoesRedirect};
-    ghost use Rattle.g1_core.specs.Redirect.{IsMoved, AreMembersRead};
+    ghost use Rattle.g1_core.specs.{moved_count, IsLater, IsStep, redirect_entry, DoesRedirect};
+    ghost use Rattle.g1_core.specs.{IsMoved, AreMembersRead};
 
     // Moves every reference into a region, where nothing is pending, and returns how many slots
     // changed. The room for the changes and for the cards that they record is made first: if it is

@@ -1,7 +1,8 @@
 //! Refinement: the cards of a completed buffer take their turns, and the regions that each refers
 //! into are recorded.
 ghost use Rattle.std.specs.Prelude.{◌≡◌, ◌<◌, ◌≤◌, ◌+◌, ◌*◌, ◌++◌, ◌↔◌, if◌then◌else◌};
-ghost use Rattle.g1_core.specs.Prelude.{[], ℕ, false, IfOk, OnErr, IsTrue, length, slice_index_or};
+ghost use Rattle.g1_core.specs.Prelude.{[], ℕ};
+ghost use Rattle.g1_core.specs.Prelude.{false, IfOk, OnErr, IsTrue, length, slice_index_or};
 ghost use Rattle.g1_core.specs.Prelude.{vec_len, vec_capacity, option_map, card_count, Clean};
 ghost use Rattle.g1_core.specs.Prelude.{Dirty};
 ghost use Rattle.g1_core.specs.Turns.{refined_by, hot_by, skipped_by};
@@ -16,12 +17,8 @@ use g1_log::Buffer;
 use std::alloc::Global;
 
 impl Core {
-    ghost use Rattle.g1_core.specs.Prelude.{reads_after};
-    ghost use Rattle.g1_core.specs.Machine.{IsLater};
-    ghost use Rattle.g1_core.specs.Turns.{offer_to, state_after};
-    ghost use Rattle.g1_core.specs.Refinement.{IsTurned, AreCardsRead};
-    ghost use Rattle.g1_core.specs.Calls.{refine_entry, DoesRefine};
-    ghost use Rattle.g1_core.specs.Run.{IsStep};
+    ghost use Rattle.g1_core.specs.{reads_after, IsLater, offer_to, state_after, IsTurned, IsStep};
+    ghost use Rattle.g1_core.specs.{AreCardsRead, refine_entry, DoesRefine};
 
     /// Refines a completed buffer: its cards take their turns, oldest first. `None` changes nothing
     /// and takes no memory (ISMM 2004, section 2.2, "Remembered Set Maintenance"; docs/rules.md,
@@ -49,10 +46,9 @@ impl Core {
         ensures err { OnErr result (self.new ≡ self.old) }
         ensures later { IsLater self.old self.new }
     {
-        let alloc = self.alloc;
         let _reads = self.reads();
         let Some(buffer) = buffer else {
-            return Ok(idle(alloc));
+            return Ok(idle(self.alloc));
         };
         let reply = self.turn_all(buffer.cards())?;
         let _after = self.layout();
@@ -131,11 +127,7 @@ fn is_dirty(heap: &Heap, card: Card) -> bool
     let Some(card) = layout.card(card.number()) else {
         return false;
     };
-    match heap.mark(card) {
-        Mark::Clean => return false,
-        Mark::Dirty => return true,
-        Mark::Held => return false,
-    }
+    heap.mark(card) == Mark::Dirty
 }
 
 /// The reply if there was no buffer.
@@ -197,18 +189,11 @@ impl Turns {
             return;
         };
         match offer {
-            Offer::Cold => {
-                self.refined.push_reserved(card);
-                return;
-            }
-            Offer::Kept => {
-                self.hot += 1;
-                return;
-            }
+            Offer::Cold => self.refined.push_reserved(card),
+            Offer::Kept => self.hot += 1,
             Offer::Out(oldest) => {
                 self.hot += 1;
                 self.refined.push_reserved(oldest);
-                return;
             }
         }
     }

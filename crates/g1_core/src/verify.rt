@@ -1,8 +1,8 @@
 //! Checks for a debug build: of the table against what a runtime's memory has, and of the cards.
 ghost use Rattle.std.specs.Prelude.{◌≡◌, ◌+◌, ◌<◌, ◌≤◌, ◌↔◌};
 ghost use Rattle.g1_core.specs.Prelude.{IsTrue, IfSome, length, map};
-ghost use Rattle.std.specs.FinSet as set;
 ghost use Rattle.g1_core.specs.Prelude.{slot_count, card_count};
+ghost use Rattle.std.specs.FinSet as set;
 
 use crate::machinery::Core;
 use g1_layout::{Card, Layout, Region, Slot};
@@ -43,8 +43,7 @@ impl Reference for u32 {
 }
 
 impl Core {
-    ghost use Rattle.g1_core.specs.Machine.{IsOnlyRead};
-    ghost use Rattle.g1_core.specs.Verify.{IsFirst, IsMissing, Differs};
+    ghost use Rattle.g1_core.specs.{IsOnlyRead, IsFirst, IsMissing, Differs};
 
     /// Returns the least slot that refers to something else than a runtime's memory does, or `None`
     /// if there is none. `memory` is what that has in as many slots from `first` on.

@@ -1,8 +1,7 @@
 -- Stores of a racer, each after the one before.
 use Rattle.std.specs.Prelude.{◌≡◌, ◌≢◌, ◌+◌, ◌<◌, ◌≤◌, ◌∷◌, ◌++◌}
-use Rattle.g1_handles.specs.{rules, inl, inr, ℕ, suc, Bool, false, cond, List, [], length, take, slice_index_or, refl, sym, ap, ◌∙◌, subst, arith, length-append, take-suc, array_vec_len, Kind, length-take, get_or_default, slot_card, is_logged, race_shape, Race, race_layout, Refusal, BatchEnd, Whole, Stopped, Full, Store, IsStoreOf, reference_of, Stores, StoresAll, CanStoreAll, IsEnd, SaysNoStore}
-use Rattle.std.proofs.Common.{true}
-use Rattle.g1_handles.specs.declared.code.Refusal.TheVariants as refusal
+use Rattle.g1_handles.specs.{rules, inl, inr, ℕ, suc, Bool, false, cond, List, [], length, take, slice_index_or, refl, sym, ap, ◌∙◌, subst, arith, length-append, take-suc, array_vec_len, Kind, length-take, get_or_default, slot_card, is_logged, race_shape, Race, race_layout, Reason, BatchEnd, Whole, Stopped, Full, Store, IsStoreOf, reference_of, Stores, StoresAll, CanStoreAll, IsEnd, SaysNoStore, true}
+use Rattle.g1_handles.specs.declared.code.Reason.TheVariants as refusal
 use Rattle.g1_handles.specs.Racing.{Racing}
 
 -- one store more
@@ -32,7 +31,7 @@ stores_logged a b (s ∷ ss) (c, k, h, rest) =
     omega (arith, one_more a.racer.log.items c.racer.log.items (slot_card (race_shape a.race) s.slot) (is_logged k) h.log, stores_logged c b ss rest)
 
 -- why there is no next store
-pub stores_end : (a b : Racing) (ss : List Store) (i : ℕ) (d : Store) (r : Refusal) (end : BatchEnd) → i < length ss → StoresAll a (take i ss) b
+pub stores_end : (a b : Racing) (ss : List Store) (i : ℕ) (d : Store) (r : Reason) (end : BatchEnd) → i < length ss → StoresAll a (take i ss) b
     → SaysNoStore b.race b.racer (slice_index_or ss i d).slot (slice_index_or ss i d).target r → (r ≡ refusal.LogFull → end ≡ Full) → (r ≢ refusal.LogFull → end ≡ Stopped) → IsEnd end a ss i b
 stores_end a b ss i d r end below first (inl (e, full)) at_full else =
     subst (λ (x : BatchEnd). IsEnd x a ss i b) (sym (at_full e)) (below, full)

@@ -1,6 +1,6 @@
 -- What a call on the handle of a heap says once its result is known.
 use Rattle.std.specs.Prelude.{◌≡◌}
-use Rattle.g1_handles.specs.{refl, ap, subst, inl, inr, props, Option, Some, None, Result, Ok, Err, All, length, vec_len, arc_value, is_prop→PathP, race_id, race_layout, Pause, Refusal, RacingHeap, IsSameBut, IsSameHeap, IsCalled, IsHeapRefused}
+use Rattle.g1_handles.specs.{refl, ap, subst, inl, inr, props, Option, Some, None, Result, Ok, Err, All, length, vec_len, arc_value, is_prop→PathP, race_id, race_layout, Pause, Reason, RacingHeap, IsSameBut, IsSameHeap, IsCalled, IsHeapRefused}
 use Rattle.g1_handles.specs.declared.heap.racing_heap.AtPause.{AtPause}
 use Rattle.g1_handles.specs.declared.heap.racing_heap.RacingHeap.TheVariants as heap
 use Rattle.g1_handles.proofs.VisitLemmas.{is_ok, err_of}
@@ -23,7 +23,7 @@ same_at a b same e = λ i. record {
   readers_wait = is_prop→PathP (λ j. All (λ m. arc_value m.value.race ≡ arc_value (same.race j)) (same.readers j).idle.items) (λ j. hlevel props) b.readers_wait a.readers_wait i;
 }
 
-module _ {A : Type 0} (Q : Pause → Result A Refusal → Pause → Type 0) where
+module _ {A : Type 0} (Q : Pause → Result A Reason → Pause → Type 0) where
   -- a call that answers was made at a pause
   pub called_ok : (P : Pause → Pause → Type 0) (old new : Option RacingHeap) (answer : A)
       → ((p q : Pause) → Q p (Ok answer) q → P p q) → IsCalled Q old (Ok answer) new → IsSameHeap old new P
@@ -36,7 +36,7 @@ module _ {A : Type 0} (Q : Pause → Result A Refusal → Pause → Type 0) wher
   called_ok P (Some (heap.Paused a)) (Some (heap.Paused b)) answer so is = (is.0, so a.pause b.pause is.1)
 
   -- a call that is refused has a reason
-  pub called_why : (Why : Pause → Refusal → Type 0) (old new : Option RacingHeap) (r : Refusal)
+  pub called_why : (Why : Pause → Reason → Type 0) (old new : Option RacingHeap) (r : Reason)
       → ((p q : Pause) → Q p (Err r) q → Why p r) → IsCalled Q old (Err r) new → IsHeapRefused old Why r
   called_why Why None new r so is = inl (ap (err_of r) is.1, refl)
   called_why Why (Some (heap.Racing b)) new r so is = inr (inl (ap (err_of r) is.1, inl tt))
@@ -47,7 +47,7 @@ module _ {A : Type 0} (Q : Pause → Result A Refusal → Pause → Type 0) wher
   called_why Why (Some (heap.Paused a)) (Some (heap.Paused b)) r so is = inr (inr (so a.pause b.pause is.1))
 
   -- and nothing has changed where it keeps the pause as it is
-  pub called_same : (old new : Option RacingHeap) (r : Result A Refusal)
+  pub called_same : (old new : Option RacingHeap) (r : Result A Reason)
       → ((p q : Pause) → Q p r q → q ≡ p) → IsCalled Q old r new → new ≡ old
   called_same None new r so is = is.0
   called_same (Some (heap.Racing b)) new r so is = is.0

@@ -1,6 +1,6 @@
 -- A member and its role.
 use Rattle.std.specs.Prelude.{◌≡◌, ◌<◌, ◌∷◌}
-use Rattle.g1_handles.specs.{List, [], Some, None, All, map, refl, ap, ◌∙◌, sym, subst, props, length-map, get_or-map, All-map, Option, Result, Ok, Err, OnErr, IfErr, IsErrAnd, IsSome, IsSomeAnd, ForSome, arc_value, is_prop→PathP, Race, race_id, Refusal, Ghosts, Member, IsOf}
+use Rattle.g1_handles.specs.{List, [], Some, None, All, map, refl, ap, ◌∙◌, sym, subst, props, length-map, get_or-map, All-map, Option, Result, Ok, Err, OnErr, IfErr, IsErrAnd, IsSome, IsSomeAnd, ForSome, arc_value, is_prop→PathP, Race, race_id, Reason, Ghosts, Member, IsOf, RacerMember, SweeperMember, ReaderMember}
 
 -- a member is its share, its number, its counts and its role, with padding
 pub same_member : {P : Type 0} {g : Ghosts P} (m n : Member P g) → m.race ≡ n.race → m.number ≡ n.number → m.counts ≡ n.counts → m.role ≡ n.role → m.apart ≡ n.apart → m ≡ n
@@ -12,6 +12,18 @@ same_member {P} {g} m n race number counts role apart = λ i. record {
   apart = apart i;
   same = is_prop→PathP (λ j. ForSome (role j) (λ p. g.of p ≡ race_id (arc_value (race j)))) (λ j. hlevel props) m.same n.same i;
 }
+
+-- the same of each kind of member, as tactics apply it
+pub same_racer : (m n : RacerMember) → m.race ≡ n.race → m.number ≡ n.number → m.counts ≡ n.counts → m.role ≡ n.role → m.apart ≡ n.apart → m ≡ n
+same_racer = same_member
+
+pub same_sweeper : (m n : SweeperMember) → m.race ≡ n.race → m.number ≡ n.number → m.counts ≡ n.counts → m.role ≡ n.role → m.apart ≡ n.apart → m ≡ n
+same_sweeper = same_member
+
+pub same_reader : (m n : ReaderMember) → m.race ≡ n.race → m.number ≡ n.number → m.counts ≡ n.counts → m.role ≡ n.role → m.apart ≡ n.apart → m ≡ n
+same_reader = same_member
+
+pub ruleset same_members = (same_racer, same_sweeper, same_reader)
 
 -- a call that is refused leaves what it was made on
 pub on_err : {A E P Q : Type 0} (r : Result A E) → (P → Q) → OnErr r P → OnErr r Q
@@ -52,7 +64,7 @@ found {A} {T} f P xs ys e all k d below =
     subst (λ o. IsSomeAnd o P) (get_or-map f xs k d) (has k (f d) (subst (λ n. k < n) (sym (length-map xs f)) below))
 
 -- what is so of a look's refusal is so of the one that is passed on
-pub passed : {A B : Type 0} (Q P : Refusal → Type 0) (looked : Result A Refusal) (answer : Result B Refusal) (e : Refusal) → looked ≡ Err e → IfErr looked Q
+pub passed : {A B : Type 0} (Q P : Reason → Type 0) (looked : Result A Reason) (answer : Result B Reason) (e : Reason) → looked ≡ Err e → IfErr looked Q
     → IsErrAnd answer (λ x. x ≡ e) → (Q e → P e) → IfErr answer P
 passed Q P looked (Ok b) e is why same so = tt
 passed Q P looked (Err x) e is why same so = subst P (sym same) (so (subst (λ r. IfErr r Q) is why))

@@ -1,6 +1,7 @@
 -- What proofs by hand take from the logic below the libraries.
-pub use Rattle.std.proofs.alloc.Calls.{Al}
+pub use Rattle.std.proofs.alloc.Calls.{Al, Goes-blank}
 pub use Rattle.std.proofs.cell.Inside.{Good, one}
+pub use Rattle.std.proofs.raw_atomic.Walks.{proved_at, leaves}
 pub use Rattle.std_alloc.proofs.BoxSteps.Steps.{box_in, box_out}
 pub use Rattle.std_alloc.proofs.ResultValues.{and_tt}
 pub use Rattle.std_alloc.proofs.SendSync.{lies, quiet}
@@ -10,13 +11,14 @@ pub use denote.Param.{bounded, layout, param}
 pub use denote.Param.Laws.{Laws, param_laws}
 pub use denote.Param.Send.{AllSend, IsSend, owning_send, sendable, struct_send}
 pub use denote.RattleType.{owns, RattleType, Valss}
-pub use denote.Signature.{type_at, types_at}
+pub use denote.Signature.{plain, type_at, types_at}
 pub use denote.Steps.{heard, nothing, only}
 pub use denote.Struct.Owning.{fields, to}
 pub use denote.Struct.Struct.{exits_of, Struct, within}
 pub use denote.Triple.Call.{calls_at, calls_at_last}
+pub use denote.Triple.Entry.{alive}
 pub use denote.Triple.Spec.{triple_of}
-pub use denote.Triple.Walked.{Goes-dropped}
+pub use denote.Triple.Walked.{Goes-dropped, Stays, stay_dropped, walk_of}
 pub use mir.MapTy.{inst_fn}
 pub use mir.Syntax.{a_type, aggregate, assign, copy, dcons, dnil, field, Fn, impl, local, place, return, rv_opd, seq, Sym, tnil, Ty, ty_ptr, value_local}
 pub use mir.Val.{has_ty, of_list, Val, vcons, vnil, vnull, vptr, vstruct, WT}

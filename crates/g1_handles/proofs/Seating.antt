@@ -1,6 +1,6 @@
 -- Members that leave the boxes that waited for them, the last first.
-use Rattle.std.specs.Prelude.{◌≡◌, ◌<◌, ◌-◌, ◌∷◌, drop}
-use Rattle.g1_handles.specs.{ℕ, suc, List, Some, length, map, set, take, slice_index_or, ap, ◌∙◌, sym, subst, arith, get_or-take, get_or-set_same, length-set}
+use Rattle.std.specs.Prelude.{◌≡◌, ◌<◌, ◌-◌, ◌∷◌}
+use Rattle.g1_handles.specs.{drop, ℕ, suc, List, Some, length, map, set, take, slice_index_or, ap, ◌∙◌, sym, subst, arith, get_or-take, get_or-set_same, length-set}
 use Rattle.std.proofs.Common.{drop-cons, drop-set-lt}
 
 -- what is popped stands last in what is left of a list

@@ -1,9 +1,9 @@
 -- The cards of a region's set, one after another.
-use Rattle.std.specs.Prelude.{◌≡◌, ◌+◌, ◌<◌, ◌≤◌, ◌∷◌, ◌++◌, drop}
-use Rattle.g1_handles.specs.{ℕ, List, [], length, set, take, Some, None, refl, sym, ap, ◌∙◌, subst, inl, inr, arith, cases_lt, length-set, length_push, take_more_set, Table, IsRecorded, AreMembers, IsNextMember, Tells, Told, First, HasFirst, Listed, Members, NoRoom, Lists, IsListOf}
+use Rattle.std.specs.Prelude.{◌≡◌, ◌+◌, ◌<◌, ◌≤◌, ◌∷◌, ◌++◌}
+use Rattle.g1_handles.specs.{drop, ℕ, List, [], length, set, take, Some, None, refl, sym, ap, ◌∙◌, subst, inl, inr, arith, cases_lt, length-set, length_push, take_more_set, Table, IsRecorded, AreMembers, IsNextMember, TellsSet, SetTold, First, HasFirst, Listed, Members, NoRoom, Lists, IsListOf}
 use Rattle.std.proofs.lemmas.List.{set_past, take_all, take-append-drop, take-append-le, length-drop}
 use Rattle.g1_race.proofs.Gathering.{Gathered, gathered_none, gathered_in, gathered_out}
-use Rattle.g1_handles.specs.declared.heap.sets.Told.TheVariants.{All}
+use Rattle.g1_handles.specs.declared.heap.sets.SetTold.TheVariants.{All}
 
 -- so many cards are the region's below a number, and the array has the first of them, as far as it reaches
 pub record Shows (t : Table) (region from count : ℕ) (array : List ℕ) : Type 0 where
@@ -66,7 +66,7 @@ shows_first t region from count array s none more =
     }
 
 -- what is so of a list is so of what C is told of it
-pub tells_so : (P Q : List ℕ → Type 0) (old : List ℕ) (told : Told) (new : List ℕ) → ((cs : List ℕ) → P cs → Q cs) → Tells P old told new → Tells Q old told new
+pub tells_so : (P Q : List ℕ → Type 0) (old : List ℕ) (told : SetTold) (new : List ℕ) → ((cs : List ℕ) → P cs → Q cs) → TellsSet P old told new → TellsSet Q old told new
 tells_so P Q old (All count) new so h = (so _ h.0, h.1)
 tells_so P Q old (First count) new so h = (record { rest = h.0.rest; so = so _ h.0.so; counted = h.0.counted; more = h.0.more }, h.1)
 

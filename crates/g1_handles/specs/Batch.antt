@@ -1,14 +1,14 @@
 -- Several stores one after the other.
 use Rattle.std.specs.Prelude.{◌<◌, ◌∷◌, ◌++◌}
-use Rattle.g1_handles.specs.Prelude.{ℕ, List, [], length, slice_index_or, Option, Some, None, fold}
-use Rattle.g1_handles.specs.Prelude.{Kind, Null, SameRegion, AlreadyDirty, Logged, card_of, Machine}
-use Rattle.g1_handles.specs.Prelude.{kind_of, stored_machine}
+use Rattle.g1_handles.specs.Prelude.{ℕ, List, [], length, slice_index_or, Option}
+use Rattle.g1_handles.specs.Prelude.{Some, None, fold, Kind, Null, SameRegion, AlreadyDirty, Logged}
+use Rattle.g1_handles.specs.Prelude.{card_of, Machine, kind_of, stored_machine}
 use Rattle.g1_layout.specs.Shape as layout
 use Rattle.g1_handles.specs.declared.one_core.batch.Store.{Store}
 use Rattle.g1_handles.specs.Codes.{reference_of, IsStoreOf}
 
 -- the machine after some stores, and the cards that they logged, in order
-pub record Made : Type 0 where
+pub record Batch : Type 0 where
   pub machine : Machine
   pub cards : List ℕ
 
@@ -24,7 +24,7 @@ cards_of cards None = cards
 cards_of cards (Some card) = cards ++ card ∷ []
 
 -- one store more
-abbrev pub made : Made → Store → Made
+abbrev pub made : Batch → Store → Batch
 made m store = record {
   machine = stored_machine m.machine store.slot (reference_of store.target);
   cards = cards_of m.cards (logged_card
@@ -33,7 +33,7 @@ made m store = record {
 }
 
 -- these stores, each after the one before
-abbrev pub made_all : Machine → List Store → Made
+abbrev pub made_all : Machine → List Store → Batch
 made_all m stores = fold made (record { machine = m; cards = [] }) stores
 
 -- The store at this place names a slot or a target that the heap does not have.

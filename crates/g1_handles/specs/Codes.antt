@@ -1,14 +1,15 @@
 -- The words that cross to C, and what a call on what a handle holds does.
 use Rattle.std.specs.Prelude.{◌≡◌, ◌⊎◌, ◌<◌, ◌==◌, if◌then◌else◌}
-use Rattle.g1_handles.specs.Prelude.{ℕ, Option, Some, None, IfSome, IsSomeAnd, Shape, slot_count}
-use Rattle.g1_handles.specs.Prelude.{Kind, Null, SameRegion, AlreadyDirty, Logged, ClearReply}
-use Rattle.g1_handles.specs.Prelude.{Cleared, Pending, StillReferenced, Settings, Result, Err}
+use Rattle.g1_handles.specs.Prelude.{ℕ, Option, Some, None}
+use Rattle.g1_handles.specs.Prelude.{IfSome, IsSomeAnd, Shape, slot_count, Kind, Null, SameRegion}
+use Rattle.g1_handles.specs.Prelude.{AlreadyDirty, Logged, ClearReply, Cleared, Pending}
+use Rattle.g1_handles.specs.Prelude.{StillReferenced, Settings, Result, Err}
 use Rattle.g1_handles.specs.declared.one_core.open.Counts.{Counts}
-use Rattle.g1_handles.specs.declared.code.Refusal.{Refusal}
-use Rattle.g1_handles.specs.declared.code.Refusal.TheVariants as refusal
+use Rattle.g1_handles.specs.declared.code.Reason.{Reason}
+use Rattle.g1_handles.specs.declared.code.Reason.TheVariants as refusal
 
 -- the word of a refusal
-abbrev pub refusal_word : Refusal → ℕ
+abbrev pub refusal_word : Reason → ℕ
 refusal_word refusal.NotOpen = 8
 refusal_word refusal.AlreadyOpen = 9
 refusal_word refusal.NoMemory = 10
@@ -30,8 +31,8 @@ refusal_word refusal.NotRacing = 26
 refusal_word refusal.BadWord = 27
 
 -- The word is that of a refusal of which this holds.
-abbrev pub IsRefusal : ℕ → (Refusal → Type 0) → Type 0
-IsRefusal word Q = (r : Refusal) × (word ≡ refusal_word r) × Q r
+abbrev pub IsRefusal : ℕ → (Reason → Type 0) → Type 0
+IsRefusal word Q = (r : Reason) × (word ≡ refusal_word r) × Q r
 
 -- the word of a kind of store
 abbrev pub kind_word : Kind → ℕ
@@ -72,8 +73,8 @@ Between old new Q = OfOpen old (λ o. OfOpen new (Q o))
 
 -- a call, which leads from one value to another with this result, was made on what a handle holds,
 -- or was refused since the handle is closed
-abbrev pub IsVisit : {V A : Type 0} → (V → Result A Refusal → V → Type 0)
-    → Option V → Result A Refusal → Option V → Type 0
+abbrev pub IsVisit : {V A : Type 0} → (V → Result A Reason → V → Type 0)
+    → Option V → Result A Reason → Option V → Type 0
 IsVisit Q None r new = (new ≡ None) × (r ≡ Err refusal.NotOpen)
 IsVisit Q (Some old) r new = OfOpen new (Q old r)
 

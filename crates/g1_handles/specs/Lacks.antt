@@ -1,38 +1,34 @@
 -- What a heap of a layout lacks, and by which refusal a call says so.
 use Rattle.std.specs.Prelude.{◌≡◌, ◌⊎◌, ◌+◌, ◌<◌, ◌≤◌}
-use Rattle.g1_handles.specs.Prelude.{ℕ, List, All, Shape, slot_count, card_count}
-use Rattle.g1_handles.specs.declared.code.Refusal.{Refusal}
-use Rattle.g1_handles.specs.declared.code.Refusal.TheVariants as refusal
+use Rattle.g1_handles.specs.Prelude.{ℕ, Shape, slot_count, card_count}
+use Rattle.g1_handles.specs.declared.code.Reason.{Reason}
+use Rattle.g1_handles.specs.declared.code.Reason.TheVariants as refusal
 use Rattle.g1_handles.specs.Codes.{IsStoreOf}
 
 -- no slot has this number
-abbrev pub LacksSlot : Shape → ℕ → Refusal → Type 0
+abbrev pub LacksSlot : Shape → ℕ → Reason → Type 0
 LacksSlot l slot r = (r ≡ refusal.NoSlot) × (slot_count l ≤ slot)
 
 -- no card has this number
-abbrev pub LacksCard : Shape → ℕ → Refusal → Type 0
+abbrev pub LacksCard : Shape → ℕ → Reason → Type 0
 LacksCard l card r = (r ≡ refusal.NoCard) × (card_count l ≤ card)
 
 -- no region has this number
-abbrev pub LacksRegion : Shape → ℕ → Refusal → Type 0
+abbrev pub LacksRegion : Shape → ℕ → Reason → Type 0
 LacksRegion l region r = (r ≡ refusal.NoRegion) × (l.regions ≤ region)
 
 -- there are not as many slots from the first one on
-abbrev pub LacksSlots : Shape → ℕ → ℕ → Refusal → Type 0
+abbrev pub LacksSlots : Shape → ℕ → ℕ → Reason → Type 0
 LacksSlots l first count r = (r ≡ refusal.NoSlot) × (slot_count l < first + count)
 
 -- one of the two ranges of as many slots from there on leaves the heap
-abbrev pub LacksRanges : Shape → ℕ → ℕ → ℕ → ℕ → Refusal → Type 0
+abbrev pub LacksRanges : Shape → ℕ → ℕ → ℕ → ℕ → Reason → Type 0
 LacksRanges l first count other others r = LacksSlots l first count r ⊎ LacksSlots l other others r
 
 -- there is no such slot, or no such place of the target
-abbrev pub LacksPlace : Shape → ℕ → ℕ → Refusal → Type 0
+abbrev pub LacksPlace : Shape → ℕ → ℕ → Reason → Type 0
 LacksPlace l slot target r = (r ≡ refusal.NoSlot) × (IsStoreOf l slot target → ⊥)
 
--- one of these cards is not there
-abbrev pub LacksCards : Shape → List ℕ → Refusal → Type 0
-LacksCards l cards r = (r ≡ refusal.NoCard) × (All (λ card. card < card_count l) cards → ⊥)
-
 -- the card or the region is not there
-abbrev pub LacksPair : Shape → ℕ → ℕ → Refusal → Type 0
+abbrev pub LacksPair : Shape → ℕ → ℕ → Reason → Type 0
 LacksPair l card region r = LacksCard l card r ⊎ LacksRegion l region r

@@ -35,12 +35,12 @@ pub use HeapCalls.*
 pub use Sets.*
 pub use Readers.*
 pub use Phases.*
-pub use declared.code.Refusal.{Refusal}
+pub use declared.code.Reason.{Reason}
 pub use declared.heap.racing_heap.BeingRead.{BeingRead}
 pub use declared.heap.racing_heap.RacingHeap.{RacingHeap}
 pub use declared.heap.racing_heap.UnderWay.{UnderWay}
-pub use declared.heap.sets.Told.{Told}
-pub use declared.heap.sets.Told.TheVariants.{First}
+pub use declared.heap.sets.SetTold.{SetTold}
+pub use declared.heap.sets.SetTold.TheVariants.{First}
 pub use declared.member.Member.{Member}
 pub use declared.member.Role.{Ghosts}
 pub use declared.member.batch.BatchEnd.{BatchEnd}

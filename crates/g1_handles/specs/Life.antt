@@ -1,16 +1,16 @@
 -- The life of a heap whose stores race.
-use Rattle.std.specs.Prelude.{◌≡◌, ◌⊎◌, ◌≤◌}
-use Rattle.g1_handles.specs.Prelude.{ℕ, List, [], All, Any, Option, Some, None, IsSome, IsSomeAnd}
-use Rattle.g1_handles.specs.Prelude.{Box, Vec, length, map, replicate, vec_len, arc_value, Global}
-use Rattle.g1_handles.specs.Prelude.{IsShape, opening, IsCovered, beginning, View, Race}
-use Rattle.g1_handles.specs.Prelude.{Racer, race_id, race_layout, racer_log, IsNewRacer, Contains}
-use Rattle.g1_handles.specs.Prelude.{IsNewSweeper, racer_view, sweeper_view, race_shape, Pause}
-use Rattle.g1_handles.specs.Prelude.{table_at, start_at, ended_of}
+use Rattle.std.specs.Prelude.{◌≡◌, ◌⊎◌, ◌≤◌, ◌↔◌}
+use Rattle.g1_handles.specs.Prelude.{ℕ, List, [], All, Any, Option, Some, None}
+use Rattle.g1_handles.specs.Prelude.{IsSome, IsSomeAnd, Box, Vec, length, map, replicate, vec_len}
+use Rattle.g1_handles.specs.Prelude.{arc_value, Global, IsShape, opening, IsCovered, beginning}
+use Rattle.g1_handles.specs.Prelude.{View, Race, Racer, race_id, race_layout, racer_log, IsNewRacer}
+use Rattle.g1_handles.specs.Prelude.{Contains, IsNewSweeper, race_shape, Pause, table_at, start_at}
+use Rattle.g1_handles.specs.Prelude.{ended_of, IsKnown, IsOver, race_begun}
 use Rattle.g1_layout.specs.Shape as layout
 use Rattle.g1_core.specs.Adoption.{IsPairOf}
 use Rattle.g1_race.specs.Drain.{began}
-use Rattle.g1_handles.specs.declared.code.Refusal.{Refusal}
-use Rattle.g1_handles.specs.declared.code.Refusal.TheVariants as refusal
+use Rattle.g1_handles.specs.declared.code.Reason.{Reason}
+use Rattle.g1_handles.specs.declared.code.Reason.TheVariants as refusal
 use Rattle.g1_handles.specs.declared.member.Role.{Ghosts}
 use Rattle.g1_handles.specs.declared.member.Member.{Member}
 use Rattle.g1_handles.specs.declared.heap.racing_heap.AtPause.{AtPause}
@@ -20,8 +20,7 @@ use Rattle.g1_handles.specs.declared.heap.racing_heap.RacingHeap.{RacingHeap}
 use Rattle.g1_handles.specs.declared.heap.racing_heap.RacingHeap.TheVariants as heap
 use Rattle.g1_handles.specs.declared.member.counts.MemberCounts.{MemberCounts}
 use Rattle.g1_handles.specs.Own.{RacerMember, SweeperMember}
-use Rattle.g1_handles.specs.Racing.{AreClosed, racer_knows, sweeper_knows, role_in, IsAmong, IsOf}
-use Rattle.g1_handles.specs.Racing.{IsOfWith, IsEndOf, counts_of}
+use Rattle.g1_handles.specs.Racing.{AreClosed, role_in, IsAmong, IsOf, IsOfWith, counts_of}
 use Rattle.g1_handles.specs.Counting.{no_counts}
 use Rattle.g1_handles.specs.Refusals.{SaysNoMember}
 
@@ -64,24 +63,24 @@ IsSameHeap old new Q =
     OfAtPause old (λ a. OfAtPause new (λ b. IsSameBut a b × Q a.pause b.pause))
 
 -- the heap's handle is closed
-abbrev pub SaysNoHeap : Option RacingHeap → Refusal → Type 0
+abbrev pub SaysNoHeap : Option RacingHeap → Reason → Type 0
 SaysNoHeap h r = (r ≡ refusal.NotOpen) × (h ≡ None)
 
 -- the heap's members are out
-abbrev pub IsRacing : Option RacingHeap → Type 0
-IsRacing h = OfRacing h (λ b. Unit {0})
+abbrev pub HasRacers : Option RacingHeap → Type 0
+HasRacers h = OfRacing h (λ b. Unit {0})
 
 -- readers read the heap
-abbrev pub IsRead : Option RacingHeap → Type 0
-IsRead h = OfRead h (λ r. Unit {0})
+abbrev pub HasReaders : Option RacingHeap → Type 0
+HasReaders h = OfRead h (λ r. Unit {0})
 
 -- the heap's members are out, or readers read it
-abbrev pub SaysNotPaused : Option RacingHeap → Refusal → Type 0
-SaysNotPaused h r = (r ≡ refusal.NotPaused) × (IsRacing h ⊎ IsRead h)
+abbrev pub SaysNotPaused : Option RacingHeap → Reason → Type 0
+SaysNotPaused h r = (r ≡ refusal.NotPaused) × (HasRacers h ⊎ HasReaders h)
 
 -- the heap is at a pause, and readers may read it
-abbrev pub SaysNotRacing : Option RacingHeap → Refusal → Type 0
-SaysNotRacing h r = (r ≡ refusal.NotRacing) × (OfPaused h (λ p. Unit {0}) ⊎ IsRead h)
+abbrev pub SaysNotRacing : Option RacingHeap → Reason → Type 0
+SaysNotRacing h r = (r ≡ refusal.NotRacing) × (OfPaused h (λ p. Unit {0}) ⊎ HasReaders h)
 
 -- a heap may have this many racers and sweepers
 pub record AreHeapCounts (racers sweepers : ℕ) : Type 0 where
@@ -97,21 +96,16 @@ pub record IsNewHeap (l : layout.Shape) (racers sweepers : ℕ) (p : Pause) : Ty
   pub logs : p.logs ≡ replicate racers []
   pub members : p.sweepers ≡ sweepers
 
--- a heap of these counts, with this many racers and sweepers
-abbrev pub IsNewHeapRefused : layout.Shape → ℕ → ℕ → Refusal → Type 0
-IsNewHeapRefused l racers sweepers r =
-    ((r ≡ refusal.BadMembers) × (AreHeapCounts racers sweepers → ⊥))
-    ⊎ ((r ≡ refusal.BadLayout) × (IsShape l → ⊥))
-    ⊎ (r ≡ refusal.NoMemory)
-
--- such a heap in this handle: it is open already, or the heap is not to be had
-abbrev pub IsOpeningRefused : Option RacingHeap → layout.Shape → ℕ → ℕ → Refusal → Type 0
+-- a heap of these counts, with this many racers and sweepers, in this handle: it is open already,
+-- or the heap is not to be had
+abbrev pub IsOpeningRefused : Option RacingHeap → layout.Shape → ℕ → ℕ → Reason → Type 0
 IsOpeningRefused h l racers sweepers r =
     ((r ≡ refusal.AlreadyOpen) × IsSome h)
-    ⊎ ((h ≡ None) × IsNewHeapRefused l racers sweepers r)
+    ⊎ ((h ≡ None) × (((r ≡ refusal.BadMembers) × (AreHeapCounts racers sweepers → ⊥))
+    ⊎ ((r ≡ refusal.BadLayout) × (IsShape l → ⊥)) ⊎ (r ≡ refusal.NoMemory)))
 
 -- the end of the heap of this handle
-abbrev pub IsEndRefused : Option RacingHeap → Refusal → Type 0
+abbrev pub IsEndRefused : Option RacingHeap → Reason → Type 0
 IsEndRefused h r = SaysNoHeap h r ⊎ SaysNotPaused h r
 
 -- the race of the heap
@@ -205,12 +199,9 @@ pub record LetsGo (a : AtPause) (b : UnderWay) : Type 0 where
   pub racers_waited : b.racers.boxes ≡ a.racers
   pub sweepers_waited : b.sweepers.boxes ≡ a.sweepers
 
-abbrev pub IsLetGo : RacingHeap → RacingHeap → Type 0
-IsLetGo old new = OfAtPause (Some old) (λ a. OfRacing (Some new) (LetsGo a))
-
 -- a resume of the heap of the first handle, with the members' handles
 abbrev pub IsGoingRefused : Option RacingHeap → List (Option RacerMember)
-    → List (Option SweeperMember) → Refusal → Type 0
+    → List (Option SweeperMember) → Reason → Type 0
 IsGoingRefused h racers sweepers r =
     SaysNoHeap h r ⊎ SaysNotPaused h r
     ⊎ ((r ≡ refusal.BadMembers) × OfPaused h (λ p. Unit {0})
@@ -233,39 +224,21 @@ AreOfHeap h racers sweepers = OfRacing h (λ b.
 -- a pause of the race, whose racers and sweepers know this, and whose racers have these logs
 pub record IsPauseOf (race : Race) (racers sweepers : List View) (logs : List (List ℕ))
     (p : Pause) : Type 0 where
-  pub left : IsEndOf race racers sweepers (ended_of p)
+  pub layout : (ended_of p).layout ≡ race_layout race
+  pub pairs : (x : ℕ × ℕ) → Contains (ended_of p).pairs x
+      ↔ IsKnown (race_begun race racers sweepers) sweepers x
+  pub over : IsOver (race_begun race racers sweepers) (ended_of p).words racers sweepers
   pub within : (x : ℕ × ℕ) → Contains (ended_of p).pairs x → IsPairOf (race_layout race) x
   pub cover : IsCovered (table_at p)
   pub kept : p.logs ≡ logs
 
--- a pause of the race with the members of these handles
-abbrev pub IsPausedWith : Race → List (Option RacerMember) → List (Option SweeperMember) → Pause
-    → Type 0
-IsPausedWith race racers sweepers p =
-    IsPauseOf race (map racer_knows racers) (map sweeper_knows sweepers) (map log_in racers) p
-
--- the members of these handles are in, and the pause is still to begin
-pub record ComesIn (old new : UnderWay) (rs : List (Option RacerMember))
-    (ss : List (Option SweeperMember)) : Type 0 where
-  pub race : arc_value new.race ≡ arc_value old.race
-  pub racer_count : new.racers.count ≡ old.racers.count
-  pub sweeper_count : new.sweepers.count ≡ old.sweepers.count
-  pub racers : AreFor (arc_value new.race) new.racers.count new.racers.boxes
-      new.racers.roles
-  pub sweepers : AreFor (arc_value new.race) new.sweepers.count new.sweepers.boxes
-      new.sweepers.roles
-  pub racer_views : map racer_view new.racers.roles.items ≡ map racer_knows rs
-  pub sweeper_views : map sweeper_view new.sweepers.roles.items ≡ map sweeper_knows ss
-  pub logs : map racer_log new.racers.roles.items ≡ map log_in rs
-  pub counts : waiting_counts new ≡ held_counts rs ss
-
 -- a pause of the heap of the first handle; that the members are of its race, each given once, is
 -- found out by counts, of which no proof knows
 abbrev pub IsPauseRefused : Option RacingHeap → List (Option RacerMember)
-    → List (Option SweeperMember) → Refusal → Type 0
+    → List (Option SweeperMember) → Reason → Type 0
 IsPauseRefused h racers sweepers r =
     SaysNoHeap h r ⊎ SaysNotRacing h r
-    ⊎ ((r ≡ refusal.BadMembers) × IsRacing h
+    ⊎ ((r ≡ refusal.BadMembers) × HasRacers h
     × (IsFor h (length racers) (length sweepers) → ⊥))
     ⊎ Any (λ m. SaysNoMember m r) racers
     ⊎ Any (λ m. SaysNoMember m r) sweepers

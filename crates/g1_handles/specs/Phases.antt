@@ -1,19 +1,20 @@
 -- How a heap goes from its race to a pause and back, and from a pause to a reading and back. Of the
 -- lists of handles the first is before the call, and the second after it.
 use Rattle.std.specs.Prelude.{◌≡◌}
-use Rattle.g1_handles.specs.Prelude.{ℕ, List, Option, arc_value}
+use Rattle.g1_handles.specs.Prelude.{ℕ, List, Option, arc_value, map}
 use Rattle.g1_handles.specs.declared.heap.racing_heap.RacingHeap.{RacingHeap}
 use Rattle.g1_handles.specs.Own.{RacerMember, SweeperMember, ReaderMember}
-use Rattle.g1_handles.specs.Life.{OfHeap, OfPaused, OfRacing, IsFor, AreLikeOf, IsPausedWith}
+use Rattle.g1_handles.specs.Life.{OfHeap, OfPaused, OfRacing, IsFor, AreLikeOf, IsPauseOf, log_in}
 use Rattle.g1_handles.specs.Life.{GoesOn, heap_race, heap_counts, held_counts}
-use Rattle.g1_handles.specs.Racing.{AreClosed}
+use Rattle.g1_handles.specs.Racing.{AreClosed, racer_knows, sweeper_knows}
 use Rattle.g1_handles.specs.Readers.{AreReadersAt, AreReadersLike, IsLentHeap, IsReadBy}
 
 -- The race of the heap comes to a pause: all its members, as many racers and sweepers, were behind
 -- these handles, which are closed.
 pub record ComesToPause (racers sweepers : ℕ) (old new : Option RacingHeap)
     (rs rs' : List (Option RacerMember)) (ss ss' : List (Option SweeperMember)) : Type 0 where
-  pub paused : OfRacing old (λ b. OfPaused new (IsPausedWith (arc_value b.race) rs ss))
+  pub paused : OfRacing old (λ b. OfPaused new (IsPauseOf (arc_value b.race)
+      (map racer_knows rs) (map sweeper_knows ss) (map log_in rs)))
   pub race : heap_race new ≡ heap_race old
   pub counts : heap_counts new ≡ held_counts rs ss
   pub members : IsFor old racers sweepers × IsFor new racers sweepers

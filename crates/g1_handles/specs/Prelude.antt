@@ -18,8 +18,8 @@ pub use Rattle.std.specs.Fn.{FnOnceReturnsAtMut}
 pub use Rattle.std.specs.Global.{Global}
 pub use Rattle.std.specs.List.{AllWithin}
 pub use Rattle.std.specs.Option.{ForSome}
-pub use Rattle.std.specs.Prelude.{All, Any, Bool, Contains, Err, false, fold, IfErr, IfNone, IfOk}
-pub use Rattle.std.specs.Prelude.{IfSome, IsErrAnd, IsOk, IsOkAnd, IsSome, IsSomeAnd, IsTrue}
+pub use Rattle.std.specs.Prelude.{All, Any, Bool, Contains, drop, Err, false, fold, IfErr, IfNone}
+pub use Rattle.std.specs.Prelude.{IfOk, IfSome, IsErrAnd, IsOk, IsOkAnd, IsSome, IsSomeAnd, IsTrue}
 pub use Rattle.std.specs.Prelude.{length, MatchOption, min, None, not, Ok, OnErr, OnOk, Option}
 pub use Rattle.std.specs.Prelude.{replicate, Result, slice_set, Some, SomeIff, Vec, vec_capacity}
 pub use Rattle.std.specs.Prelude.{vec_len, ⊤}
@@ -63,9 +63,11 @@ pub use Rattle.g1_layout.specs.Shape.{card_count, card_of, IsShape, region_of, S
 pub use Rattle.g1_layout.specs.declared.kind.Kind.{Kind}
 pub use Rattle.g1_layout.specs.declared.kind.Kind.TheVariants.{AlreadyDirty, Logged, Null}
 pub use Rattle.g1_layout.specs.declared.kind.Kind.TheVariants.{SameRegion}
+pub use Rattle.g1_race.specs.Calls.{ClearsAt, Copies, Forgets, Redirects, Refines, StoresAt}
+pub use Rattle.g1_race.specs.Calls.{StoresDataAt, Wipes}
 pub use Rattle.g1_race.specs.Evacuating.{AreAllRefined, copied_word, forgotten, IsExactAtPause}
-pub use Rattle.g1_race.specs.Evacuating.{IsKept, IsRefinedRace, IsSameRace, one_word, plain_reply}
-pub use Rattle.g1_race.specs.Evacuating.{same_word, SlotsBecome, wiped, wiped_word}
+pub use Rattle.g1_race.specs.Evacuating.{IsRaceWith, IsRefinedRace, IsSameRace, one_word}
+pub use Rattle.g1_race.specs.Evacuating.{plain_reply, same_word, SlotsBecome, wiped, wiped_word}
 pub use Rattle.g1_race.specs.Members.{HasDiffered, HasNotStored, HasOverwritten, HasStored}
 pub use Rattle.g1_race.specs.Members.{is_logged, IsKind, IsNewRacer, IsNewSweeper, race_begun}
 pub use Rattle.g1_race.specs.Members.{race_id, race_layout, race_shape, race_words, racer_log}

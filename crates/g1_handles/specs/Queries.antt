@@ -1,8 +1,9 @@
 -- What the answers to questions stand for.
 use Rattle.std.specs.Prelude.{◌≡◌, ◌<◌, ◌+◌, ◌-◌, ◌^◌}
-use Rattle.g1_handles.specs.Prelude.{ℕ, Bool, List, Option, length, min, target_of, AreMembers}
-use Rattle.g1_handles.specs.Prelude.{Machine, IsStep, target_entry, pending_entry, members_entry}
-use Rattle.g1_handles.specs.Prelude.{status_entry, Status, Table, map, IsFirst, IsMissing, Differs}
+use Rattle.g1_handles.specs.Prelude.{ℕ, Bool, List, Option, length, min}
+use Rattle.g1_handles.specs.Prelude.{target_of, AreMembers, Machine, IsStep, target_entry}
+use Rattle.g1_handles.specs.Prelude.{pending_entry, members_entry, status_entry, Status, Table, map}
+use Rattle.g1_handles.specs.Prelude.{IsFirst, IsMissing, Differs}
 use Rattle.std.specs.FinSet as set
 use Rattle.g1_handles.specs.Codes.{reference_of}
 use Rattle.g1_handles.specs.Replies.{FitIn}
@@ -49,9 +50,6 @@ Lists AreSo room (NoRoom count) = Overflows AreSo room count
 
 abbrev pub IsListOf : List ℕ → ℕ → Listed → Type 0
 IsListOf cards = Lists (λ list. list ≡ cards)
-
-abbrev pub IsListed : Machine → ℕ → ℕ → Listed → Type 0
-IsListed m region = Lists (TellsMembers m.state.table region)
 
 -- the words are of the least slot that refers to something else than memory does, which has these
 -- references from the first slot on, and of the least of so many slots that refers into another

@@ -1,12 +1,12 @@
 -- What a racer's stores do that return what was there, depend on it, or are several.
 use Rattle.std.specs.Prelude.{◌≡◌, ◌+◌, ◌<◌, ◌≤◌, ◌∷◌, ◌++◌, if◌then◌else◌}
-use Rattle.g1_handles.specs.Prelude.{ℕ, List, [], All, length, take, Option, array_vec_len, Kind}
-use Rattle.g1_handles.specs.Prelude.{IsFound, slot_card, HasOverwritten, HasStored, HasDiffered}
-use Rattle.g1_handles.specs.Prelude.{HasNotStored, IsKind, is_logged, race_layout, race_shape}
-use Rattle.g1_handles.specs.Prelude.{racer_view, word_of}
+use Rattle.g1_handles.specs.Prelude.{ℕ, List, [], All}
+use Rattle.g1_handles.specs.Prelude.{length, take, Option, array_vec_len, Kind, IsFound, slot_card}
+use Rattle.g1_handles.specs.Prelude.{HasOverwritten, HasStored, HasDiffered, HasNotStored, IsKind}
+use Rattle.g1_handles.specs.Prelude.{is_logged, race_layout, race_shape, racer_view, word_of}
 use Rattle.g1_handles.specs.declared.one_core.batch.Store.{Store}
 use Rattle.g1_handles.specs.Counting.{with_store}
-use Rattle.g1_handles.specs.Racing.{Racing}
+use Rattle.g1_handles.specs.Racing.{Racing, Stores}
 use Rattle.g1_handles.specs.declared.member.batch.BatchEnd.{BatchEnd}
 use Rattle.g1_handles.specs.declared.member.batch.BatchEnd.TheVariants.{Whole, Stopped, Full}
 use Rattle.g1_handles.specs.declared.member.batch.RaceBatch.{RaceBatch}
@@ -14,7 +14,6 @@ use Rattle.g1_handles.specs.declared.member.exchange.Exchange.{Exchange}
 use Rattle.g1_handles.specs.declared.member.exchange.Exchange.TheVariants as exchange
 use Rattle.g1_handles.specs.Batch.{IsFaultAt}
 use Rattle.g1_handles.specs.Codes.{IsStoreOf, reference_of}
-use Rattle.g1_handles.specs.Racing.{Stores}
 
 -- a racer before and after a store of the place t to slot p, whose overwritten word referred to the
 -- old one

@@ -1,11 +1,11 @@
 -- What a racer's stores of words do, and why they are refused.
 use Rattle.std.specs.Prelude.{◌≡◌, ◌⊎◌, ◌<◌, ◌≤◌}
-use Rattle.g1_handles.specs.Prelude.{ℕ, Option, Result, Ok, Err, array_vec_len, slot_count, Kind}
-use Rattle.g1_handles.specs.Prelude.{IsWord, Race, Racer, HasNotStored, race_layout, race_shape}
-use Rattle.g1_handles.specs.Prelude.{racer_view}
+use Rattle.g1_handles.specs.Prelude.{ℕ, Option, Result, Ok, Err, array_vec_len}
+use Rattle.g1_handles.specs.Prelude.{slot_count, Kind, IsWord, Race, Racer, HasNotStored}
+use Rattle.g1_handles.specs.Prelude.{race_layout, race_shape, racer_view}
 use Rattle.g1_race.specs.Exchanging.{HasStoredWord, HasOtherWord}
-use Rattle.g1_handles.specs.declared.code.Refusal.{Refusal}
-use Rattle.g1_handles.specs.declared.code.Refusal.TheVariants as refusal
+use Rattle.g1_handles.specs.declared.code.Reason.{Reason}
+use Rattle.g1_handles.specs.declared.code.Reason.TheVariants as refusal
 use Rattle.g1_handles.specs.Own.{RacerMember}
 use Rattle.g1_handles.specs.Counting.{with_store}
 use Rattle.g1_handles.specs.Racing.{Racing}
@@ -35,11 +35,11 @@ IsWordExchange a p expected word (Ok k) b = SwapsWord a p word expected k b
 IsWordExchange a p expected word (Err found) b = FindsOtherWord a p expected found b
 
 -- no slot of the heap may have the word
-abbrev pub SaysBadWord : Race → ℕ → Refusal → Type 0
+abbrev pub SaysBadWord : Race → ℕ → Reason → Type 0
 SaysBadWord race word r = (r ≡ refusal.BadWord) × (MayHave race word → ⊥)
 
 -- the racer's log is full, or the heap lacks the slot, or no slot may have the word
-abbrev pub SaysNoWordStore : Race → Racer → ℕ → ℕ → Refusal → Type 0
+abbrev pub SaysNoWordStore : Race → Racer → ℕ → ℕ → Reason → Type 0
 SaysNoWordStore race racer slot word r =
     ((r ≡ refusal.LogFull) × (256 ≤ array_vec_len racer.log))
     ⊎ ((r ≡ refusal.NoSlot) × (slot_count (race_layout race) ≤ slot))
@@ -52,12 +52,12 @@ pub record CanStoreWord (race : Race) (racer : Racer) (slot word : ℕ) : Type 0
   pub fits : MayHave race word
 
 -- a store of the word into the slot by the racer of a handle
-abbrev pub IsSwapWordRefused : Option RacerMember → ℕ → ℕ → Refusal → Type 0
+abbrev pub IsSwapWordRefused : Option RacerMember → ℕ → ℕ → Reason → Type 0
 IsSwapWordRefused m slot word =
     IsRacerRefused m (λ a. SaysNoWordStore a.race a.racer slot word)
 
 -- the same where the word that is expected is a word of the heap too
-abbrev pub IsExchangeWordRefused : Option RacerMember → ℕ → ℕ → ℕ → Refusal → Type 0
+abbrev pub IsExchangeWordRefused : Option RacerMember → ℕ → ℕ → ℕ → Reason → Type 0
 IsExchangeWordRefused m slot expected word =
     IsRacerRefused m (λ a r. SaysNoWordStore a.race a.racer slot word r
     ⊎ SaysBadWord a.race expected r)

@@ -1,11 +1,10 @@
 -- What the calls on the members of a race do.
-use Rattle.std.specs.Prelude.{◌↔◌, ◌≡◌, ◌∷◌, ◌++◌, if◌then◌else◌, ◌+◌}
-use Rattle.g1_handles.specs.Prelude.{Contains, ℕ, List, [], map, All, Option, Some, None, IsSome}
-use Rattle.g1_handles.specs.Prelude.{IsSomeAnd, IfSome, false, Bool, length, arc_value, Kind, Null}
-use Rattle.g1_handles.specs.Prelude.{Race, Racer, Sweeper, View, Ended, IsWord, slot_card, IsFound}
-use Rattle.g1_handles.specs.Prelude.{word_of, stored_view, IsKnown, IsOver, race_layout, race_begun}
-use Rattle.g1_handles.specs.Prelude.{race_shape, racer_view, sweeper_start, sweeper_view, IsKind}
-use Rattle.g1_handles.specs.Prelude.{is_logged}
+use Rattle.std.specs.Prelude.{◌≡◌, ◌∷◌, ◌++◌, if◌then◌else◌, ◌+◌}
+use Rattle.g1_handles.specs.Prelude.{ℕ, List, [], map, All}
+use Rattle.g1_handles.specs.Prelude.{Option, Some, None, IsSome, IsSomeAnd, IfSome, false, Bool}
+use Rattle.g1_handles.specs.Prelude.{length, arc_value, Kind, Null, Race, Racer, Sweeper, View}
+use Rattle.g1_handles.specs.Prelude.{IsWord, slot_card, IsFound, word_of, stored_view, race_shape}
+use Rattle.g1_handles.specs.Prelude.{racer_view, sweeper_start, sweeper_view, IsKind, is_logged}
 use Rattle.g1_race_words.specs.Steps.{no_seat}
 use Rattle.g1_handles.specs.declared.member.Role.{Ghosts}
 use Rattle.g1_handles.specs.declared.member.Member.{Member}
@@ -16,7 +15,7 @@ use Rattle.g1_handles.specs.declared.member.counts.SweepCounts.{SweepCounts}
 use Rattle.g1_handles.specs.declared.member.sweeper_handle.SweeperHandle.{SweeperHandle}
 use Rattle.g1_handles.specs.declared.member.reader_handle.ReaderHandle.{ReaderHandle}
 use Rattle.g1_handles.specs.Own.{RacerMember, SweeperMember, ReaderMember}
-use Rattle.g1_handles.specs.Counting.{no_counts, with_store, with_card}
+use Rattle.g1_handles.specs.Counting.{no_counts, with_store, with_refined_card}
 
 -- a racer with its race, and what it has counted
 pub record Racing : Type 0 where
@@ -109,7 +108,7 @@ pub record Sweeps (a : Sweeping) (card : ℕ) (b : Sweeping) : Type 0 where
       else (sweeper_view a.sweeper).cleanings)
   pub read : length (sweeper_view b.sweeper).pairs
       ≡ length (sweeper_view a.sweeper).pairs + references
-  pub counts : b.counts ≡ with_card a.counts was_dirty references
+  pub counts : b.counts ≡ with_refined_card a.counts was_dirty references
 
 -- what the handles hold
 abbrev pub held_racers : List RacerHandle → List (Option RacerMember)
@@ -160,10 +159,3 @@ racer_knows m = role_view racer_view (role_in m)
 
 abbrev pub sweeper_knows : Option SweeperMember → View
 sweeper_knows m = role_view sweeper_view (role_in m)
-
--- what is left of a race that ended with racers and sweepers who know this
-pub record IsEndOf (race : Race) (racers sweepers : List View) (e : Ended) : Type 0 where
-  pub layout : e.layout ≡ race_layout race
-  pub pairs : (x : ℕ × ℕ) → Contains e.pairs x
-      ↔ IsKnown (race_begun race racers sweepers) sweepers x
-  pub over : IsOver (race_begun race racers sweepers) e.words racers sweepers

@@ -1,19 +1,20 @@
 -- Several threads that read one pause, each by a reader.
 use Rattle.std.specs.Prelude.{◌≡◌, ◌⊎◌, ◌<◌, ◌↔◌}
-use Rattle.g1_handles.specs.Prelude.{ℕ, Bool, List, length, All, Any, Option, IsTrue}
-use Rattle.g1_handles.specs.Prelude.{arc_value, get_elem?, Shape, Table, target_of, IsRecorded}
-use Rattle.g1_handles.specs.Prelude.{IsWord, Race, race_layout, race_shape, Pause, table_at}
-use Rattle.g1_handles.specs.Prelude.{start_at, Known, known, table_read, IsReaderOf, IsNextMember}
+use Rattle.g1_handles.specs.Prelude.{ℕ, Bool, List, length, All, Any, Option}
+use Rattle.g1_handles.specs.Prelude.{IsTrue, arc_value, get_elem?, Shape, Table, target_of}
+use Rattle.g1_handles.specs.Prelude.{IsRecorded, IsWord, Race, race_layout, race_shape, Pause}
+use Rattle.g1_handles.specs.Prelude.{table_at, start_at, Known, known, table_read, IsReaderOf}
+use Rattle.g1_handles.specs.Prelude.{IsNextMember}
 use Rattle.std.specs.FinSet as set
 use mathlib.Core.Option.{some}
-use Rattle.g1_handles.specs.declared.code.Refusal.{Refusal}
-use Rattle.g1_handles.specs.declared.code.Refusal.TheVariants as refusal
+use Rattle.g1_handles.specs.declared.code.Reason.{Reason}
+use Rattle.g1_handles.specs.declared.code.Reason.TheVariants as refusal
 use Rattle.g1_handles.specs.declared.heap.racing_heap.AtPause.{AtPause}
 use Rattle.g1_handles.specs.declared.heap.racing_heap.BeingRead.{BeingRead}
 use Rattle.g1_handles.specs.declared.heap.racing_heap.RacingHeap.{RacingHeap}
 use Rattle.g1_handles.specs.Own.{ReaderMember}
-use Rattle.g1_handles.specs.Life.{OfPaused, OfRead, IsRacing, IsRead, SaysNoHeap, SaysNotPaused}
-use Rattle.g1_handles.specs.Life.{AreFor, OfAtPause}
+use Rattle.g1_handles.specs.Life.{OfPaused, OfRead, HasRacers, HasReaders, SaysNoHeap}
+use Rattle.g1_handles.specs.Life.{SaysNotPaused, AreFor, OfAtPause}
 use Rattle.g1_handles.specs.Racing.{OfRole, AreClosed, IsAmong, IsOfWith}
 use Rattle.g1_handles.specs.Refusals.{SaysNoMember, IsRoleRefused}
 
@@ -47,7 +48,7 @@ abbrev pub AreReadersAt : Race → Pause → List (Option ReaderMember) → Type
 AreReadersAt race p readers = All (IsOfWith race (IsReaderAt race p)) readers
 
 -- a heap at a pause, and the same while readers read it
-pub record IsLent (a : AtPause) (b : BeingRead) : Type 0 where
+pub record IsLentPause (a : AtPause) (b : BeingRead) : Type 0 where
   pub race : b.race ≡ a.race
   pub pause : b.reading.pause ≡ a.pause
   pub racers : b.racers ≡ a.racers
@@ -55,7 +56,7 @@ pub record IsLent (a : AtPause) (b : BeingRead) : Type 0 where
 
 -- the one handle has a heap at a pause, and the other the same heap, which readers read
 abbrev pub IsLentHeap : Option RacingHeap → Option RacingHeap → Type 0
-IsLentHeap old read = OfAtPause old (λ a. OfRead read (IsLent a))
+IsLentHeap old read = OfAtPause old (λ a. OfRead read (IsLentPause a))
 
 -- the heap is read by this many readers, which are not in their handles
 pub record AreOut (count : ℕ) (b : BeingRead) : Type 0 where
@@ -77,7 +78,7 @@ AreReadersLike h readers =
     OfRead h (λ b. All (IsAmong (race_shape (arc_value b.race)).members) readers)
 
 -- the heap of the first handle is to be read by readers in these handles
-abbrev pub IsReadRefused : Option RacingHeap → List (Option ReaderMember) → Refusal → Type 0
+abbrev pub IsReadRefused : Option RacingHeap → List (Option ReaderMember) → Reason → Type 0
 IsReadRefused h readers r =
     SaysNoHeap h r ⊎ SaysNotPaused h r
     ⊎ ((r ≡ refusal.BadMembers) × OfPaused h (λ p. p.shape.members < length readers))
@@ -85,11 +86,11 @@ IsReadRefused h readers r =
 
 -- the readers of these handles are to end their reading of the heap; that they are of its race,
 -- each given once, is found out by counts, of which no proof knows
-abbrev pub IsReadEndRefused : Option RacingHeap → List (Option ReaderMember) → Refusal → Type 0
+abbrev pub IsReadEndRefused : Option RacingHeap → List (Option ReaderMember) → Reason → Type 0
 IsReadEndRefused h readers r =
     SaysNoHeap h r
-    ⊎ ((r ≡ refusal.NotPaused) × IsRacing h)
-    ⊎ ((r ≡ refusal.BadMembers) × (OfPaused h (λ p. Unit {0}) ⊎ IsRead h)
+    ⊎ ((r ≡ refusal.NotPaused) × HasRacers h)
+    ⊎ ((r ≡ refusal.BadMembers) × (OfPaused h (λ p. Unit {0}) ⊎ HasReaders h)
     × (IsReadBy h (length readers) → ⊥))
     ⊎ Any (λ m. SaysNoMember m r) readers
     ⊎ (r ≡ refusal.OtherRace)
@@ -116,5 +117,5 @@ abbrev pub ReadsNext : ReaderAt → ℕ → ℕ → Option ℕ → Type 0
 ReadsNext a region from next = IsNextMember (table_of_reader a) region from next
 
 -- a call by the reader of a handle, which is refused of the reader for this
-abbrev pub IsReaderRefused : Option ReaderMember → (ReaderAt → Refusal → Type 0) → Refusal → Type 0
+abbrev pub IsReaderRefused : Option ReaderMember → (ReaderAt → Reason → Type 0) → Reason → Type 0
 IsReaderRefused m Why r = IsRoleRefused reading_in m Why r

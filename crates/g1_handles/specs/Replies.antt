@@ -1,6 +1,7 @@
 -- What the words that C gets stand for.
-use Rattle.std.specs.Prelude.{◌≡◌, ◌≤◌, ◌+◌, ◌-◌, ◌*◌, ◌^◌, ◌==◌, if◌then◌else◌, drop}
-use Rattle.g1_handles.specs.Prelude.{ℕ, Option, Some, None, List, length, not, ⊤, Machine, IsLater}
+use Rattle.std.specs.Prelude.{◌≡◌, ◌≤◌, ◌+◌, ◌-◌, ◌*◌, ◌^◌, ◌==◌, if◌then◌else◌}
+use Rattle.g1_handles.specs.Prelude.{drop, ℕ}
+use Rattle.g1_handles.specs.Prelude.{Option, Some, None, List, length, not, ⊤, Machine, IsLater}
 use Rattle.g1_handles.specs.Prelude.{IsOnlyRead, IsStep, IsDrainOf, clear_entry, drain_entry}
 use Rattle.g1_handles.specs.Prelude.{redirect_entry, refine_entry, ClearReply, Drained, min, copied}
 use Rattle.std.specs.FinSet as set

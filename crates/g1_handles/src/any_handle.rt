@@ -5,7 +5,7 @@ ghost use Rattle.g1_handles.specs.Prelude.{FnOnceReturnsAtMut};
 ghost use Rattle.g1_handles.specs.Racing.{AreClosed};
 ghost use Rattle.g1_handles.specs.Codes.{IsVisit};
 
-use crate::code::Refusal;
+use crate::code::Reason;
 use crate::nullable_box::NullableBox;
 use crate::raw_box::RawBox;
 use core::mem::replace;
@@ -37,17 +37,17 @@ pub trait AnyHandle: Drop + Sized {
 /// Makes a call on what a handle holds, and gives the handle back. `words` has the call. Returns
 /// `NotOpen` if the handle is closed: nothing has changed.
 #[inline(always)]
-pub fn visit<H: AnyHandle, A, F: FnOnce(&mut H::Value) -> Result<A, Refusal>>(
+pub fn visit<H: AnyHandle, A, F: FnOnce(&mut H::Value) -> Result<A, Reason>>(
     handle: H,
     words: (Global, F),
-) -> (H, Result<A, Refusal>)
+) -> (H, Result<A, Reason>)
     requires { F.IsAlwaysCallable words.1 }
     ensures { IsVisit (FnOnceReturnsAtMut F.FnOnce words.1)
         (H.value handle) result.1 (H.value result.0) }
 {
     let (alloc, call) = words;
     let Some(mut inside) = into_box(handle) else {
-        return (closed(alloc), Err(Refusal::NotOpen));
+        return (closed(alloc), Err(Reason::NotOpen));
     };
     let answer = call(&mut inside);
     (opened(inside), answer)

@@ -27,7 +27,7 @@ pub const NULL: u32 = 4_294_967_295;
 /// Why a call was refused. Its words are 8 and above. The words below say what a call did that was
 /// not refused.
 #[derive(Clone, Copy, Debug, PartialEq, Eq)]
-pub enum Refusal {
+pub enum Reason {
     /// The handle is closed.
     NotOpen,
     /// The handle that was to be opened is open.
@@ -68,32 +68,32 @@ pub enum Refusal {
     BadWord,
 }
 
-impl Refusal {
+impl Reason {
     /// Returns the word that C gets, which is 8 or more.
     pub fn word(self) -> u32
         ensures number { result ≡ refusal_word self }
         ensures refused { 7 < result }
     {
         match self {
-            Refusal::NotOpen => 8,
-            Refusal::AlreadyOpen => 9,
-            Refusal::NoMemory => 10,
-            Refusal::BadLayout => 11,
-            Refusal::BadSettings => 12,
-            Refusal::NoSlot => 13,
-            Refusal::NoCard => 14,
-            Refusal::NoRegion => 15,
-            Refusal::NoRoom => 16,
-            Refusal::TooManyCards => 17,
-            Refusal::SameRegion => 18,
-            Refusal::StillPending => 19,
-            Refusal::StillReferenced => 20,
-            Refusal::LogFull => 22,
-            Refusal::BadMembers => 23,
-            Refusal::OtherRace => 24,
-            Refusal::NotPaused => 25,
-            Refusal::NotRacing => 26,
-            Refusal::BadWord => 27,
+            Reason::NotOpen => 8,
+            Reason::AlreadyOpen => 9,
+            Reason::NoMemory => 10,
+            Reason::BadLayout => 11,
+            Reason::BadSettings => 12,
+            Reason::NoSlot => 13,
+            Reason::NoCard => 14,
+            Reason::NoRegion => 15,
+            Reason::NoRoom => 16,
+            Reason::TooManyCards => 17,
+            Reason::SameRegion => 18,
+            Reason::StillPending => 19,
+            Reason::StillReferenced => 20,
+            Reason::LogFull => 22,
+            Reason::BadMembers => 23,
+            Reason::OtherRace => 24,
+            Reason::NotPaused => 25,
+            Reason::NotRacing => 26,
+            Reason::BadWord => 27,
         }
     }
 }

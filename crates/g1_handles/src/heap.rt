@@ -9,6 +9,7 @@
 //!   [`verify`] are the collector's calls at a pause, on an [`at_pause::PausedHeap`].
 //! - [`reading`] lends a heap at a pause to readers, one for each thread that reads it, and
 //!   [`reading_end`] takes them in.
+#![tactic(auto, using(crate::proofs::Kept::kept_same))]
 
 pub mod at_pause;
 pub mod copy;

@@ -7,6 +7,7 @@
 //!   several stores by one call, [`data`] a store of data, and [`words`] the stores of any word
 //!   that return or compare the one before.
 //! - [`reader_queries`] has what a reader answers.
+#![tactic(auto, using(crate::proofs::MemberLemmas::same_members))]
 
 pub mod batch;
 pub mod counts;
@@ -32,10 +33,10 @@ use std::sync::Arc;
 /// A racer, which stores, a sweeper, which refines, or a reader, which reads a pause.
 pub trait Role: Drop {
     ghost use Rattle.g1_handles.specs.Prelude.{TableId};
-    ghost use Rattle.g1_race_words.specs.declared.view.Shape.{Shape};
+    ghost use Rattle.g1_race_words.specs.declared.view.RaceShape.{RaceShape};
 
     /// Its race.
-    ghost of: { Self → TableId × Shape };
+    ghost of: { Self → TableId × RaceShape };
 }
 
 impl Role for Racer {

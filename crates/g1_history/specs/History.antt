@@ -5,7 +5,7 @@ use Rattle.g1_history.specs.Prelude.{ℕ, Bool, true, false, cond, List, [], len
 use Rattle.g1_history.specs.Prelude.{Some, None, refl, Result, Err, OnErr, Shape, IsShape, Machine}
 use Rattle.g1_history.specs.Prelude.{IsLater, machine_code, new_machine, Table, opening, Drained}
 use Rattle.g1_history.specs.Prelude.{Cards, Short, Call, Store, Entry, IsPermitted, IsStep, IsExact}
-use Rattle.g1_history.specs.Prelude.{table_of_history}
+use Rattle.g1_history.specs.Prelude.{IfOk, table_of_history}
 use Rattle.std.specs.Coded.{Coded, code_by, coded×, coded_ℕ, coded_list}
 use Rattle.g1_core.specs.declared.config.Settings.{Settings}
 use Rattle.g1_history.specs.declared.refusal.Refusal.{Refusal}
@@ -20,21 +20,21 @@ abbrev pub is_store : Entry → Bool
 is_store e = stores_by e.call
 
 -- how many calls were made, and how many of these are stores
-pub record Totals : Type 0 where
+pub record CallTotals : Type 0 where
   pub made : ℕ
   pub stored : ℕ
 
 -- What is remembered of the calls: their entries, or else their totals. How many there may be.
 pub record Past : Type 0 where
   pub entries : List Entry
-  pub totals : Totals
+  pub totals : CallTotals
   pub limit : ℕ
 
 pub record History : Type 0 where
   pub machine : Machine
   pub mutators : ℕ
   pub entries : List Entry
-  pub totals : Totals
+  pub totals : CallTotals
   pub limit : ℕ
 
 -- a history is stored as the tuple of its fields
@@ -69,13 +69,13 @@ abbrev pub layout_in : History → Shape
 layout_in h = h.machine.state.table.layout
 
 -- what a book is opened with, and no call changes
-pub record Terms : Type 0 where
+pub record BookTerms : Type 0 where
   pub layout : Shape
   pub settings : Settings
   pub mutators : ℕ
   pub limit : ℕ
 
-abbrev pub terms_of : History → Terms
+abbrev pub terms_of : History → BookTerms
 terms_of h = record {
   layout = layout_in h;
   settings = h.machine.settings;
@@ -84,11 +84,11 @@ terms_of h = record {
 }
 
 -- How many calls were made, and how many of them are stores, by the entries where these are kept.
-abbrev pub made_of : Bool → List Entry → Totals → ℕ
+abbrev pub made_of : Bool → List Entry → CallTotals → ℕ
 made_of true entries totals = length entries
 made_of false entries totals = totals.made
 
-abbrev pub stored_of : Bool → List Entry → Totals → ℕ
+abbrev pub stored_of : Bool → List Entry → CallTotals → ℕ
 stored_of true entries totals = count_by is_store entries
 stored_of false entries totals = totals.stored
 
@@ -97,7 +97,7 @@ abbrev pub entries_with : Bool → List Entry → Entry → List Entry
 entries_with true entries e = entries ++ e ∷ []
 entries_with false entries e = entries
 
-abbrev pub totals_with : Bool → Totals → Entry → Totals
+abbrev pub totals_with : Bool → CallTotals → Entry → CallTotals
 totals_with true totals e = totals
 totals_with false totals e =
     record { made = totals.made + 1; stored = totals.stored + cond (is_store e) 1 0 }
@@ -166,6 +166,13 @@ IsFull keeps h = made_of keeps h.entries h.totals ≡ h.limit
 abbrev pub RefusesBy : {X : Type 0} → Bool → History → Result X Refusal → History → Type 0
 RefusesBy keeps old result new =
     ((result ≡ Err BookFull) ↔ IsFull keeps old) × OnErr result (new ≡ old)
+
+-- A call was entered and did its work, by what it returns; or it was refused.
+pub record MakesCall {X : Type 0} (keeps : Bool) (old : History) (entry : X → Entry)
+    (does : X → Machine → Machine → Type 0) (result : Result X Refusal)
+    (new : History) : Type 0 where
+  pub made : IfOk result (λ x. Made keeps old (entry x) (does x) new)
+  pub err : RefusesBy keeps old result new
 
 -- A drain of the region that is not short answers exactly the cards that references and history
 -- say.

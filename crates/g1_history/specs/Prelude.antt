@@ -3,7 +3,7 @@ pub use Rattle.std.proofs.Common.{ap, arith, get_or, inl, inr, refl, subst, suc,
 pub use Rattle.std.proofs.Common.{◌∙◌}
 pub use Rattle.std.proofs.lemmas.List.{length-append, length-map, length-replicate, length-set}
 pub use Rattle.std.specs.Prelude.{[], All, Bool, cond, count_by, Err, false, fold, IfOk, IfSome}
-pub use Rattle.std.specs.Prelude.{IsNone, length, List, None, OnErr, OnOk, Option, option_map}
+pub use Rattle.std.specs.Prelude.{IsNone, length, List, None, Ok, OnErr, OnOk, Option, option_map}
 pub use Rattle.std.specs.Prelude.{Result, Some, true, vec_capacity, vec_len}
 pub use Rattle.g1_core.proofs.LengthLemmas.{refined_few, turned_few}
 pub use Rattle.g1_core.proofs.RunLemmas.{has_slots, permitted_step, run_covered, run_layout}

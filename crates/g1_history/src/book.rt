@@ -187,3 +187,12 @@ impl<H: Keeps> Book<H> {
         self.alloc
     }
 }
+
+/// The same value again. (A function that makes a call or a reply of an enum that it goes on to use
+/// would get no generated proof.)
+#[inline(always)]
+pub(crate) fn again<T: Copy>(value: &T) -> T
+    ensures { result ≡ value.now }
+{
+    *value
+}

@@ -1,18 +1,18 @@
 //! Drains, clears and redirects that are entered in the history.
 ghost use Rattle.std.specs.Prelude.{◌≡◌, ◌≢◌, ◌≤◌, ◌<◌};
 ghost use Rattle.g1_history.specs.{true, length, IfOk, vec_len, vec_capacity, drain_cards};
-ghost use Rattle.g1_history.specs.{drain_refined, drain_entry, redirect_refined, past_with};
+ghost use Rattle.g1_history.specs.{drain_refined, drain_reply, redirect_refined};
 
-use crate::book::Book;
+use crate::book::{Book, again};
 use crate::keeps::Keeps;
 use crate::refusal::Refusal;
-use crate::room::{enter_cards, enter_refined, list_room, pending_room};
+use crate::room::{copied, list_room, pending_room};
 use g1_core::{Call, CardList, ClearReply, Drained, Redirected, Reply};
 use g1_layout::{Card, Region};
 
 impl<H: Keeps> Book<H> {
-    ghost use Rattle.g1_history.specs.{clear_entry, redirect_entry, DoesDrain, DoesClear};
-    ghost use Rattle.g1_history.specs.{DoesRedirect, Made, AnswersBy, RefusesBy, layout_in};
+    ghost use Rattle.g1_history.specs.{drain_entry, clear_entry, redirect_entry, DoesDrain};
+    ghost use Rattle.g1_history.specs.{DoesClear, DoesRedirect, MakesCall, AnswersBy, layout_in};
 
     /// Refines all pending cards, as the core does, returns the region's remembered set, and enters
     /// the call (docs/rules.md, The pause).
@@ -27,17 +27,18 @@ impl<H: Keeps> Book<H> {
     /// is given back.
     pub fn drain(&mut self, caller: u32, region: Region) -> Result<Drained, Refusal>
         requires { region < (layout_in self.old).regions }
-        ensures made { IfOk result (λ answer. Made H.KEEPS self.old
-            (drain_entry caller region answer) (DoesDrain region answer) self.new) }
-        ensures exact { IfOk result (λ answer. AnswersBy H.KEEPS self.old region answer) }
-        ensures err { RefusesBy H.KEEPS self.old result self.new }
+        ensures call { MakesCall H.KEEPS self.old (drain_entry caller region) (DoesDrain region)
+            result self.new }
+        ensures exact { IfOk result (AnswersBy H.KEEPS self.old region) }
     {
         self.history.make_room()?;
         let refined_room = pending_room::<H>(self.alloc, &self.core)?;
         let cards_room = list_room::<H>(self.alloc, self.core.layout().card_count() as usize)?;
         let answer = self.core.drain(region)?;
-        let rooms = (cards_room, refined_room);
-        enter_drain(&mut self.history, rooms, caller, region, &answer);
+        let reply = copied_reply::<H>(cards_room, &answer);
+        let refined = copied::<H>(refined_room, drained_cards(&answer));
+        self.history
+            .enter(caller, Call::Drain(region), reply, refined);
         Ok(answer)
     }
 
@@ -52,14 +53,13 @@ impl<H: Keeps> Book<H> {
     /// refused. Either changes nothing. The entry holds no list.
     pub fn clear(&mut self, caller: u32, region: Region) -> Result<ClearReply, Refusal>
         requires { region < (layout_in self.old).regions }
-        ensures made { IfOk result (λ answer. Made H.KEEPS self.old
-            (clear_entry caller region answer) (DoesClear region answer) self.new) }
-        ensures err { RefusesBy H.KEEPS self.old result self.new }
+        ensures { MakesCall H.KEEPS self.old (clear_entry caller region) (DoesClear region)
+            result self.new }
     {
         self.history.make_room()?;
         let answer = self.core.clear(region);
         let none = CardList::new(self.alloc);
-        let reply = clear_reply(&answer);
+        let reply = Reply::Clear(again(&answer));
         self.history.enter(caller, Call::Clear(region), reply, none);
         Ok(answer)
     }
@@ -75,52 +75,39 @@ impl<H: Keeps> Book<H> {
         requires from { from < (layout_in self.old).regions }
         requires to { to < (layout_in self.old).regions }
         requires apart { from ≢ to }
-        ensures made { IfOk result (λ answer. Made H.KEEPS self.old
-            (redirect_entry caller from to answer) (DoesRedirect from to answer) self.new) }
-        ensures err { RefusesBy H.KEEPS self.old result self.new }
+        ensures { MakesCall H.KEEPS self.old (redirect_entry caller from to) (DoesRedirect from to)
+            result self.new }
     {
         self.history.make_room()?;
         let room = pending_room::<H>(self.alloc, &self.core)?;
         let answer = self.core.redirect(from, to)?;
-        let reply = Reply::from(&answer);
         let call = Call::Redirect { from, to };
-        let refined = redirected_cards(&answer);
-        enter_refined(&mut self.history, room, caller, call, reply, refined);
+        let refined = copied::<H>(room, redirected_cards(&answer));
+        self.history
+            .enter(caller, call, Reply::from(&answer), refined);
         Ok(answer)
     }
 }
 
-/// The reply of this clear.
-fn clear_reply(answer: &ClearReply) -> Reply
-    ensures { result ≡ Reply.Clear answer.now }
+/// The reply of a drain, whose list is copied into the room.
+fn copied_reply<H: Keeps>(room: Vec<Card>, answer: &Drained) -> Reply
+    requires empty { vec_len room ≡ 0 }
+    requires room { H.KEEPS ≡ true → length (drain_cards answer.now) ≤ vec_capacity room }
+    ensures { H.KEEPS ≡ true → result ≡ drain_reply answer.now }
 {
-    Reply::Clear(*answer)
+    match answer {
+        Drained::Cards { cards, .. } => Reply::Cards(copied::<H>(room, cards)),
+        Drained::Short { .. } => Reply::Short,
+    }
 }
 
-/// Enters a drain that was made, whose lists are copied into the rooms.
-#[inline(always)]
-fn enter_drain<H: Keeps>(
-    history: &mut H,
-    rooms: (Vec<Card>, Vec<Card>),
-    caller: u32,
-    region: Region,
-    answer: &Drained,
-)
-    requires ready { H.is_ready history.old }
-    requires empty { (vec_len rooms.0 ≡ 0) × (vec_len rooms.1 ≡ 0) }
-    requires cards { H.KEEPS ≡ true → length (drain_cards answer.now) ≤ vec_capacity rooms.0 }
-    requires refined { H.KEEPS ≡ true → length (drain_refined answer.now) ≤ vec_capacity rooms.1 }
-    ensures { H.past history.new
-        ≡ past_with H.KEEPS (H.past history.old) (drain_entry caller region answer.now) }
+/// The cards that a drain refined.
+fn drained_cards(answer: &Drained) -> &CardList
+    ensures { result.now ≡ drain_refined answer.now }
 {
-    let call = Call::Drain(region);
     match answer {
-        Drained::Cards { cards, refined } => {
-            enter_cards(history, rooms, caller, call, cards, refined);
-        }
-        Drained::Short { refined } => {
-            enter_refined(history, rooms.1, caller, call, Reply::Short, refined);
-        }
+        Drained::Cards { refined, .. } => refined,
+        Drained::Short { refined } => refined,
     }
 }
 

@@ -2,17 +2,17 @@
 ghost use Rattle.std.specs.Prelude.{◌≡◌, ◌<◌};
 ghost use Rattle.g1_history.specs.{IfOk, slot_count, card_count};
 
-use crate::book::Book;
+use crate::book::{Book, again};
 use crate::keeps::Keeps;
 use crate::refusal::Refusal;
-use crate::room::{enter_cards, list_room};
+use crate::room::{copied, list_room};
 use g1_core::{Call, CardList, Reply, Status};
 use g1_layout::{Card, Region, Slot};
 
 impl<H: Keeps> Book<H> {
     ghost use Rattle.g1_history.specs.{target_entry, pending_entry, members_entry, status_entry};
-    ghost use Rattle.g1_history.specs.{DoesTarget, DoesPending, DoesMembers, DoesStatus, Made};
-    ghost use Rattle.g1_history.specs.{RefusesBy, layout_in, IsAsked, MadeAsked};
+    ghost use Rattle.g1_history.specs.{DoesTarget, DoesPending, DoesMembers, DoesStatus};
+    ghost use Rattle.g1_history.specs.{MakesCall, RefusesBy, layout_in, IsAsked, MadeAsked};
 
     /// Returns the place that a slot refers to, or `None` if it is null, and enters the call. One
     /// slot is read.
@@ -22,14 +22,13 @@ impl<H: Keeps> Book<H> {
     /// entry holds no list.
     pub fn target(&mut self, caller: u32, slot: Slot) -> Result<Option<Slot>, Refusal>
         requires { slot < slot_count (layout_in self.old) }
-        ensures made { IfOk result (λ target. Made H.KEEPS self.old
-            (target_entry caller slot target) (DoesTarget slot target) self.new) }
-        ensures err { RefusesBy H.KEEPS self.old result self.new }
+        ensures { MakesCall H.KEEPS self.old (target_entry caller slot) (DoesTarget slot)
+            result self.new }
     {
         self.history.make_room()?;
         let target = self.core.target(slot);
         let none = CardList::new(self.alloc);
-        let reply = target_reply(&target);
+        let reply = Reply::Target(again(&target));
         self.history.enter(caller, Call::Target(slot), reply, none);
         Ok(target)
     }
@@ -42,9 +41,8 @@ impl<H: Keeps> Book<H> {
     /// entry holds no list.
     pub fn is_pending(&mut self, caller: u32, card: Card) -> Result<bool, Refusal>
         requires { card < card_count (layout_in self.old) }
-        ensures made { IfOk result (λ answer. Made H.KEEPS self.old
-            (pending_entry caller card answer) (DoesPending card answer) self.new) }
-        ensures err { RefusesBy H.KEEPS self.old result self.new }
+        ensures { MakesCall H.KEEPS self.old (pending_entry caller card) (DoesPending card)
+            result self.new }
     {
         self.history.make_room()?;
         let _layout = self.core.layout();
@@ -64,24 +62,17 @@ impl<H: Keeps> Book<H> {
     /// that it needs.
     pub fn members(&mut self, caller: u32, region: Region) -> Result<CardList, Refusal>
         requires { region < (layout_in self.old).regions }
-        ensures made { IfOk result (λ cards. Made H.KEEPS self.old
-            (members_entry caller region cards) (DoesMembers region cards) self.new) }
-        ensures err { RefusesBy H.KEEPS self.old result self.new }
+        ensures { MakesCall H.KEEPS self.old (members_entry caller region) (DoesMembers region)
+            result self.new }
     {
         self.history.make_room()?;
         let _layout = self.core.layout();
         let cards = self.core.members(region)?;
         let room = list_room::<H>(self.alloc, cards.len())?;
-        let none = list_room::<H>(self.alloc, 0)?;
-        let refined = CardList::new(self.alloc);
-        enter_cards(
-            &mut self.history,
-            (room, none),
-            caller,
-            Call::Members(region),
-            &cards,
-            &refined,
-        );
+        let reply = Reply::Cards(copied::<H>(room, &cards));
+        let none = CardList::new(self.alloc);
+        let call = Call::Members(region);
+        self.history.enter(caller, call, reply, none);
         Ok(cards)
     }
 
@@ -92,9 +83,7 @@ impl<H: Keeps> Book<H> {
     /// refused. Either changes nothing. The time grows with the number of regions. The entry holds
     /// no list.
     pub fn status(&mut self, caller: u32) -> Result<Status, Refusal>
-        ensures made { IfOk result (λ status. Made H.KEEPS self.old
-            (status_entry caller status) (DoesStatus status) self.new) }
-        ensures err { RefusesBy H.KEEPS self.old result self.new }
+        ensures { MakesCall H.KEEPS self.old (status_entry caller) DoesStatus result self.new }
     {
         self.history.make_room()?;
         let _layout = self.core.layout();
@@ -119,7 +108,7 @@ impl<H: Keeps> Book<H> {
         ensures err { RefusesBy H.KEEPS self.old result self.new }
     {
         match call {
-            Call::Target(slot) => Ok(target_reply(&self.target(caller, slot)?)),
+            Call::Target(slot) => Ok(Reply::Target(self.target(caller, slot)?)),
             Call::Pending(card) => Ok(Reply::Pending(self.is_pending(caller, card)?)),
             Call::Members(region) => Ok(Reply::Cards(self.members(caller, region)?)),
             Call::Status => Ok(Reply::Status(self.status(caller)?)),
@@ -129,11 +118,4 @@ impl<H: Keeps> Book<H> {
             Call::Store { .. } | Call::Refine => unreachable!(),
         }
     }
-}
-
-/// The reply for this target.
-fn target_reply(target: &Option<Slot>) -> Reply
-    ensures { result ≡ Reply.Target target.now }
-{
-    Reply::Target(*target)
 }

@@ -1,16 +1,16 @@
 //! Refinements that are entered in the history.
 ghost use Rattle.std.specs.Prelude.{◌≡◌, ◌≤◌};
-ghost use Rattle.g1_history.specs.{IfOk, option_map, cards_in};
+ghost use Rattle.g1_history.specs.{option_map, cards_in};
 
 use crate::book::Book;
 use crate::keeps::Keeps;
 use crate::refusal::Refusal;
-use crate::room::{enter_refined, list_room};
+use crate::room::{copied, list_room};
 use g1_core::{Call, RefineReply, Reply};
 use g1_log::Buffer;
 
 impl<H: Keeps> Book<H> {
-    ghost use Rattle.g1_history.specs.{refine_entry, DoesRefine, Made, RefusesBy};
+    ghost use Rattle.g1_history.specs.{refine_entry, DoesRefine, MakesCall};
 
     /// Refines a buffer, as the core does, and enters the call: the buffer's cards take their
     /// turns, oldest first. `None` refines nothing, and is entered too (docs/rules.md,
@@ -20,9 +20,8 @@ impl<H: Keeps> Book<H> {
     /// room for the entry, for its list or for the reply's list was refused. Either changes
     /// nothing. The entry's list takes 4 bytes for each refined card.
     pub fn refine(&mut self, caller: u32, buffer: Option<&Buffer>) -> Result<RefineReply, Refusal>
-        ensures made { IfOk result (λ reply. Made H.KEEPS self.old (refine_entry caller reply)
-            (DoesRefine (option_map (λ b. b.now) buffer.entry) reply) self.new) }
-        ensures err { RefusesBy H.KEEPS self.old result self.new }
+        ensures { MakesCall H.KEEPS self.old (refine_entry caller)
+            (DoesRefine (option_map (λ b. b.now) buffer.entry)) result self.new }
     {
         self.history.make_room()?;
         let room = list_room::<H>(self.alloc, cards_in(buffer))?;
@@ -34,14 +33,8 @@ impl<H: Keeps> Book<H> {
             left: reply.left,
             short: reply.short,
         };
-        enter_refined(
-            &mut self.history,
-            room,
-            caller,
-            Call::Refine,
-            answer,
-            &reply.refined,
-        );
+        let refined = copied::<H>(room, &reply.refined);
+        self.history.enter(caller, Call::Refine, answer, refined);
         Ok(reply)
     }
 }

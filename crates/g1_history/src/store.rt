@@ -2,7 +2,7 @@
 ghost use Rattle.std.specs.Prelude.{◌≡◌, ◌<◌};
 ghost use Rattle.g1_history.specs.{IfOk, OnErr, IfSome, IsNone, slot_count, card_of};
 
-use crate::book::Book;
+use crate::book::{Book, again};
 use crate::keeps::Keeps;
 use crate::refusal::Refusal;
 use g1_core::{Call, CardList, Reply, StoreReply};
@@ -10,7 +10,7 @@ use g1_layout::Slot;
 use g1_log::{Buffer, Log};
 
 impl<H: Keeps> Book<H> {
-    ghost use Rattle.g1_history.specs.{store_entry, DoesStore, IsLent, Made, RefusesBy, layout_in};
+    ghost use Rattle.g1_history.specs.{store_entry, DoesStore, IsLent, MakesCall, layout_in};
 
     /// Stores a reference, or null, with the given log, as the core does, and enters the call
     /// (docs/rules.md, The barrier).
@@ -33,11 +33,11 @@ impl<H: Keeps> Book<H> {
         requires caller { caller < self.old.mutators }
         requires slot { slot < slot_count (layout_in self.old) }
         requires target { IfSome target (λ place. place < slot_count (layout_in self.old)) }
-        ensures made { IfOk result (λ answer. Made H.KEEPS self.old
-            (store_entry caller slot target answer.0) (DoesStore slot target answer.0) self.new) }
+        ensures call { MakesCall H.KEEPS self.old
+            (λ answer. store_entry caller slot target answer.0)
+            (λ answer. DoesStore slot target answer.0) result self.new }
         ensures lent { IfOk result (λ answer.
             IsLent (card_of (layout_in self.old) slot) answer.0 log.old log.new answer.1) }
-        ensures err { RefusesBy H.KEEPS self.old result self.new }
         ensures err_log { OnErr result (log.new ≡ log.old) }
     {
         let mut completed = None;
@@ -69,15 +69,17 @@ impl<H: Keeps> Book<H> {
         requires empty { IsNone completed.old }
         requires slot { slot < slot_count (layout_in self.old) }
         requires target { IfSome target (λ place. place < slot_count (layout_in self.old)) }
-        ensures made { IfOk result (λ reply. Made H.KEEPS self.old
-            (store_entry caller slot target reply) (DoesStore slot target reply) self.new) }
+        ensures call { MakesCall H.KEEPS self.old (store_entry caller slot target)
+            (DoesStore slot target) result self.new }
         ensures lent { IfOk result (λ reply.
             IsLent (card_of (layout_in self.old) slot) reply log.old log.new completed.new) }
-        ensures err { RefusesBy H.KEEPS self.old result self.new }
         ensures err_lent { OnErr result ((log.new ≡ log.old) × (completed.new ≡ completed.old)) }
     {
         self.history.make_room()?;
-        let call = store_call(slot, &target);
+        let call = Call::Store {
+            slot,
+            target: again(&target),
+        };
         let reply = self.core.store_into(log, completed, slot, target);
         let answer = Reply::Stored {
             kind: reply.kind,
@@ -87,15 +89,5 @@ impl<H: Keeps> Book<H> {
         let none = CardList::new(self.alloc);
         self.history.enter(caller, call, answer, none);
         Ok(reply)
-    }
-}
-
-/// The call that stores this target.
-fn store_call(slot: Slot, target: &Option<Slot>) -> Call
-    ensures { result ≡ Call.Store slot target.now }
-{
-    Call::Store {
-        slot,
-        target: *target,
     }
 }

@@ -1,6 +1,6 @@
 -- The rule of the line, parcel by parcel.
 use Rattle.std.specs.Prelude.{◌≡◌, ◌≢◌, ◌+◌, ◌<◌, ◌==◌, ◌∷◌, ◌++◌}
-use Rattle.g1_log.specs.{ℕ, Bool, List, [], length, get_or, refl, ap, ◌∙◌, sum_by, arith, All, sum_by-cons, nat_tests, Buffer, Parcel, Sent, View, one_if, parcel, numbered, put_weight, taken_weight, holding, put_by, IsDelivered, named, senders_numbered, EachOnce, NoOther, NoStranger, EachParcelStandsOnce}
+use Rattle.g1_log.specs.{ℕ, Bool, List, [], length, get_or, refl, ap, ◌∙◌, sum_by, arith, All, sum_by-cons, nat_tests, Buffer, Parcel, Sent, PassView, one_if, parcel, numbered, put_weight, taken_weight, holding, put_by, IsDelivered, named, senders_numbered, EachOnce, NoOther, NoStranger, EachParcelStandsOnce}
 use Rattle.g1_log.proofs.Sums.{at_most_total, all_none, none_too, only}
 use Rattle.g1_log.proofs.Parcels.{over, over_none, test_none}
 use Rattle.g1_log.proofs.Putting.{one_view, queue_none_over, taken_none_over}
@@ -35,12 +35,12 @@ numbered_once i k n test (c ∷ before) after b e =
       numbered_once i k (n + 1) test before after b (omega arith),
     )
 
-view_none : (i k : ℕ) (test : Buffer → Bool) (v : View) → holding i v ≡ 0 → put_weight (named i k test) v ≡ 0
+view_none : (i k : ℕ) (test : Buffer → Bool) (v : PassView) → holding i v ≡ 0 → put_weight (named i k test) v ≡ 0
 view_none i k test v z =
     none_too (λ (s : Sent). one_if (s.number == i)) (λ s. sum_by (named i k test) (numbered s.number 0 s.buffers)) v.sent
     (λ j s at none. numbered_none i k 0 s.number test s.buffers (test_none s.number i none)) (omega arith)
 
-each_once : (items : List Parcel) (views : List View) → IsDelivered items views → EachOnce items views
+each_once : (items : List Parcel) (views : List PassView) → IsDelivered items views → EachOnce items views
 each_once items views h port i v before after b test at is split =
     let k = length before in
     let w = named i k test in
@@ -51,7 +51,7 @@ each_once items views h port i v before after b test at is split =
     let place : sum_by w (numbered i 0 (put_by v)) ≡ one_if (test b) = ap (λ l. sum_by w (numbered i 0 l)) split ∙ numbered_once i k 0 test before after b (omega arith) in
     omega (arith, h.balance w)
 
-no_other : (items : List Parcel) (views : List View) → IsDelivered items views → NoOther items views
+no_other : (items : List Parcel) (views : List PassView) → IsDelivered items views → NoOther items views
 no_other items views h port i v at is =
     let n = length (put_by v) in
     let below : (l : List Parcel) → sum_by (over i n) l ≡ 0 → All (λ (q : Parcel). q.sender ≡ i → q.number < n) l = λ l z k d lt. over_none i n (get_or l k d) (all_none (over i n) l z k d lt) in (
@@ -76,12 +76,12 @@ numbered_of_other i j k [] ne = refl
 numbered_of_other i j k (b ∷ bs) ne =
     omega (arith, sum_by-cons (of_sender i) (parcel j k b) (numbered j (k + 1) bs), of_sender_other i (parcel j k b) ne, numbered_of_other i j (k + 1) bs ne)
 
-view_of_others : (i : ℕ) (v : View) → senders_numbered i v ≡ 0 → put_weight (of_sender i) v ≡ 0
+view_of_others : (i : ℕ) (v : PassView) → senders_numbered i v ≡ 0 → put_weight (of_sender i) v ≡ 0
 view_of_others i v z =
     none_too (λ (s : Sent). one_if (s.number == i)) (λ s. sum_by (of_sender i) (numbered s.number 0 s.buffers)) v.sent
     (λ j s at none. numbered_of_other i s.number 0 s.buffers (test_none s.number i none)) z
 
-no_stranger : (items : List Parcel) (views : List View) → IsDelivered items views → NoStranger items views
+no_stranger : (items : List Parcel) (views : List PassView) → IsDelivered items views → NoStranger items views
 no_stranger items views h i none =
     let w = of_sender i in
     let put = none_too (senders_numbered i) (put_weight w) views (λ j b at z. view_of_others i b z) none in

@@ -1,6 +1,6 @@
 -- Parcels whose numbers rise, and those of a sender.
 use Rattle.std.specs.Prelude.{◌≡◌, ◌≢◌, ◌+◌, ◌<◌, ◌≤◌, ◌&&◌, ◌==◌, ◌∷◌, ◌++◌}
-use Rattle.g1_log.specs.{ℕ, suc, nat_lt, not, List, [], length, sym, refl, ap, ◌∙◌, sum_by, arith, All, sum_by-cons, All-nil, All-cons, All-head, All-tail, All-push, nat_tests, Buffer, Parcel, Sent, View, one_if, parcel, numbered, put_weight, holding, Rises}
+use Rattle.g1_log.specs.{ℕ, suc, nat_lt, not, List, [], length, sym, refl, ap, ◌∙◌, sum_by, arith, All, sum_by-cons, All-nil, All-cons, All-head, All-tail, All-push, nat_tests, Buffer, Parcel, Sent, PassView, one_if, parcel, numbered, put_weight, holding, Rises}
 use Rattle.g1_log.proofs.Sums.{none_too}
 
 -- Parcels whose numbers rise
@@ -56,7 +56,7 @@ numbered_other i n j k (b ∷ bs) ne =
 pub test_none : (s i : ℕ) → one_if (s == i) ≡ 0 → s ≢ i
 test_none s i z e = grind (arith, nat_tests)
 
-pub view_other : (i n : ℕ) (v : View) → holding i v ≡ 0 → put_weight (over i n) v ≡ 0
+pub view_other : (i n : ℕ) (v : PassView) → holding i v ≡ 0 → put_weight (over i n) v ≡ 0
 view_other i n v z =
     none_too (λ (s : Sent). one_if (s.number == i)) (λ s. sum_by (over i n) (numbered s.number 0 s.buffers)) v.sent
     (λ j s at none. numbered_other i n s.number 0 s.buffers (test_none s.number i none)) (omega arith)

@@ -1,12 +1,12 @@
 -- A new pass keeps the rule of the line.
 use Rattle.std.specs.Prelude.{◌≡◌, ◌≢◌, ◌+◌, ◌<◌, ◌≤◌, ◌&&◌, ◌==◌, ◌∷◌, ◌++◌}
-use Rattle.g1_log.specs.{ℕ, zero, suc, true, true≢false, nat_lt, not, cond, List, [], set, sym, refl, ap, ◌∙◌, subst, ⊎_elim, arith, sum_by_push, All-nil, All-cons, nat_tests, some, some-injective, some-ne-none, get_elem?, Forks, Admits, at_set, at_snoc, Parcel, View, one_if, put_weight, taken_weight, holding, Rises, whole, Fits, IsDelivered, newcomer, keeper, with_keeper, IsLineState, maker, sender_made, new_sender, taker_made, new_taker}
+use Rattle.g1_log.specs.{ℕ, zero, suc, true, true≢false, nat_lt, not, cond, List, [], set, sym, refl, ap, ◌∙◌, subst, ⊎_elim, arith, sum_by_push, All-nil, All-cons, nat_tests, some, some-injective, some-ne-none, get_elem?, Forks, Admits, at_set, at_snoc, Parcel, PassView, one_if, put_weight, taken_weight, holding, Rises, whole, Fits, IsDelivered, newcomer, keeper, with_keeper, IsLineState, maker, sender_made, new_sender, taker_made, new_taker}
 use Rattle.g1_log.proofs.Sums.{total_set}
 use Rattle.g1_log.proofs.Views.{read_set, read_at, read_snoc, one_if_le, set_there}
 
-add_newcomer : (items : List Parcel) (views : List View) → IsDelivered items views → IsDelivered items (views ++ newcomer ∷ [])
+add_newcomer : (items : List Parcel) (views : List PassView) → IsDelivered items views → IsDelivered items (views ++ newcomer ∷ [])
 add_newcomer items views h = record {
-  rights = omega (arith, sum_by_push (λ (u : View). u.rights) views newcomer, h.rights);
+  rights = omega (arith, sum_by_push (λ (u : PassView). u.rights) views newcomer, h.rights);
   numbers = λ j. omega (arith, sum_by_push (holding j) views newcomer, h.numbers j);
   balance = λ k. omega (arith, sum_by_push (put_weight k) views newcomer, sum_by_push (taken_weight k) views newcomer, h.balance k);
   rises = h.rises;
@@ -28,7 +28,7 @@ begins = record {
   each = begins_each;
 }
   where
-    begins_each : (j : ℕ) (u : View) → get_elem? (keeper ∷ []) j ≡ some u → Fits [] u
+    begins_each : (j : ℕ) (u : PassView) → get_elem? (keeper ∷ []) j ≡ some u → Fits [] u
     begins_each zero u is = subst (Fits []) (some-injective keeper u is) (record { idle = λ z. absurd (let r : whole ≡ 0 = z in omega arith); rises = All-cons (λ l. Rises (l ++ [])) [] [] tt (All-nil (λ l. Rises (l ++ []))); settled = λ z. absurd (true≢false (sym z)) })
     begins_each (suc j) u is = absurd (some-ne-none u (sym is))
 
@@ -37,15 +37,15 @@ pub opens : Forks IsLineState 0 newcomer keeper newcomer
 opens items [] h at = absurd (some-ne-none newcomer (sym at))
 opens items (x ∷ xs) h at =
     let q : x ≡ newcomer = some-injective x newcomer at in
-    add_newcomer items (keeper ∷ xs) (subst (λ (y : View). IsDelivered items (cond y.fresh keeper y ∷ xs)) q h)
+    add_newcomer items (keeper ∷ xs) (subst (λ (y : PassView). IsDelivered items (cond y.fresh keeper y ∷ xs)) q h)
 
-fork_keeps : (items : List Parcel) (views : List View) (port : ℕ) (v l r : View) → l.rights + r.rights ≡ v.rights
+fork_keeps : (items : List Parcel) (views : List PassView) (port : ℕ) (v l r : PassView) → l.rights + r.rights ≡ v.rights
     → ((j : ℕ) → holding j l + holding j r ≤ holding j v)
     → ((k : Parcel → ℕ) → (put_weight k l + put_weight k r ≡ put_weight k v) × (taken_weight k l + taken_weight k r ≡ taken_weight k v))
     → Fits items l → Fits items r
     → IsDelivered items views → get_elem? views port ≡ some v → IsDelivered items (set views port l ++ r ∷ [])
 fork_keeps items views port v l r rights numbers weights left right h at = record {
-  rights = omega (arith, sum_by_push (λ (u : View). u.rights) (set views port l) r, total_set (λ (u : View). u.rights) views port v l at, h.rights);
+  rights = omega (arith, sum_by_push (λ (u : PassView). u.rights) (set views port l) r, total_set (λ (u : PassView). u.rights) views port v l at, h.rights);
   numbers = λ j. omega (arith, sum_by_push (holding j) (set views port l) r, total_set (holding j) views port v l at, numbers j, h.numbers j);
   balance = λ k. omega (arith, sum_by_push (put_weight k) (set views port l) r, total_set (put_weight k) views port v l at, sum_by_push (taken_weight k) (set views port l) r, total_set (taken_weight k) views port v l at, h.balance k, (weights k).0, (weights k).1);
   rises = h.rises;

@@ -1,12 +1,12 @@
 -- A put keeps the rule of the line.
 use Rattle.std.specs.Prelude.{◌≡◌, ◌≢◌, ◌+◌, ◌<◌, ◌&&◌, ◌==◌, ◌∷◌, ◌++◌}
-use Rattle.g1_log.specs.{ℕ, true, false, true≢false, nat_lt, not, List, [], length, set, get_or, sym, refl, ap, ◌∙◌, subst, ⊎_elim, append_assoc, sum_by, arith, All, sum_by-append, sum_by_push, All-nil, nat_tests, some, get_elem?, Pushes, Learns, at_set, Buffer, Parcel, Sent, View, one_if, parcel, numbered, put_weight, taken_weight, holding, Rises, Fits, IsDelivered, with_keeper, IsLineState, SeenBy, put_by, IsSenderView, after_put}
+use Rattle.g1_log.specs.{ℕ, true, false, true≢false, nat_lt, not, List, [], length, set, get_or, sym, refl, ap, ◌∙◌, subst, ⊎_elim, append_assoc, sum_by, arith, All, sum_by-append, sum_by_push, All-nil, nat_tests, some, get_elem?, Pushes, Learns, at_set, Buffer, Parcel, Sent, PassView, one_if, parcel, numbered, put_weight, taken_weight, holding, Rises, Fits, IsDelivered, with_keeper, IsLineState, SeenBy, put_by, IsSenderView, after_put}
 use Rattle.g1_log.proofs.Sums.{total_set, at_most_total, two_at_most_total, all_none, only}
 use Rattle.g1_log.proofs.Parcels.{rises_push, numbered_push, over, over_none, numbered_below, view_other}
 use Rattle.g1_log.proofs.Views.{read_set, read_at}
 
 -- where the view of sender i has put bs, each parcel of sender i that was taken or that the queue holds has a number below their count
-module _ (items : List Parcel) (views : List View) (port i : ℕ) (v : View) (is : IsSenderView i v) (h : IsDelivered items views) (at : get_elem? views port ≡ some v) where
+module _ (items : List Parcel) (views : List PassView) (port i : ℕ) (v : PassView) (is : IsSenderView i v) (h : IsDelivered items views) (at : get_elem? views port ≡ some v) where
   made : ℕ
   made = length (put_by v)
 
@@ -30,7 +30,7 @@ module _ (items : List Parcel) (views : List View) (port i : ℕ) (v : View) (is
   pub queue_none_over : sum_by (over i (length (put_by v))) items ≡ 0
   queue_none_over = omega (arith, h.balance (over i (length (put_by v))), none_over)
 
-  pub taken_none_over : (j : ℕ) (u : View) → get_elem? views j ≡ some u → All (λ l. sum_by (over i (length (put_by v))) l ≡ 0) u.taken
+  pub taken_none_over : (j : ℕ) (u : PassView) → get_elem? views j ≡ some u → All (λ l. sum_by (over i (length (put_by v))) l ≡ 0) u.taken
   taken_none_over j u e =
       let hh = over i (length (put_by v)) in
       all_none (sum_by hh) u.taken (omega (arith, h.balance hh, none_over, at_most_total (taken_weight hh) views j u e))
@@ -40,21 +40,21 @@ rises_over : (l : List Parcel) (i n : ℕ) (b : Buffer) → Rises l → sum_by (
 rises_over l i n b r z = rises_push l (parcel i n b) r (λ k d lt. over_none i n _ (all_none (over i n) l z k d lt))
 
 -- a view with a right stands beside no view that has ended the line
-pub beside_settled : (items : List Parcel) (views : List View) (port j : ℕ) (v u : View) → IsDelivered items views → 0 < v.rights → get_elem? views port ≡ some v → get_elem? views j ≡ some u → j ≢ port
+pub beside_settled : (items : List Parcel) (views : List PassView) (port j : ℕ) (v u : PassView) → IsDelivered items views → 0 < v.rights → get_elem? views port ≡ some v → get_elem? views j ≡ some u → j ≢ port
     → u.ended ≡ true → ⊥
 beside_settled items views port j v u h right at at' other e =
-    let t = two_at_most_total (λ (w : View). w.rights) views port j v u at at' other in
+    let t = two_at_most_total (λ (w : PassView). w.rights) views port j v u at at' other in
     let all = ((h.each j u at').settled e).0 in
     omega (arith, h.rights)
 
-push_keeps : (items : List Parcel) (views : List View) (port i : ℕ) (v : View) (b : Buffer) → IsSenderView i v
+push_keeps : (items : List Parcel) (views : List PassView) (port i : ℕ) (v : PassView) (b : Buffer) → IsSenderView i v
     → IsDelivered items views → get_elem? views port ≡ some v → IsDelivered (items ++ parcel i (length (put_by v)) b ∷ []) (set views port (after_put i v (parcel i (length (put_by v)) b)))
 push_keeps items views port i v b is h at =
     let n = length (put_by v) in
     let x : Parcel = parcel i n b in
-    let w : View = after_put i v x in
+    let w : PassView = after_put i v x in
     record {
-      rights = omega (arith, total_set (λ (u : View). u.rights) views port v w at, h.rights);
+      rights = omega (arith, total_set (λ (u : PassView). u.rights) views port v w at, h.rights);
       numbers = λ j.
           let f : Sent → ℕ = λ s. one_if (s.number == j) in
           let same : sum_by f v.sent ≡ sum_by f w.sent = ap (sum_by f) is.sends in
@@ -83,7 +83,7 @@ push_keeps items views port i v b is h at =
           (at_set views port j w u e);
     }
 
-pub puts : (n port i k : ℕ) (v : View) (b : Buffer) → IsSenderView i v → length (put_by v) ≡ k → Pushes IsLineState n port v (parcel i k b) (λ w. w ≡ after_put i v (parcel i k b))
+pub puts : (n port i k : ℕ) (v : PassView) (b : Buffer) → IsSenderView i v → length (put_by v) ≡ k → Pushes IsLineState n port v (parcel i k b) (λ w. w ≡ after_put i v (parcel i k b))
 puts n port i k v b is count items views room h at =
     let keeps = push_keeps items (with_keeper views) port i v b is h (read_at views port v is.known at) in
     let x : ℕ → Parcel = λ m. parcel i m b in (
@@ -93,5 +93,5 @@ puts n port i k v b is count items views room h at =
       refl,
     )
 
-pub learns : (port : ℕ) (v : View) → v.fresh ≡ false → Learns IsLineState port v (SeenBy v)
+pub learns : (port : ℕ) (v : PassView) → v.fresh ≡ false → Learns IsLineState port v (SeenBy v)
 learns port v known items views h at = (with_keeper views, port, h, read_at views port v known at)

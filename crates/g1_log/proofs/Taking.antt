@@ -1,21 +1,21 @@
 -- A take keeps the rule of the line.
 use Rattle.std.specs.Prelude.{◌≡◌, ◌≢◌, ◌+◌, ◌<◌, ◌∷◌, ◌++◌}
-use Rattle.g1_log.specs.{ℕ, Bool, true, true≢false, List, [], set, get_or, sym, refl, ap, ◌∙◌, subst, ⊎_elim, append_assoc, sum_by, arith, All, sum_by-cons, sum_by_push, All-nil, All-cons, All-head, some, get_elem?, Pops, at_set, Parcel, View, put_weight, taken_weight, holding, Rises, whole, Fits, IsDelivered, view_with, with_keeper, IsLineState, taken_by, IsTakerView, after_take}
+use Rattle.g1_log.specs.{ℕ, Bool, true, true≢false, List, [], set, get_or, sym, refl, ap, ◌∙◌, subst, ⊎_elim, append_assoc, sum_by, arith, All, sum_by-cons, sum_by_push, All-nil, All-cons, All-head, some, get_elem?, Pops, at_set, Parcel, PassView, put_weight, taken_weight, holding, Rises, whole, Fits, IsDelivered, view_with, with_keeper, IsLineState, taken_by, IsTakerView, after_take}
 use Rattle.g1_log.proofs.Sums.{total_set}
 use Rattle.g1_log.proofs.Parcels.{rises_without}
 use Rattle.g1_log.proofs.Views.{read_set, read_at}
 use Rattle.g1_log.proofs.Putting.{beside_settled}
 
 -- a view with a right takes x, into lists in which the numbers rise
-pub pop_keeps : (items : List Parcel) (views : List View) (port : ℕ) (v : View) (x : Parcel) (t : List (List Parcel)) (e : Bool) (r : List Parcel) → 0 < v.rights
+pub pop_keeps : (items : List Parcel) (views : List PassView) (port : ℕ) (v : PassView) (x : Parcel) (t : List (List Parcel)) (e : Bool) (r : List Parcel) → 0 < v.rights
     → ((k : Parcel → ℕ) → sum_by (sum_by k) t ≡ sum_by (sum_by k) v.taken + k x)
     → All (λ l. Rises (l ++ items)) t
     → (e ≡ true → (v.rights ≡ whole) × (r ≡ items))
     → IsDelivered (x ∷ items) views → get_elem? views port ≡ some v → IsDelivered items (set views port (view_with v.fresh v.rights v.makes v.made v.sent t e r))
 pop_keeps items views port v x t e r right gains rise ends h at =
-    let w : View = view_with v.fresh v.rights v.makes v.made v.sent t e r in
+    let w : PassView = view_with v.fresh v.rights v.makes v.made v.sent t e r in
     record {
-      rights = omega (arith, total_set (λ (u : View). u.rights) views port v w at, h.rights);
+      rights = omega (arith, total_set (λ (u : PassView). u.rights) views port v w at, h.rights);
       numbers = λ j. omega (arith, total_set (holding j) views port v w at, h.numbers j);
       balance = λ k.
           let new : taken_weight k w ≡ taken_weight k v + k x = gains k in
@@ -35,7 +35,7 @@ pop_keeps items views port v x t e r right gains rise ends h at =
           (at_set views port j w u is);
     }
 
-pub takes : (port : ℕ) (v : View) → IsTakerView v → Pops IsLineState port v (λ x w. w ≡ after_take v x)
+pub takes : (port : ℕ) (v : PassView) → IsTakerView v → Pops IsLineState port v (λ x w. w ≡ after_take v x)
 takes port v is x items views h at =
     let l = taken_by v in
     let inside = read_at views port v is.known at in

@@ -9,7 +9,7 @@ use Rattle.g1_log.specs.declared.ends.Taker.{Taker}
 use Rattle.g1_log.specs.declared.ends.Settled.{Settled}
 use Rattle.g1_log.specs.declared.buffer.Buffer.{Buffer}
 use Rattle.g1_log.specs.declared.parcel.Parcel.{Parcel}
-use Rattle.g1_log.specs.declared.view.View.{View}
+use Rattle.g1_log.specs.declared.view.PassView.{PassView}
 use Rattle.g1_log.specs.Line.{one_if, put_by, taken_by, put_weight, taken_weight, Rises, whole}
 use Rattle.g1_log.specs.Line.{SeenBy}
 
@@ -36,10 +36,10 @@ abbrev pub IsTakerOf : Line → Taker → Type 0
 IsTakerOf line t = taker_home t ≡ line_home line
 
 -- what a sender and a taker know of the line
-abbrev pub sender_view : Sender → View
+abbrev pub sender_view : Sender → PassView
 sender_view s = view s.pass
 
-abbrev pub taker_view : Taker → View
+abbrev pub taker_view : Taker → PassView
 taker_view t = view t.pass
 
 -- the number of a sender, from 0
@@ -73,7 +73,7 @@ pub record IsSameTaker (s t : Taker) : Type 0 where
 
 -- there was a state by the rule of the line, with this view in it, in which the queue held n
 -- parcels
-abbrev pub WasOfLength : ℕ → View → Type 0
+abbrev pub WasOfLength : ℕ → PassView → Type 0
 WasOfLength n v = Held n (SeenBy v)
 
 -- the queue was full, or empty, in a state with what this sender has put, or this taker taken

@@ -16,4 +16,4 @@ pub use declared.ends.Sender.{Sender}
 pub use declared.ends.Taker.{Taker}
 pub use declared.parcel.Parcel.{Parcel}
 pub use declared.view.Sent.{Sent}
-pub use declared.view.View.{View}
+pub use declared.view.PassView.{PassView}

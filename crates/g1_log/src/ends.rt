@@ -6,13 +6,13 @@ ghost use Rattle.g1_log.specs.Line.{put_by, IsSenderView, IsTakerView};
 
 use crate::parcel::Parcel;
 use crate::rule::Queue;
-use crate::view::View;
+use crate::view::PassView;
 use crossbeam_queue::Pass;
 
 /// The end of the queue by which one mutator puts buffers.
 #[derive(Drop)]
 pub struct Sender {
-    pub(crate) pass: Pass<Parcel, View>,
+    pub(crate) pass: Pass<Parcel, PassView>,
     pub(crate) number: u32,
     pub(crate) next: u64,
     ghost rests: { pass.me.1 ≡ [] } by { Prim.hlevel props },
@@ -24,7 +24,7 @@ pub struct Sender {
 /// The end of the queue by which one thread takes parcels.
 #[derive(Drop)]
 pub struct Taker {
-    pub(crate) pass: Pass<Parcel, View>,
+    pub(crate) pass: Pass<Parcel, PassView>,
     ghost rests: { pass.me.1 ≡ [] } by { Prim.hlevel props },
     ghost role: { IsTakerView (view pass) } by { Prim.hlevel props },
 }
@@ -33,7 +33,7 @@ pub struct Taker {
 #[derive(Drop)]
 pub struct Settled {
     pub(crate) queue: Queue,
-    pub(crate) pass: Pass<Parcel, View>,
+    pub(crate) pass: Pass<Parcel, PassView>,
     // The oldest parcel that is left.
     pub(crate) ahead: Option<Parcel>,
     pub(crate) sent: u64,

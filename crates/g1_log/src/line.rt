@@ -8,8 +8,10 @@ ghost use Rattle.g1_log.specs.Line.{maker, newcomer, joined, whole};
 use crate::buffer::Buffer;
 use crate::ends::{Sender, Settled, Taker};
 use crate::parcel::Parcel;
-use crate::rule::{Drains, Ends, ForSender, ForTaker, Joins, Opens, Puts, Queue, Takes};
-use crate::view::View;
+use crate::rule::{
+    EndsLine, ForSender, ForTaker, JoinsEnd, Opens, PutsParcel, Queue, TakesParcel, TakesRest,
+};
+use crate::view::PassView;
 use crossbeam_queue::Pass;
 use crossbeam_queue::protocol::Free;
 use g1_layout::NoMemory;
@@ -97,7 +99,10 @@ impl Line {
             number: sender.next,
             buffer,
         };
-        match self.queue.push_as::<Puts, R>(rt, &mut sender.pass, parcel) {
+        match self
+            .queue
+            .push_as::<PutsParcel, R>(rt, &mut sender.pass, parcel)
+        {
             Ok(()) => {
                 sender.next += 1;
                 Ok(())
@@ -120,7 +125,7 @@ impl Line {
             ((taken_of taker.new ≡ taken_of taker.old) × WasEmpty taker.old)
             (λ x. taken_of taker.new ≡ taken_of taker.old ++ x ∷ []) }
     {
-        self.queue.pop_as::<Takes, R>(rt, &mut taker.pass)
+        self.queue.pop_as::<TakesParcel, R>(rt, &mut taker.pass)
     }
 
     /// Whether the queue was seen empty at some moment of the call: a take that is not made.
@@ -135,7 +140,7 @@ impl Line {
         ensures taken { taken_of taker.new ≡ taken_of taker.old }
         ensures empty { IsTrue result → WasEmpty taker.old }
     {
-        self.queue.is_empty_as::<Takes>(&mut taker.pass)
+        self.queue.is_empty_as::<TakesParcel>(&mut taker.pass)
     }
 
     /// How many parcels the queue holds at most, as it was made. Constant time; no memory.
@@ -175,8 +180,8 @@ impl Line {
         let mut pass = self.queue.pass();
         let sent = self.gather_senders(&mut pass, senders);
         self.gather_takers(&mut pass, takers);
-        let left = self.queue.len_as::<Ends, R>(rt, &mut pass) as u64;
-        let ahead = self.queue.pop_as::<Ends, R>(rt, &mut pass);
+        let left = self.queue.len_as::<EndsLine, R>(rt, &mut pass) as u64;
+        let ahead = self.queue.pop_as::<EndsLine, R>(rt, &mut pass);
         let Line { queue } = self;
         Settled {
             queue,
@@ -191,7 +196,7 @@ impl Line {
     fn make_senders(
         &self,
         alloc: Global,
-        maker_pass: &mut Pass<Parcel, View>,
+        maker_pass: &mut Pass<Parcel, PassView>,
         count: u32,
     ) -> Result<Vec<Sender>, NoMemory>
         requires pass { IsPassOf self.now.queue maker_pass.old }
@@ -219,7 +224,7 @@ impl Line {
     fn make_takers(
         &self,
         alloc: Global,
-        mut maker_pass: Pass<Parcel, View>,
+        mut maker_pass: Pass<Parcel, PassView>,
         count: u32,
     ) -> Result<Vec<Taker>, NoMemory>
         requires pass { IsPassOf self.now.queue maker_pass }
@@ -239,7 +244,7 @@ impl Line {
     }
 
     // Joins the senders into the pass, and counts what they have put.
-    fn gather_senders(&self, pass: &mut Pass<Parcel, View>, senders: Vec<Sender>) -> u64
+    fn gather_senders(&self, pass: &mut Pass<Parcel, PassView>, senders: Vec<Sender>) -> u64
         requires pass { IsPassOf self.now.queue pass.old × (view pass.old ≡ newcomer) }
         requires senders { All (IsSenderOf self.now) senders.items
             × (length senders.items ≤ whole) }
@@ -254,14 +259,14 @@ impl Line {
                 number: _,
                 next,
             } = sender;
-            self.queue.absorb::<Joins>(pass, theirs);
+            self.queue.absorb::<JoinsEnd>(pass, theirs);
             sent += next;
         }
         sent
     }
 
     // Joins the takers into the pass.
-    fn gather_takers(&self, pass: &mut Pass<Parcel, View>, takers: Vec<Taker>)
+    fn gather_takers(&self, pass: &mut Pass<Parcel, PassView>, takers: Vec<Taker>)
         requires pass { IsPassOf self.now.queue pass.old
             × ((view pass.old ≡ newcomer) ⊎ ((view pass.old).fresh ≡ false)) }
         requires takers { All (IsTakerOf self.now) takers.items }
@@ -270,7 +275,7 @@ impl Line {
     {
         for taker in takers {
             let Taker { pass: theirs } = taker;
-            self.queue.absorb::<Joins>(pass, theirs);
+            self.queue.absorb::<JoinsEnd>(pass, theirs);
         }
     }
 }
@@ -308,7 +313,7 @@ impl Settled {
             × (left_count self.new ≡ left_count self.old) }
     {
         let next = self.ahead.take()?;
-        self.ahead = self.queue.pop_as::<Drains, R>(rt, &mut self.pass);
+        self.ahead = self.queue.pop_as::<TakesRest, R>(rt, &mut self.pass);
         Some(next)
     }
 }

@@ -6,48 +6,48 @@ ghost use Rattle.g1_log.specs.Line.{taker_made, new_taker, joined, spent, SeenBy
 ghost use Rattle.g1_log.specs.Line.{after_take, IsLeft, ended_view};
 
 use crate::parcel::Parcel;
-use crate::view::View;
+use crate::view::PassView;
 use crossbeam_queue::RuledArrayQueue;
 use crossbeam_queue::protocol::{Join, Lesson, Outcome, Protocol, Split};
 
 /// The rule of the queue, which each pass of the queue keeps.
 pub struct Ordered;
 
-impl Protocol<Parcel, View> for Ordered {
+impl Protocol<Parcel, PassView> for Ordered {
     ghost holds = { IsLineState };
 
     ghost first = { newcomer };
 }
 
 /// The queue of parcels, under that rule.
-pub type Queue = RuledArrayQueue<Parcel, View, Ordered>;
+pub type Queue = RuledArrayQueue<Parcel, PassView, Ordered>;
 
 /// A put: the sender's view gains the buffer. One that is refused has seen a full queue.
-pub struct Puts;
+pub struct PutsParcel;
 
-impl Outcome<Parcel, View> for Puts {
+impl Outcome<Parcel, PassView> for PutsParcel {
     ghost then = { λ v x w. w ≡ after_put x.sender v x };
 }
 
-impl Lesson<Parcel, View> for Puts {
+impl Lesson<Parcel, PassView> for PutsParcel {
     ghost fact = { SeenBy };
 }
 
 /// A take: the taker's view gains the parcel. One that finds nothing has seen an empty queue.
-pub struct Takes;
+pub struct TakesParcel;
 
-impl Outcome<Parcel, View> for Takes {
+impl Outcome<Parcel, PassView> for TakesParcel {
     ghost then = { λ v x w. w ≡ after_take v x };
 }
 
-impl Lesson<Parcel, View> for Takes {
+impl Lesson<Parcel, PassView> for TakesParcel {
     ghost fact = { SeenBy };
 }
 
 /// The first split, in which the first pass takes all rights.
 pub struct Opens;
 
-impl Split<View> for Opens {
+impl Split<PassView> for Opens {
     ghost left = { λ v. keeper };
 
     ghost right = { λ v. newcomer };
@@ -56,7 +56,7 @@ impl Split<View> for Opens {
 /// The split of a sender from the pass that makes the ends.
 pub struct ForSender;
 
-impl Split<View> for ForSender {
+impl Split<PassView> for ForSender {
     ghost left = { λ v. sender_made v };
 
     ghost right = { λ v. new_sender v.made };
@@ -65,39 +65,39 @@ impl Split<View> for ForSender {
 /// The split of a taker from that pass.
 pub struct ForTaker;
 
-impl Split<View> for ForTaker {
+impl Split<PassView> for ForTaker {
     ghost left = { λ v. taker_made v };
 
     ghost right = { λ v. new_taker };
 }
 
 /// The join of an end that came back.
-pub struct Joins;
+pub struct JoinsEnd;
 
-impl Join<View> for Joins {
+impl Join<PassView> for JoinsEnd {
     ghost both = { joined };
 
     ghost spent = { spent };
 }
 
 /// The first take of a pass that has all rights, which then knows what the queue holds.
-pub struct Ends;
+pub struct EndsLine;
 
-impl Outcome<Parcel, View> for Ends {
+impl Outcome<Parcel, PassView> for EndsLine {
     ghost then = { λ v x w. (w ≡ ended_view v x w.rest) × IsLeft v (x ∷ w.rest) };
 }
 
-impl Lesson<Parcel, View> for Ends {
+impl Lesson<Parcel, PassView> for EndsLine {
     ghost fact = { IsLeft };
 }
 
 /// Its later takes.
-pub struct Drains;
+pub struct TakesRest;
 
-impl Outcome<Parcel, View> for Drains {
+impl Outcome<Parcel, PassView> for TakesRest {
     ghost then = { λ v x w. (w ≡ ended_view v x w.rest) × (v.rest ≡ x ∷ w.rest) };
 }
 
-impl Lesson<Parcel, View> for Drains {
+impl Lesson<Parcel, PassView> for TakesRest {
     ghost fact = { λ v items. v.rest ≡ items };
 }

@@ -10,7 +10,7 @@ pub struct Sent {
 }
 
 /// What was put and taken by one pass.
-pub struct View {
+pub struct PassView {
     /// Whether it is as it came.
     pub fresh: bool,
     /// Its share of the queue. If all shares are in one pass, no other can put or take.

@@ -1,10 +1,10 @@
 -- The pairs of a card with the regions that have some card of its block.
 use Rattle.std.specs.Prelude.{◌≡◌, ◌/◌, ◌<◌, ◌∷◌, ◌++◌}
-use Rattle.g1_race.specs.{not-false, ℕ, zero, suc, false, List, [], Contains, length, get_or, refl, sym, ap, ◌∙◌, subst, inl, inr, arith, bit_at, flat_map, cases_Bool, eqb-true, append-nil, Contains-get_or, bit_at-zero, Shape, bit_place, bit_word, pairs_of_card, block_regions, has_block, one_pair, pair_clear}
+use Rattle.g1_race.specs.{not-false, ℕ, zero, suc, false, List, [], Contains, length, get_or, refl, sym, ap, ◌∙◌, subst, inl, inr, arith, bit_at, flat_map, cases_Bool, eqb-true, append-nil, Contains-get_or, bit_at-zero, RaceShape, bit_place, bit_word, pairs_of_card, block_regions, has_block, one_pair, pair_clear}
 use Rattle.std.proofs.lemmas.Grind.{flat_map-append}
 use Rattle.g1_race.proofs.Telling.{left_out, listed_below, put_in}
 
-module _ (k : Shape) (words : List ℕ) (card : ℕ) where
+module _ (k : RaceShape) (words : List ℕ) (card : ℕ) where
   -- the pairs of the card with these regions
   abbrev pub with_regions : List ℕ → List (ℕ × ℕ)
   with_regions rs = flat_map (λ r. one_pair k words (card, r)) rs

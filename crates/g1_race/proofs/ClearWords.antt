@@ -1,6 +1,6 @@
 -- What a clear at a pause reads and does.
 use Rattle.std.specs.Prelude.{◌≡◌, ◌≢◌, ◌+◌, ◌-◌, ◌*◌, ◌/◌, ◌<◌, ◌≤◌}
-use Rattle.g1_race.specs.{ℕ, not, eqb, List, length, set, get_or, length-set, eq-eqb, Some, None, refl, sym, ap, ◌∙◌, subst, inl, inr, arith, some, get_elem?, cases_eq, eqb-true, not-false, take-set-le, get_or-set_same, get_or-set_other, div-mul-add, bit_at, set_else, Enters, Table, clear_entry, Shape, IsBegun, IsWholeShape, HasBit, bit_word, bit_place, slot_card, flag, front, mark_word, word_count, region_at, started, shape_of, ended, table_of, Clear, Cleared, Pending, StillReferenced, IsStep, settled, refined_none, none_refinable, Into, IsLeastInto, IsEmptied, marked_cards, no_bit, at_take, at_untake, reads_as, crosses_reference, card_in_row, crossing_pair, in_row, flag_card, word_in_row}
+use Rattle.g1_race.specs.{ℕ, not, eqb, List, length, set, get_or, length-set, eq-eqb, Some, None, refl, sym, ap, ◌∙◌, subst, inl, inr, arith, some, get_elem?, cases_eq, eqb-true, not-false, take-set-le, get_or-set_same, get_or-set_other, div-mul-add, bit_at, set_else, Enters, Table, clear_entry, RaceShape, IsBegun, IsWholeShape, HasBit, bit_word, bit_place, slot_card, flag, front, mark_word, word_count, region_at, started, shape_of, ended, table_of, Clear, Cleared, Pending, StillReferenced, IsStep, settled, refined_none, none_refinable, Into, IsLeastInto, IsEmptied, marked_cards, no_bit, at_take, at_untake, reads_as, crosses_reference, card_in_row, crossing_pair, in_row, flag_card, word_in_row}
 use Rattle.std.specs.FinSet as fin
 use Rattle.g1_layout.specs.Shape as layout
 use Rattle.g1_core.specs.declared.entry.Reply.TheVariants as reply
@@ -12,19 +12,19 @@ use Rattle.g1_race.proofs.PauseTable.{none_pending, pending_len}
 
 -- a word of the region's row
 
-abbrev pub row_word : Shape → ℕ → ℕ → ℕ
+abbrev pub row_word : RaceShape → ℕ → ℕ → ℕ
 row_word k region i = k.slots + k.cards + (region * k.row + i)
 
-row_apart : (k : Shape) (x : ℕ × ℕ) (region i : ℕ) → IsWholeShape k → x.0 < k.cards → x.1 ≢ region → i < k.row → bit_word k x ≢ row_word k region i
+row_apart : (k : RaceShape) (x : ℕ × ℕ) (region i : ℕ) → IsWholeShape k → x.0 < k.cards → x.1 ≢ region → i < k.row → bit_word k x ≢ row_word k region i
 row_apart k x region i shaped card ne lt e = ne (
     let low : x.1 * k.row + x.0 / 64 ≡ region * k.row + i = (let n : ℕ = x.1 * k.row + x.0 / 64 in let m : ℕ = region * k.row + i in let g : k.slots + k.cards + n ≡ k.slots + k.cards + m = e in let goal : n ≡ m = omega arith in goal) in
     sym (div-mul-add x.1 k.row (x.0 / 64) (card_in_row k x.0 shaped card)) ∙ (ap (λ (n : ℕ). n / k.row) low ∙ div-mul-add region k.row i lt))
 
-pub row_below : (k : Shape) (region i : ℕ) → IsWholeShape k → region ≤ k.regions → i < k.row → row_word k region i < word_count k
+pub row_below : (k : RaceShape) (region i : ℕ) → IsWholeShape k → region ≤ k.regions → i < k.row → row_word k region i < word_count k
 row_below k region i shaped le below = word_in_row k region i shaped le below
 
 -- a word more of the row is 0
-emptied_on : (k : Shape) (old words new : List ℕ) (region i : ℕ) → IsEmptied k old words region i → front k new ≡ front k words → ((x : ℕ × ℕ) → x.0 < k.cards → x.1 ≢ region → HasBit k words x → HasBit k new x) → ((x : ℕ × ℕ) → HasBit k new x → HasBit k words x)
+emptied_on : (k : RaceShape) (old words new : List ℕ) (region i : ℕ) → IsEmptied k old words region i → front k new ≡ front k words → ((x : ℕ × ℕ) → x.0 < k.cards → x.1 ≢ region → HasBit k words x → HasBit k new x) → ((x : ℕ × ℕ) → HasBit k new x → HasBit k words x)
     → ((x : ℕ × ℕ) → bit_word k x ≡ row_word k region i → HasBit k new x → ⊥) → IsEmptied k old new region (i + 1)
 emptied_on k old words new region i g same kept back gone = record {
   front = same ∙ g.front;
@@ -36,7 +36,7 @@ emptied_on k old words new region i g same kept back gone = record {
   ];
 }
 
-module _ (k : Shape) (words : List ℕ) (region i : ℕ) (h : IsBegun (started k words)) (lt : region ≤ k.regions) (below : i < k.row) where
+module _ (k : RaceShape) (words : List ℕ) (region i : ℕ) (h : IsBegun (started k words)) (lt : region ≤ k.regions) (below : i < k.row) where
   abbrev less : List ℕ
   less = set words (row_word k region i) 0
 
@@ -64,27 +64,27 @@ module _ (k : Shape) (words : List ℕ) (region i : ℕ) (h : IsBegun (started k
   emptied_next old g = emptied_on k old words less region i g (take-set-le (k.slots + k.cards) words (row_word k region i) 0 (omega arith)) (λ x pair ne. bit_on x (row_apart k x region i h.shaped pair ne below)) bit_back gone
 
 -- a word of the row that is 0 already
-pub emptied_past : (k : Shape) (old words : List ℕ) (region i found : ℕ) → get_elem? words (row_word k region i) ≡ some found → found ≡ 0 → IsEmptied k old words region i → IsEmptied k old words region (i + 1)
+pub emptied_past : (k : RaceShape) (old words : List ℕ) (region i found : ℕ) → get_elem? words (row_word k region i) ≡ some found → found ≡ 0 → IsEmptied k old words region i → IsEmptied k old words region (i + 1)
 emptied_past k old words region i found at none g = emptied_on k old words words region i g refl (λ x pair ne b. b) (λ x b. b)
     (λ x e b. no_bit k words x (ap (λ (j : ℕ). get_or words j 0) e ∙ (reads_as words (row_word k region i) found 0 at ∙ none)) b)
 
 -- no slot refers into the region of the row of flags
-pub none_behind : (k : Shape) (words : List ℕ) (p : ℕ) → IsBegun (started k words) → Into k words k.regions p → ⊥
+pub none_behind : (k : RaceShape) (words : List ℕ) (p : ℕ) → IsBegun (started k words) → Into k words k.regions p → ⊥
 none_behind k words p h i = absurd (let pair = crossing_pair k p i.0 h.shaped i.1 (h.bounded p i.0 i.1 i.2) i.3 in omega (arith, pair.1, i.4))
 
-pub into_back : (k : Shape) (old new : List ℕ) (region p : ℕ) → front k new ≡ front k old → Into k new region p → Into k old region p
+pub into_back : (k : RaceShape) (old new : List ℕ) (region p : ℕ) → front k new ≡ front k old → Into k new region p → Into k old region p
 into_back k old new region p same i = (i.0, i.1, slot_back k old new p i.0 same i.1 i.2, i.3, i.4)
 
 -- as a table
 
-module _ (k : Shape) (l : layout.Shape) (laid : k ≡ shape_of l k.members) where
+module _ (k : RaceShape) (l : layout.Shape) (laid : k ≡ shape_of l k.members) where
   enters_word : (words : List ℕ) (slot region : ℕ) → Enters (table_of (ended l k words)) slot region → Into k words region slot
   enters_word words slot region h =
       let w = crossing_back (ended l k words) k.members slot h.place h.refers (λ q. h.outside (q ∙ h.into)) in
-      subst (λ (s : Shape). Into s words region slot) (sym laid) (w.0, w.1, (at_untake words (k.slots + k.cards) slot w.0 w.2).1, w.3, w.4 ∙ h.into)
+      subst (λ (s : RaceShape). Into s words region slot) (sym laid) (w.0, w.1, (at_untake words (k.slots + k.cards) slot w.0 w.2).1, w.3, w.4 ∙ h.into)
 
   word_enters : (words : List ℕ) (slot region : ℕ) → Into k words region slot → Enters (table_of (ended l k words)) slot region
-  word_enters words slot region i = let x = subst (λ (s : Shape). Into s words region slot) laid i in record {
+  word_enters words slot region i = let x = subst (λ (s : RaceShape). Into s words region slot) laid i in record {
     place = x.0 - 1;
     refers = word_refers (ended l k words) slot x.0 x.1 (at_take words (k.slots + k.cards) slot x.0 (omega (arith, i.1)) x.2) (crosses_reference (shape_of l k.members) slot x.0 x.3);
     into = x.4;

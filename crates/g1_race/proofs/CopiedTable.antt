@@ -1,6 +1,6 @@
 -- Words that have all of a core's table say that table.
 use Rattle.std.specs.Prelude.{◌^◌, ◌≡◌, ◌≢◌, ◌+◌, ◌-◌, ◌/◌, ◌<◌, ◌≤◌}
-use Rattle.g1_race.specs.{slot_card, eqb-true, length-take, ℕ, List, length, take, get_or, Bool, true, false, Option, None, Some, refl, sym, ap, ◌∙◌, subst, inl, inr, ⊎_elim, arith, some, get_elem?, length-map, length-take-le, get_or_past, cases_lt, true≢false, slot_count, card_count, region_of, Table, State, IsSound, same_cards, same_pairs, in_pairs, to_pairs, pending_flag, Shape, In, IsWholeShape, IsPair, HasBit, mark_word, region_at, as_number, word_count, shape_of, word_of, Ended, ended, target_of_word, refs_of, marks_of, table_of, Notes, AreMarked, ArePlaced, AreCovered, zeros, zero_at, no_bit, zeros_read, crosses_reference, card_below, at_take, in_contains, contains_in, reads_as, listed_set, set_listed}
+use Rattle.g1_race.specs.{slot_card, eqb-true, length-take, ℕ, List, length, take, get_or, Bool, true, false, Option, None, Some, refl, sym, ap, ◌∙◌, subst, inl, inr, ⊎_elim, arith, some, get_elem?, length-map, length-take-le, get_or_past, cases_lt, true≢false, slot_count, card_count, region_of, Table, State, IsSound, same_cards, same_pairs, in_pairs, to_pairs, pending_flag, RaceShape, In, IsWholeShape, IsPair, HasBit, mark_word, region_at, as_number, word_count, shape_of, word_of, Ended, ended, target_of_word, refs_of, marks_of, table_of, Notes, AreMarked, ArePlaced, AreCovered, zeros, zero_at, no_bit, zeros_read, crosses_reference, card_below, at_take, in_contains, contains_in, reads_as, listed_set, set_listed}
 use Rattle.std.specs.FinSet as set_of
 use Rattle.std.proofs.lemmas.List.{ext_get_or}
 use Rattle.g1_layout.specs.Shape as layout
@@ -21,7 +21,7 @@ word_bound s p parts lt = word_fits (table.target_of s.table p) (slot_count s.ta
 
 -- each reference of a core's table is covered by the marks and the bits that are placed for it
 
-core_covered : (s : State) (l : layout.Shape) (k : Shape) (words : List ℕ) → l ≡ s.table.layout → k ≡ shape_of l k.members → IsSound s → IsWholeShape k
+core_covered : (s : State) (l : layout.Shape) (k : RaceShape) (words : List ℕ) → l ≡ s.table.layout → k ≡ shape_of l k.members → IsSound s → IsWholeShape k
     → ((c : ℕ) → c < k.cards → get_elem? words (mark_word k c) ≡ some (as_number (set_of.contains s.table.pending c)))
     → ((x : ℕ × ℕ) → set_of.contains s.table.recorded x ≡ true → HasBit k words x)
     → AreCovered k s.table words
@@ -30,15 +30,15 @@ core_covered s l k words lay laid parts shaped marks on p lt cr =
     let n = word_of (table.target_of t p) in
     let some_n = word_some (table.target_of t p) n refl (crosses_reference k p n cr).0 in
     let same : k ≡ shape_of t.layout k.members = laid ∙ ap (λ (x : layout.Shape). shape_of x k.members) lay in
-    let back : region_of t.layout some_n.0 ≡ region_at k n = ap (λ (x : Shape). some_n.0 / x.span) (sym same) ∙ ap (λ (q : ℕ). q / k.span) (let f : some_n.0 ≡ n - 1 = omega (arith, some_n.2) in f) in
-    let card : slot_card k p ≡ layout.card_of t.layout p = ap (λ (x : Shape). p / x.size) same in
-    elim (parts.cover p some_n.0 (record { refers = some_n.1; across = λ e. crosses_apart k p n cr (ap (λ (x : Shape). p / x.span) same ∙ (e ∙ back)) })) [
+    let back : region_of t.layout some_n.0 ≡ region_at k n = ap (λ (x : RaceShape). some_n.0 / x.span) (sym same) ∙ ap (λ (q : ℕ). q / k.span) (let f : some_n.0 ≡ n - 1 = omega (arith, some_n.2) in f) in
+    let card : slot_card k p ≡ layout.card_of t.layout p = ap (λ (x : RaceShape). p / x.size) same in
+    elim (parts.cover p some_n.0 (record { refers = some_n.1; across = λ e. crosses_apart k p n cr (ap (λ (x : RaceShape). p / x.span) same ∙ (e ∙ back)) })) [
       | inl pending ↦ inr (marks (slot_card k p) (card_below k p shaped lt) ∙ ap (λ (b : Bool). some (as_number b)) (ap (set_of.contains t.pending) card ∙ pending))
       | inr pair ↦ inl (on _ (subst (λ (y : ℕ × ℕ). set_of.contains t.recorded y ≡ true) (λ i. (sym card i, back i)) pair))
     ]
 
 -- words that have all of a core's table
-pub record IsCopy (k : Shape) (t : Table) (words : List ℕ) : Type 0 where
+pub record IsCopy (k : RaceShape) (t : Table) (words : List ℕ) : Type 0 where
   pub sized : length words ≡ word_count k
   pub slots : (p : ℕ) → p < k.slots → get_elem? words p ≡ some (word_of (table.target_of t p))
   pub marks : (c : ℕ) → c < k.cards → get_elem? words (mark_word k c) ≡ some (as_number (set_of.contains t.pending c))
@@ -49,7 +49,7 @@ module _ (s : State) (m : ℕ) (words : List ℕ) (parts : IsSound s) (few : slo
   abbrev t : Table
   t = s.table
 
-  abbrev k : Shape
+  abbrev k : RaceShape
   k = shape_of t.layout m
 
   abbrev first : Ended
@@ -86,13 +86,13 @@ module _ (s : State) (m : ℕ) (words : List ℕ) (parts : IsSound s) (few : slo
         (λ x e. let o = parts.recorded x.0 x.1 e in to_pairs first.pairs x (set_listed k words x (o.0, o.1) (h.on x e))) i;
   }
 
-pub copied : (s : State) (l : layout.Shape) (k : Shape) (words : List ℕ) → l ≡ s.table.layout → k ≡ shape_of l k.members → IsSound s → IsWholeShape k → IsCopy k s.table words → table_of (ended l k words) ≡ s.table
+pub copied : (s : State) (l : layout.Shape) (k : RaceShape) (words : List ℕ) → l ≡ s.table.layout → k ≡ shape_of l k.members → IsSound s → IsWholeShape k → IsCopy k s.table words → table_of (ended l k words) ≡ s.table
 copied s l k words lay laid parts shaped copy =
     let path : k ≡ shape_of s.table.layout k.members = laid ∙ ap (λ (x : layout.Shape). shape_of x k.members) lay in
-    (λ i. table_of (ended (lay i) (path i) words)) ∙ copy_at s k.members words parts (let e : k.slots ≡ slot_count s.table.layout = ap (λ (x : Shape). x.slots) path in let f = shaped.3 in omega (arith, e, f)) (subst (λ (q : Shape). IsCopy q s.table words) path copy)
+    (λ i. table_of (ended (lay i) (path i) words)) ∙ copy_at s k.members words parts (let e : k.slots ≡ slot_count s.table.layout = ap (λ (x : RaceShape). x.slots) path in let f = shaped.3 in omega (arith, e, f)) (subst (λ (q : RaceShape). IsCopy q s.table words) path copy)
 
 -- the three steps, from a heap of nulls
-module _ (s : State) (l : layout.Shape) (k : Shape) (old a b : List ℕ) (pairs : List (ℕ × ℕ)) (lay : l ≡ s.table.layout) (laid : k ≡ shape_of l k.members) (parts : IsSound s) (shaped : IsWholeShape k)
+module _ (s : State) (l : layout.Shape) (k : RaceShape) (old a b : List ℕ) (pairs : List (ℕ × ℕ)) (lay : l ≡ s.table.layout) (laid : k ≡ shape_of l k.members) (parts : IsSound s) (shaped : IsWholeShape k)
     (null : old ≡ zeros (word_count k)) (recorded : set_of.from_list pairs ≡ s.table.recorded) (notes : Notes k old a pairs) where
   zero_is : (i : ℕ) → i < k.slots + k.cards → get_elem? a i ≡ some 0
   zero_is i lt = notes.front i lt ∙ (ap (λ (ws : List ℕ). get_elem? ws i) null ∙ zero_at (word_count k) i (omega (arith, lt)))

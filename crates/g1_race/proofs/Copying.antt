@@ -1,6 +1,6 @@
 -- A range of slots that is copied, slot by slot.
 use Rattle.std.specs.Prelude.{◌≡◌, ◌≢◌, ◌⊎◌, ◌+◌, ◌<◌, ◌≤◌}
-use Rattle.g1_race.specs.{ℕ, suc, eqb, get_or, length, sym, ap, ◌∙◌, subst, inl, inr, arith, eq-eqb, ne_eqb, some, cases_eq, target_of, stored, copied, table_up, table_down, false_is, read_at, read_is, true_is, Shape, Pause, table_at, IsSameRace, SlotsBecome, copied_word, one_word}
+use Rattle.g1_race.specs.{ℕ, suc, eqb, get_or, length, sym, ap, ◌∙◌, subst, inl, inr, arith, eq-eqb, ne_eqb, some, cases_eq, target_of, stored, copied, table_up, table_down, false_is, read_at, read_is, true_is, RaceShape, Pause, table_at, IsSameRace, SlotsBecome, copied_word, one_word}
 use Rattle.std.proofs.lemmas.Bool.Decides.{nat_tests}
 
 -- as many slots are copied so far
@@ -17,14 +17,12 @@ pub record CopiesOne (old new : Pause) (from to : ℕ) : Type 0 where
 
 race_then : (old mid new : Pause) → IsSameRace old mid → IsSameRace mid new → IsSameRace old new
 race_then old mid new a b = record {
-  kept = record {
-    layout = b.kept.layout ∙ a.kept.layout;
-    shape = b.kept.shape ∙ a.kept.shape;
-    address = b.kept.address ∙ a.kept.address;
-    table_id = b.kept.table_id ∙ a.kept.table_id;
-    racers = b.kept.racers ∙ a.kept.racers;
-    sweepers = b.kept.sweepers ∙ a.kept.sweepers;
-  };
+  layout = b.layout ∙ a.layout;
+  shape = b.shape ∙ a.shape;
+  address = b.address ∙ a.address;
+  table_id = b.table_id ∙ a.table_id;
+  racers = b.racers ∙ a.racers;
+  sweepers = b.sweepers ∙ a.sweepers;
   logs = b.logs ∙ a.logs;
 }
 
@@ -38,7 +36,7 @@ module _ (old mid new : Pause) (full : old.shape.slots ≤ length old.words) whe
   word_by_word : (change last : ℕ → ℕ → ℕ) (slot word : ℕ) → mid.shape ≡ old.shape → SlotsBecome change old mid → SlotsBecome (one_word slot word) mid new
       → ((n : ℕ) → word ≡ last slot n) → ((p n : ℕ) → p ≢ slot → change p n ≡ last p n) → SlotsBecome last old new
   word_by_word change last slot word same a b here other p n lt at =
-      b p (change p n) (subst (λ (k : Shape). p < k.slots) (sym same) lt) (a p n lt at) ∙ ap (λ (m : ℕ). some m) (elim (cases_eq p slot) [
+      b p (change p n) (subst (λ (k : RaceShape). p < k.slots) (sym same) lt) (a p n lt at) ∙ ap (λ (m : ℕ). some m) (elim (cases_eq p slot) [
         | inl e ↦ true_is (eqb p slot) word (change p n) (eq-eqb p slot e) ∙ (here n ∙ ap (λ (q : ℕ). last q n) (sym e))
         | inr ne ↦ false_is (eqb p slot) word (change p n) (ne_eqb p slot ne) ∙ other p n ne
       ])
@@ -47,7 +45,7 @@ module _ (old mid new : Pause) (full : old.shape.slots ≤ length old.words) whe
   pub copied_up : (from to count : ℕ) → to ≤ from → from + count < old.shape.slots → Copied old mid from to count → CopiesOne mid new (from + count) (to + count) → Copied old new from to (suc count)
   copied_up from to count le lt so one = record {
     race = race_then old mid new so.race one.race;
-    words = word_by_word (copied_word old.words from to count) (copied_word old.words from to (suc count)) (to + count) (get_or mid.words (from + count) 0) so.race.kept.shape so.words one.words
+    words = word_by_word (copied_word old.words from to count) (copied_word old.words from to (suc count)) (to + count) (get_or mid.words (from + count) 0) so.race.shape so.words one.words
         (λ n. read_before from to count (from + count) so lt (inr (omega (arith, le))) ∙ (let e : get_or old.words (from + count) 0 ≡ copied_word old.words from to (suc count) (to + count) n = grind (arith, nat_tests) in e))
         (λ p n ne. grind (arith, nat_tests));
     table = table_up (table_at old) (table_at mid) (table_at new) from to count le so.table one.table;
@@ -57,7 +55,7 @@ module _ (old mid new : Pause) (full : old.shape.slots ≤ length old.words) whe
   pub copied_down : (from to count : ℕ) → from < to → from < old.shape.slots → Copied old mid (suc from) (suc to) count → CopiesOne mid new from to → Copied old new from to (suc count)
   copied_down from to count less lt so one = record {
     race = race_then old mid new so.race one.race;
-    words = word_by_word (copied_word old.words (suc from) (suc to) count) (copied_word old.words from to (suc count)) to (get_or mid.words from 0) so.race.kept.shape so.words one.words
+    words = word_by_word (copied_word old.words (suc from) (suc to) count) (copied_word old.words from to (suc count)) to (get_or mid.words from 0) so.race.shape so.words one.words
         (λ n. read_before (suc from) (suc to) count from so lt (inl (omega (arith, less))) ∙ (let e : get_or old.words from 0 ≡ copied_word old.words from to (suc count) to n = grind (arith, nat_tests) in e))
         (λ p n ne. grind (arith, nat_tests));
     table = table_down (table_at old) (table_at mid) (table_at new) from to count less so.table one.table;

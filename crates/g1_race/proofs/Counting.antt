@@ -1,6 +1,6 @@
 -- How many pairs are recorded at a pause.
 use Rattle.std.specs.Prelude.{◌≡◌, ◌+◌, ◌*◌, ◌<◌, ◌≤◌, ◌^◌, ◌∷◌, ◌++◌}
-use Rattle.g1_race.specs.{suc-mul, ℕ, zero, suc, List, [], length, Contains, refl, sym, ap, ◌∙◌, subst, inl, inr, arith, eq-eqb, nat_eq, sum_by, IsDistinct, mul-le-mul, mul-le-mul_left, cases_lt, get_or_append_left, get_or_past, get_or_push, length_push, sum_by_push, card_count, All_by_member, same_pairs, in_pairs, Shape, IsBegun, IsWholeShape, pairs_up_to, started, shape_of, ended, table_of, is_member, member_cards, pair_count}
+use Rattle.g1_race.specs.{suc-mul, ℕ, zero, suc, List, [], length, Contains, refl, sym, ap, ◌∙◌, subst, inl, inr, arith, eq-eqb, nat_eq, sum_by, IsDistinct, mul-le-mul, mul-le-mul_left, cases_lt, get_or_append_left, get_or_past, get_or_push, length_push, sum_by_push, card_count, All_by_member, same_pairs, in_pairs, RaceShape, IsBegun, IsWholeShape, pairs_up_to, started, shape_of, ended, table_of, is_member, member_cards, pair_count}
 use Rattle.std.proofs.Common.{eqb-true}
 use Rattle.std.specs.FinSet as set
 use Rattle.g1_layout.specs.Shape as layout
@@ -12,7 +12,7 @@ use Rattle.g1_race.proofs.Ends.{pair_listed, recorded_set, set_recorded}
 use Rattle.g1_race.proofs.NextCards.{cards_fit}
 use Rattle.g1_race.proofs.Telling.{few, is_listed, listed_below, listed_distinct, listed_is}
 
-module _ (k : Shape) (words : List ℕ) where
+module _ (k : RaceShape) (words : List ℕ) where
   -- the cards of each of the first n regions' sets
   abbrev lists : ℕ → List (List ℕ)
   lists zero = []
@@ -50,7 +50,7 @@ module _ (k : Shape) (words : List ℕ) where
       let most : n * k.cards ≤ 4294967295 * 4294967295 = mul-le-mul (let few_regions : n ≤ 4294967295 = omega (arith, le, one, shaped.6, shaped.3) in few_regions) (let few_cards : k.cards ≤ 4294967295 = omega (arith, cards_fit k shaped) in few_cards) in
       omega (arith, at_most n, most)
 
-module _ (k : Shape) (l : layout.Shape) (laid : k ≡ shape_of l k.members) (words : List ℕ) (h : IsBegun (started k words)) where
+module _ (k : RaceShape) (l : layout.Shape) (laid : k ≡ shape_of l k.members) (words : List ℕ) (h : IsBegun (started k words)) where
   abbrev all : List (List ℕ)
   all = lists k words k.regions
 
@@ -71,9 +71,9 @@ module _ (k : Shape) (l : layout.Shape) (laid : k ≡ shape_of l k.members) (wor
 
   are : AreLists l all
   are = record {
-    count = lists_len k words k.regions ∙ ap (λ (s : Shape). s.regions) laid;
+    count = lists_len k words k.regions ∙ ap (λ (s : RaceShape). s.regions) laid;
     distinct = distinct;
-    below = λ r. All_by_member (λ c. c < card_count l) (list_at all r) (λ c i. subst (λ (n : ℕ). c < n) (ap (λ (s : Shape). s.cards) laid) (listed_below (is_member k words r) k.cards c (in_list r c i).1));
+    below = λ r. All_by_member (λ c. c < card_count l) (list_at all r) (λ c i. subst (λ (n : ℕ). c < n) (ap (λ (s : RaceShape). s.cards) laid) (listed_below (is_member k words r) k.cards c (in_list r c i).1));
   }
 
   pairs_are : pairs_of all ≡ (table_of (ended l k words)).recorded

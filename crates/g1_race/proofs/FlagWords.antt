@@ -1,27 +1,27 @@
 -- The cards' flags at a pause.
 use Rattle.std.specs.Prelude.{◌≡◌, ◌≢◌, ◌+◌, ◌*◌, ◌/◌, ◌%◌, ◌<◌, ◌≤◌, ◌++◌, ◌∷◌}
-use Rattle.g1_race.specs.{cases_eq, ℕ, zero, suc, List, [], Option, false, Some, None, refl, sym, ap, ◌∙◌, subst, inl, inr, ⊎_elim, arith, eq-eqb, some, get_elem?, bit_at, slice_index, cases_Bool, cases_lt, true≢false, Shape, HasBit, In, IsBegun, IsPair, IsWholeShape, bit_place, bit_word, flag, front, mark_word, pairs_of_card, pairs_up_to, started, ended, IsEmptied, AreRefined, AreUnflagged, Notes, Acquires, AreMovedAway, IsNext, SkipsNone, is_marked, is_member, flag_card, card_in_row, one_pair, pair_clear, pair_set, take_at, take_same}
+use Rattle.g1_race.specs.{cases_eq, ℕ, zero, suc, List, [], Option, false, Some, None, refl, sym, ap, ◌∙◌, subst, inl, inr, ⊎_elim, arith, eq-eqb, some, get_elem?, bit_at, slice_index, cases_Bool, cases_lt, true≢false, RaceShape, HasBit, In, IsBegun, IsPair, IsWholeShape, bit_place, bit_word, flag, front, mark_word, pairs_of_card, pairs_up_to, started, ended, IsEmptied, AreRefined, AreUnflagged, Notes, Acquires, AreMovedAway, IsNext, SkipsNone, is_marked, is_member, flag_card, card_in_row, one_pair, pair_clear, pair_set, take_at, take_same}
 use Rattle.g1_layout.specs.Shape as layout
 use Rattle.g1_race.proofs.NextCards.{mark_is, mark_is_not, marked_word}
 
 -- a card whose flag is clear is clean
-unflagged_clean : (k : Shape) (words : List ℕ) (c : ℕ) → IsBegun (started k words) → c < k.cards → is_member k words k.regions (c / 8 * 8) ≡ false → is_marked k words c ≡ false
+unflagged_clean : (k : RaceShape) (words : List ℕ) (c : ℕ) → IsBegun (started k words) → c < k.cards → is_member k words k.regions (c / 8 * 8) ≡ false → is_marked k words c ≡ false
 unflagged_clean k words c h lt e = elim (cases_Bool (is_marked k words c)) [
   | inl m ↦ absurd (true≢false (sym (eq-eqb _ 1 (h.flagged c lt (marked_word k words c h lt m))) ∙ e))
   | inr m ↦ m
 ]
 
 -- where flags are passed over that are clear, no dirty card is
-pub skips_none : (k : Shape) (words : List ℕ) (from : ℕ) (found : Option ℕ) → IsBegun (started k words) → from % 8 ≡ 0 → IsNext (is_member k words k.regions) k.cards from found → SkipsNone (is_marked k words) k.cards from found
+pub skips_none : (k : RaceShape) (words : List ℕ) (from : ℕ) (found : Option ℕ) → IsBegun (started k words) → from % 8 ≡ 0 → IsNext (is_member k words k.regions) k.cards from found → SkipsNone (is_marked k words) k.cards from found
 skips_none k words from None h first none = λ c le lt. unflagged_clean k words c h lt (none (c / 8 * 8) (omega (arith, le, first)) (omega (arith, lt)))
 skips_none k words from (Some card) h first is = (is.0, is.1, λ c le lt. unflagged_clean k words c h (omega (arith, lt, is.1)) (is.3 (c / 8 * 8) (omega (arith, le, first)) (omega (arith, lt))))
 
 -- from one such card to the next
 
-abbrev NoneDirty : Shape → List ℕ → ℕ → ℕ → Type 0
+abbrev NoneDirty : RaceShape → List ℕ → ℕ → ℕ → Type 0
 NoneDirty k words from end = (c : ℕ) → from ≤ c → c < end → c < k.cards → is_marked k words c ≡ false
 
-module _ (k : Shape) {words read : List ℕ} (from next : ℕ) (same : read ≡ words) (none : NoneDirty k words from next) where
+module _ (k : RaceShape) {words read : List ℕ} (from next : ℕ) (same : read ≡ words) (none : NoneDirty k words from next) where
   none_until : (end : ℕ) → ((c : ℕ) → next ≤ c → c < end → is_marked k read c ≡ false) → NoneDirty k words from end
   none_until end skips c le lt below = elim (cases_lt c next) [
     | inl low ↦ none c le low below
@@ -39,7 +39,7 @@ module _ (k : Shape) {words read : List ℕ} (from next : ℕ) (same : read ≡ 
     ]
 
 -- a flag is no pair's bit
-pub flag_only : (k : Shape) (old new : List ℕ) (c : ℕ) → Notes k old new (flag k c ∷ []) → (x : ℕ × ℕ) → IsPair k x → HasBit k new x → HasBit k old x
+pub flag_only : (k : RaceShape) (old new : List ℕ) (c : ℕ) → Notes k old new (flag k c ∷ []) → (x : ℕ × ℕ) → IsPair k x → HasBit k new x → HasBit k old x
 flag_only k old new c notes x pair b = ⊎_elim (λ (o : HasBit k old x). o) (λ (i : In (flag k c ∷ []) x). absurd (apart i)) (notes.only x pair.0 b)
   where
     apart : In (flag k c ∷ []) x → ⊥
@@ -47,7 +47,7 @@ flag_only k old new c notes x pair b = ⊎_elim (λ (o : HasBit k old x). o) (λ
     apart (inr n) = n
 
 -- words with the same bits of pairs have the same pairs
-module _ (k : Shape) (old new : List ℕ) (on : (x : ℕ × ℕ) → IsPair k x → HasBit k old x → HasBit k new x) (back : (x : ℕ × ℕ) → IsPair k x → HasBit k new x → HasBit k old x) where
+module _ (k : RaceShape) (old new : List ℕ) (on : (x : ℕ × ℕ) → IsPair k x → HasBit k old x → HasBit k new x) (back : (x : ℕ × ℕ) → IsPair k x → HasBit k new x → HasBit k old x) where
   one_same : (x : ℕ × ℕ) → IsPair k x → one_pair k new x ≡ one_pair k old x
   one_same x pair = elim (cases_eq (bit_at (slice_index old (bit_word k x)) (bit_place k x)) 1) [
     | inl b ↦ pair_set k new x (on x pair b) ∙ sym (pair_set k old x b)
@@ -66,29 +66,29 @@ module _ (k : Shape) (old new : List ℕ) (on : (x : ℕ × ℕ) → IsPair k x 
   pairs_same = up_same k.cards (omega arith)
 
 -- a flag changes nothing of the heap
-pub flag_ended : (k : Shape) (l : layout.Shape) (old new : List ℕ) (c : ℕ) → Notes k old new (flag k c ∷ []) → ended l k new ≡ ended l k old
+pub flag_ended : (k : RaceShape) (l : layout.Shape) (old new : List ℕ) (c : ℕ) → Notes k old new (flag k c ∷ []) → ended l k new ≡ ended l k old
 flag_ended k l old new c notes =
     let words = take_same new old (k.slots + k.cards) notes.front in
     let pairs = pairs_same k old new (λ x pair b. notes.kept x b) (flag_only k old new c notes) in
     λ i. record { layout = l; words = words i; pairs = pairs i }
 
 -- a word of the front, where the front has not changed
-pub front_at : (k : Shape) (old new : List ℕ) (i : ℕ) → front k new ≡ front k old → i < k.slots + k.cards → get_elem? new i ≡ get_elem? old i
+pub front_at : (k : RaceShape) (old new : List ℕ) (i : ℕ) → front k new ≡ front k old → i < k.slots + k.cards → get_elem? new i ≡ get_elem? old i
 front_at k old new i same lt = sym (take_at new (k.slots + k.cards) i lt) ∙ (ap (λ (l : List ℕ). get_elem? l i) same ∙ take_at old (k.slots + k.cards) i lt)
 
 -- the flags are cleared then
-pub unflagged : (k : Shape) (old new : List ℕ) → IsWholeShape k → IsEmptied k old new k.regions k.row → AreUnflagged k new
+pub unflagged : (k : RaceShape) (old new : List ℕ) → IsWholeShape k → IsEmptied k old new k.regions k.row → AreUnflagged k new
 unflagged k old new shaped g c lt = g.clear (flag k c) (flag_card k c lt) refl (card_in_row k (c / 8 * 8) shaped (flag_card k c lt))
 
 -- and stay so where references are moved
-pub still_unflagged : (k : Shape) (old new : List ℕ) (from to : ℕ) → to < k.regions → AreMovedAway k old new from to → AreUnflagged k old → AreUnflagged k new
+pub still_unflagged : (k : RaceShape) (old new : List ℕ) (from to : ℕ) → to < k.regions → AreMovedAway k old new from to → AreUnflagged k old → AreUnflagged k new
 still_unflagged k old new from to low away none c lt b =
     let card = flag_card k c lt in ⊎_elim
     (λ (u : HasBit k old (flag k c)). none c lt u)
     (λ (u : Acquires k old from to (flag k c)). absurd (let e : to ≡ k.regions = ap (λ (y : ℕ × ℕ). y.1) u.6 in omega (arith, e, low)))
     (away.moved.only (flag k c) card (away.emptied.only (flag k c) card b))
 
-pub refined_emptied : (k : Shape) (old mid new : List ℕ) (n : ℕ) → AreRefined k old mid n → IsEmptied k mid new k.regions k.row → AreRefined k old new n
+pub refined_emptied : (k : RaceShape) (old mid new : List ℕ) (n : ℕ) → AreRefined k old mid n → IsEmptied k mid new k.regions k.row → AreRefined k old new n
 refined_emptied k old mid new n h g = record {
   slots = λ p lt. front_at k mid new p g.front (omega (arith, lt)) ∙ h.slots p lt;
   clean = λ c up below. front_at k mid new (mark_word k c) g.front (omega (arith, below)) ∙ h.clean c up below;

@@ -1,10 +1,10 @@
 -- Bits of pairs that are cleared, row by row.
 use Rattle.std.specs.Prelude.{◌≡◌, ◌⊎◌, ◌+◌, ◌*◌, ◌/◌, ◌%◌, ◌^◌, ◌<◌, ◌≤◌}
-use Rattle.g1_race.specs.{ℕ, true, false, List, set, get_or, bit_and, w64, length-set, sym, ap, ◌∙◌, subst, inl, inr, arith, eq-eqb, some, get_elem?, bit_at, bit_not, cases_eq, cases_lt, true≢false, get_or-set_same, get_or-set_other, take-set-le, bit_at_clear_same, bit_at_clear_other, set_else, Shape, IsBegun, IsPair, HasBit, bit_place, bit_word, slot_card, crosses, flag, front, region_at, started, AreUnset, is_member, reads_as, bit_apart, crossing_pair, bit_below, flag_card}
+use Rattle.g1_race.specs.{ℕ, true, false, List, set, get_or, bit_and, w64, length-set, sym, ap, ◌∙◌, subst, inl, inr, arith, eq-eqb, some, get_elem?, bit_at, bit_not, cases_eq, cases_lt, true≢false, get_or-set_same, get_or-set_other, take-set-le, bit_at_clear_same, bit_at_clear_other, set_else, RaceShape, IsBegun, IsPair, HasBit, bit_place, bit_word, slot_card, crosses, flag, front, region_at, started, AreUnset, is_member, reads_as, bit_apart, crossing_pair, bit_below, flag_card}
 use Rattle.g1_race.proofs.AtPause.{begun_front}
 use Rattle.g1_race.proofs.FlagWords.{front_at}
 
-module _ (k : Shape) (words : List ℕ) (x : ℕ × ℕ) where
+module _ (k : RaceShape) (words : List ℕ) (x : ℕ × ℕ) where
   abbrev pub without_bit : ℕ
   without_bit = bit_and (get_or words (bit_word k x) 0) (bit_not w64 (1 * 2 ^ bit_place k x % 2 ^ 64))
 
@@ -51,11 +51,11 @@ module _ (k : Shape) (words : List ℕ) (x : ℕ × ℕ) where
     }
 
 -- the word as the call writes it, over the words that it read
-pub without_found : (k : Shape) (words seen : List ℕ) (x : ℕ × ℕ) (at place found : ℕ) → seen ≡ words → at ≡ bit_word k x → place ≡ bit_place k x → get_elem? words at ≡ some found → set seen at (bit_and found (bit_not w64 (1 * 2 ^ place % 2 ^ 64))) ≡ without k words x
+pub without_found : (k : RaceShape) (words seen : List ℕ) (x : ℕ × ℕ) (at place found : ℕ) → seen ≡ words → at ≡ bit_word k x → place ≡ bit_place k x → get_elem? words at ≡ some found → set seen at (bit_and found (bit_not w64 (1 * 2 ^ place % 2 ^ 64))) ≡ without k words x
 without_found k words seen x at place found same e f here = λ i. set (same i) (e i) (bit_and ((sym (reads_as words at found 0 here) ∙ ap (λ (j : ℕ). get_or words j 0) e) i) (bit_not w64 (1 * 2 ^ f i % 2 ^ 64)))
 
 -- a slot's word among words with the same front
-pub slot_back : (k : Shape) (old new : List ℕ) (p n : ℕ) → front k new ≡ front k old → p < k.slots → get_elem? new p ≡ some n → get_elem? old p ≡ some n
+pub slot_back : (k : RaceShape) (old new : List ℕ) (p n : ℕ) → front k new ≡ front k old → p < k.slots → get_elem? new p ≡ some n → get_elem? old p ≡ some n
 slot_back k old new p n same lt at = sym (front_at k old new p same (omega (arith, lt))) ∙ at
 
 -- one after another in a row
@@ -63,7 +63,7 @@ slot_back k old new p n same lt at = sym (front_at k old new p same (omega (arit
 abbrev pub InRow : ℕ → ℕ → ℕ → ℕ × ℕ → Type 0
 InRow region first end x = (x.1 ≡ region) × (first ≤ x.0) × (x.0 < end)
 
-pub row_past : (k : Shape) (old mid new : List ℕ) (region first from end : ℕ) → new ≡ mid → from ≤ end → ((c : ℕ) → from ≤ c → c < end → is_member k mid region c ≡ false) → AreUnset k old mid (InRow region first from) → AreUnset k old new (InRow region first end)
+pub row_past : (k : RaceShape) (old mid new : List ℕ) (region first from end : ℕ) → new ≡ mid → from ≤ end → ((c : ℕ) → from ≤ c → c < end → is_member k mid region c ≡ false) → AreUnset k old mid (InRow region first from) → AreUnset k old new (InRow region first end)
 row_past k old mid new region first from end same le none h = subst (λ (ws : List ℕ). AreUnset k old ws (InRow region first end)) (sym same) (record {
   front = h.front;
   kept = λ x pair never b. h.kept x pair (λ i. never (i.0, i.1, let a : x.0 < from = i.2 in omega (arith, a, le))) b;
@@ -74,8 +74,8 @@ row_past k old mid new region first from end same le none h = subst (λ (ws : Li
   ];
 })
 
-pub row_next : (k : Shape) (old mid new : List ℕ) (region first card : ℕ) → first ≤ card → AreUnset k old mid (InRow region first card) → AreUnset k mid new (λ x. x ≡ (card, region)) → AreUnset k old new (InRow region first (card + 1))
-row_next k old mid new region first card low h g = record {
+pub row_on : (k : RaceShape) (old mid new : List ℕ) (region first card : ℕ) → first ≤ card → AreUnset k old mid (InRow region first card) → AreUnset k mid new (λ x. x ≡ (card, region)) → AreUnset k old new (InRow region first (card + 1))
+row_on k old mid new region first card low h g = record {
   front = g.front ∙ h.front;
   kept = λ x pair never b. g.kept x pair (λ e. never (ap (λ (y : ℕ × ℕ). y.1) e, let a : x.0 ≡ card = ap (λ (y : ℕ × ℕ). y.0) e in omega (arith, a, low), let a : x.0 ≡ card = ap (λ (y : ℕ × ℕ). y.0) e in omega (arith, a)))
       (h.kept x pair (λ i. never (i.0, i.1, let a : x.0 < card = i.2 in omega (arith, a))) b);

@@ -1,12 +1,12 @@
 -- Tables some of whose pairs are gone, and that of a region that is forgotten.
 use Rattle.std.specs.Prelude.{◌≡◌, ◌≢◌, ◌+◌, ◌-◌, ◌*◌, ◌/◌, ◌%◌, ◌<◌, ◌≤◌, ◌&&◌}
-use Rattle.g1_race.specs.{ℕ, div-add-mod', mod-lt, not, eqb, Bool, true, false, List, sym, ap, ◌∙◌, subst, inl, inr, arith, eq-eqb, some, get_elem?, mul-div_cancel_left, and_from, and_parts, cases_Bool, eqb-true, not-false, true≢false, div-mul-add, region_of, Crosses, pair_exact, same_pairs, Shape, IsBegun, IsWholeShape, slot_card, crosses, pairs_up_to, started, shape_of, ended, refs_of, table_of, AreUnset, forgotten, at_take, crosses_reference}
+use Rattle.g1_race.specs.{ℕ, div-add-mod', mod-lt, not, eqb, Bool, true, false, List, sym, ap, ◌∙◌, subst, inl, inr, arith, eq-eqb, some, get_elem?, mul-div_cancel_left, and_from, and_parts, cases_Bool, eqb-true, not-false, true≢false, div-mul-add, region_of, Crosses, pair_exact, same_pairs, RaceShape, IsBegun, IsWholeShape, slot_card, crosses, pairs_up_to, started, shape_of, ended, refs_of, table_of, AreUnset, forgotten, at_take, crosses_reference}
 use Rattle.std.specs.FinSet as fin
 use Rattle.g1_layout.specs.Shape as layout
 use Rattle.g1_race.proofs.Ends.{crosses_apart, recorded_set, region_of_quotient, set_recorded, word_refers}
 
 -- the pairs that are not kept are gone, and nothing else has changed
-pub retained_is : (k : Shape) (l : layout.Shape) (laid : k ≡ shape_of l k.members) (old new : List ℕ) (keep : ℕ × ℕ → Bool) → IsBegun (started k old) → IsBegun (started k new) → AreUnset k old new (λ x. keep x ≡ false)
+pub retained_is : (k : RaceShape) (l : layout.Shape) (laid : k ≡ shape_of l k.members) (old new : List ℕ) (keep : ℕ × ℕ → Bool) → IsBegun (started k old) → IsBegun (started k new) → AreUnset k old new (λ x. keep x ≡ false)
     → table_of (ended l k new) ≡ record { layout = l; refs = refs_of (ended l k old); pending = (table_of (ended l k old)).pending; recorded = fin.retain (table_of (ended l k old)).recorded keep }
 retained_is k l laid old new keep b h g = λ i. record {
   layout = l;
@@ -35,12 +35,12 @@ card_in n region c some_card e = let is : region * n + c % n ≡ c = ap (λ (m :
 in_card : (n region c : ℕ) → region * n ≤ c → c < region * n + n → c / n ≡ region
 in_card n region c le lt = grind (arith, div-mul-add)
 
-module _ (k : Shape) (l : layout.Shape) (laid : k ≡ shape_of l k.members) (shaped : IsWholeShape k) where
+module _ (k : RaceShape) (l : layout.Shape) (laid : k ≡ shape_of l k.members) (shaped : IsWholeShape k) where
   cards_is : k.cards ≡ l.regions * l.cards
-  cards_is = ap (λ (s : Shape). s.cards) laid
+  cards_is = ap (λ (s : RaceShape). s.cards) laid
 
   regions_is : k.regions ≡ l.regions
-  regions_is = ap (λ (s : Shape). s.regions) laid
+  regions_is = ap (λ (s : RaceShape). s.regions) laid
 
   some_cards : 0 < l.cards
   some_cards = grind (arith, cards_is, shaped.5)
@@ -54,9 +54,9 @@ module _ (k : Shape) (l : layout.Shape) (laid : k ≡ shape_of l k.members) (sha
         → (p n : ℕ) → p < k.slots → get_elem? words p ≡ some n → crosses k p n ≡ true → region * (k.cards / k.regions) ≤ slot_card k p → slot_card k p < region * (k.cards / k.regions) + k.cards / k.regions → ⊥
     closed_words words closed p n lt at cr le below =
         closed p (n - 1) (record {
-          refers = word_refers (ended l k words) p n (omega (arith, lt, ap (λ (s : Shape). s.slots) laid)) (at_take words (k.slots + k.cards) p n (omega (arith, lt)) at) (crosses_reference k p n cr);
-          across = crosses_apart (shape_of l k.members) p n (subst (λ (s : Shape). crosses s p n ≡ true) laid cr);
-        }) (sym (region_of_quotient l p) ∙ (ap (λ (s : Shape). p / s.size / l.cards) (sym laid)
+          refers = word_refers (ended l k words) p n (omega (arith, lt, ap (λ (s : RaceShape). s.slots) laid)) (at_take words (k.slots + k.cards) p n (omega (arith, lt)) at) (crosses_reference k p n cr);
+          across = crosses_apart (shape_of l k.members) p n (subst (λ (s : RaceShape). crosses s p n ≡ true) laid cr);
+        }) (sym (region_of_quotient l p) ∙ (ap (λ (s : RaceShape). p / s.size / l.cards) (sym laid)
         ∙ in_card l.cards region (slot_card k p) (subst (λ (m : ℕ). region * m ≤ slot_card k p) each le) (subst (λ (m : ℕ). slot_card k p < region * m + m) each below)))
 
     pub forgotten_is : (old new : List ℕ) → IsBegun (started k old) → IsBegun (started k new) → AreUnset k old new (λ x. (region * (k.cards / k.regions) ≤ x.0) × (x.0 < region * (k.cards / k.regions) + k.cards / k.regions))

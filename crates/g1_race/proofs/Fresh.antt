@@ -1,6 +1,6 @@
 -- Members that a resume hands out are fresh where the logs are empty.
 use Rattle.std.specs.Prelude.{◌≡◌, ◌+◌, ◌<◌, ◌∷◌}
-use Rattle.g1_race.specs.{ℕ, zero, Vec, vec_len, List, [], get_or, length, map, replicate, All, sym, ap, ◌∙◌, subst, arith, Global, get_or-map, length-map, length-replicate, Table, Shape, Racer, Sweeper, Start, began, Pause, table_at, start_at, beginning, started, start_of, blank, race_begun, racer_view, sweeper_view, racer_log, racer_number, racer_start, sweeper_start, AreFreshRacers, AreFreshSweepers, HaveBegun, HaveBegunWith, IsNewRacer, IsNewSweeper, IsFreshRacer, IsFreshSweeper}
+use Rattle.g1_race.specs.{ℕ, zero, Vec, vec_len, List, [], get_or, length, map, replicate, All, sym, ap, ◌∙◌, subst, arith, Global, get_or-map, length-map, length-replicate, Table, RaceShape, Racer, Sweeper, Start, began, Pause, table_at, start_at, beginning, started, start_of, blank, race_begun, racer_view, sweeper_view, racer_log, racer_number, racer_start, sweeper_start, AreFreshRacers, AreFreshSweepers, HaveBegun, HaveBegunWith, IsNewRacer, IsNewSweeper, IsFreshRacer, IsFreshSweeper}
 use Rattle.std.proofs.lemmas.List.{get_or-replicate}
 use Rattle.g1_layout.specs.Shape as layout
 use Rattle.g1_race.specs.declared.race.Race.{Race}
@@ -27,12 +27,12 @@ module _ (race : Race) (h : Pause) (racers : Vec Racer Global) (sweepers : Vec S
   pub are_fresh : (n : ℕ) → race.shape ≡ h.shape → map racer_log racers.items ≡ h.logs → h.logs ≡ replicate n [] → AreFreshRacers race n racers
   are_fresh n shape logs empty = (
     new.0 ∙ (ap (λ (l : List (List ℕ)). length l) empty ∙ length-replicate n []),
-    subst (λ (k : Shape). All (IsFreshRacer race.table.table_id k) racers.items) (sym shape) (λ i d lt. let is = new.1 i d lt in
+    subst (λ (k : RaceShape). All (IsFreshRacer race.table.table_id k) racers.items) (sym shape) (λ i d lt. let is = new.1 i d lt in
         (is.0, is.1 ∙ ap (λ (s : Start). blank s 1 ((racer_number (get_or racers.items i d), []) ∷ [])) (sym (ap start_of is.1)), empty_log racers.items n (logs ∙ empty) i d lt)),
   )
 
   pub are_fresh_too : (n : ℕ) → race.shape ≡ h.shape → h.sweepers ≡ n → AreFreshSweepers race n sweepers
   are_fresh_too n shape count = (
     other.0 ∙ count,
-    subst (λ (k : Shape). All (IsFreshSweeper race.table.table_id k) sweepers.items) (sym shape) (λ i d lt. let is = other.1 i d lt in (is.0, is.1 ∙ ap (λ (s : Start). blank s 1 []) (sym (ap start_of is.1)))),
+    subst (λ (k : RaceShape). All (IsFreshSweeper race.table.table_id k) sweepers.items) (sym shape) (λ i d lt. let is = other.1 i d lt in (is.0, is.1 ∙ ap (λ (s : Start). blank s 1 []) (sym (ap start_of is.1)))),
   )

@@ -1,6 +1,6 @@
 -- What a pause lends is the race that it holds.
 use Rattle.std.specs.Prelude.{◌≡◌, ◌<◌}
-use Rattle.g1_race.specs.{ℕ, List, sym, ap, ◌∙◌, subst, arith, slot_count, Table, Shape, IsBegun, started, at_pause_of, Pause, ended, table_at, table_of}
+use Rattle.g1_race.specs.{ℕ, List, sym, ap, ◌∙◌, subst, arith, slot_count, TableId, Table, RaceShape, IsBegun, started, at_pause_of, race_id, Pause, ended, table_at, table_of, Known, reader_race}
 use Rattle.g1_race.specs.declared.race.Race.{Race}
 
 pub lent_view : {race held : Race} {words : List ℕ} {logs : List (List ℕ)} {sweepers : ℕ} {pause : Pause} → race ≡ held → at_pause_of held words logs sweepers ≡ pause → at_pause_of race words logs sweepers ≡ pause
@@ -14,10 +14,10 @@ pub lent_numbers : {race held : Race} {words : List ℕ} {logs : List (List ℕ)
 lent_numbers {region = region} is view = subst (λ (h : Pause). region < h.layout.regions) (sym (lent_view is view))
 
 pub lent_region : {race held : Race} {words : List ℕ} {logs : List (List ℕ)} {sweepers number region : ℕ} {pause : Pause} → race ≡ held → at_pause_of held words logs sweepers ≡ pause → number ≡ region → region < pause.layout.regions → number < race.shape.regions
-lent_region {race = race} is view same lt = let low = lent_numbers is view lt in omega (arith, low, ap (λ (s : Shape). s.regions) race.laid)
+lent_region {race = race} is view same lt = let low = lent_numbers is view lt in omega (arith, low, ap (λ (s : RaceShape). s.regions) race.laid)
 
 pub lent_slot : {race held : Race} {words : List ℕ} {logs : List (List ℕ)} {sweepers slot : ℕ} {pause : Pause} → race ≡ held → at_pause_of held words logs sweepers ≡ pause → slot < slot_count pause.layout → slot < race.shape.slots
-lent_slot {race = race} is view lt = omega (arith, lt, ap (λ (s : Shape). s.slots) race.laid, ap (λ (h : Pause). slot_count h.layout) (lent_view is view))
+lent_slot {race = race} is view lt = omega (arith, lt, ap (λ (s : RaceShape). s.slots) race.laid, ap (λ (h : Pause). slot_count h.layout) (lent_view is view))
 
 pub held_table : {race held : Race} (words : List ℕ) → race ≡ held → table_of (ended race.layout race.shape words) ≡ table_of (ended held.layout held.shape words)
 held_table words = ap (λ (r : Race). table_of (ended r.layout r.shape words))
@@ -31,3 +31,7 @@ pub at_pause : {race held : Race} {words : List ℕ} {logs : List (List ℕ)} {s
     → change (table_of (ended race.layout race.shape words)) (table_of (ended race.layout race.shape new)) → change (table_at pause) (table_of (ended held.layout held.shape new))
 at_pause {race = race} {pause = pause} change new is view there =
     subst (change (table_at pause)) (held_table new is) (subst (λ (h : Pause). change (table_at h) (table_of (ended race.layout race.shape new))) (lent_view is view) there)
+
+-- a race can begin with what a reader of it knows
+pub reader_begun : (race : Race) {inside reader : Known} → reader_race reader ≡ race_id race → inside ≡ reader → IsBegun inside.start → IsBegun (started race.shape reader.start.words)
+reader_begun race {reader = reader} of is begun = subst (λ (x : TableId × RaceShape). IsBegun (started x.1 reader.start.words)) of (subst (λ (r : Known). IsBegun r.start) is begun)

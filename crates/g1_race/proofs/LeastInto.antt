@@ -1,20 +1,20 @@
 -- The least slot that refers into a region, slot by slot of a card.
 use Rattle.std.specs.Prelude.{◌≡◌, ◌+◌, ◌*◌, ◌%◌, ◌<◌, ◌≤◌}
-use Rattle.g1_race.specs.{cases_eq, ℕ, true, false, List, div-add-mod', mod-lt, Some, None, eq-eqb, sym, ap, ◌∙◌, subst, inl, inr, ⊎_elim, arith, some, some-injective, get_elem?, cases_lt, true≢false, Shape, IsBegun, IsMarked, HasBit, slot_card, crosses, mark_word, region_at, started, IsNext, is_member, Into, IsLeastInto, IsLeastOfCard, card_below}
+use Rattle.g1_race.specs.{cases_eq, ℕ, true, false, List, div-add-mod', mod-lt, Some, None, eq-eqb, sym, ap, ◌∙◌, subst, inl, inr, ⊎_elim, arith, some, some-injective, get_elem?, cases_lt, true≢false, RaceShape, IsBegun, IsMarked, HasBit, slot_card, crosses, mark_word, region_at, started, IsNext, is_member, Into, IsLeastInto, IsLeastOfCard, card_below}
 
 -- a slot of a region's member
 
-pub into_bit : (k : Shape) (words : List ℕ) (region p : ℕ) → IsBegun (started k words) → ((c : ℕ) → c < k.cards → get_elem? words (mark_word k c) ≡ some 1 → ⊥) → Into k words region p → HasBit k words (slot_card k p, region)
+pub into_bit : (k : RaceShape) (words : List ℕ) (region p : ℕ) → IsBegun (started k words) → ((c : ℕ) → c < k.cards → get_elem? words (mark_word k c) ≡ some 1 → ⊥) → Into k words region p → HasBit k words (slot_card k p, region)
 into_bit k words region p h clean i = ⊎_elim
     (λ (b : HasBit k words (slot_card k p, region_at k i.0)). subst (λ (r : ℕ). HasBit k words (slot_card k p, r)) i.4 b)
     (λ (m : IsMarked k words p). absurd (clean (slot_card k p) (card_below k p h.shaped i.1) m))
     (h.covered p i.0 i.1 i.2 i.3)
 
-later : (k : Shape) (p q : ℕ) → 0 < k.size → slot_card k p < slot_card k q → p < q
+later : (k : RaceShape) (p q : ℕ) → 0 < k.size → slot_card k p < slot_card k q → p < q
 later k p q pos lt = grind arith
 
 -- where no card is dirty, each slot that refers into the region is on one of its members
-module _ (k : Shape) {words read : List ℕ} (same : read ≡ words) (region from : ℕ) (h : IsBegun (started k words)) (clean : (c : ℕ) → c < k.cards → get_elem? words (mark_word k c) ≡ some 1 → ⊥)
+module _ (k : RaceShape) {words read : List ℕ} (same : read ≡ words) (region from : ℕ) (h : IsBegun (started k words)) (clean : (c : ℕ) → c < k.cards → get_elem? words (mark_word k c) ≡ some 1 → ⊥)
     (none : (p : ℕ) → slot_card k p < from → Into k words region p → ⊥) where
   none_until : (end : ℕ) → ((c : ℕ) → from ≤ c → c < end → is_member k read region c ≡ false) → (p : ℕ) → slot_card k p < end → Into k words region p → ⊥
   none_until end no_member p lt x = elim (cases_lt (slot_card k p) from) [
@@ -41,18 +41,18 @@ module _ (k : Shape) {words read : List ℕ} (same : read ≡ words) (region fro
     )
 
 -- a slot by its card
-pub by_card : (k : Shape) (q card : ℕ) → slot_card k q ≡ card → card * k.size + q % k.size ≡ q
+pub by_card : (k : RaceShape) (q card : ℕ) → slot_card k q ≡ card → card * k.size + q % k.size ≡ q
 by_card k q card e = ap (λ (c : ℕ). c * k.size + q % k.size) (sym e) ∙ div-add-mod' q k.size
 
 -- slot by slot of a card
 
-pub least_on : (k : Shape) (words : List ℕ) (card region i q : ℕ) → ((j : ℕ) → j < i → Into k words region (card * k.size + j) → ⊥) → slot_card k q ≡ card → Into k words region q → card * k.size + i ≤ q
+pub least_on : (k : RaceShape) (words : List ℕ) (card region i q : ℕ) → ((j : ℕ) → j < i → Into k words region (card * k.size + j) → ⊥) → slot_card k q ≡ card → Into k words region q → card * k.size + i ≤ q
 least_on k words card region i q none e x = elim (cases_lt (q % k.size) i) [
   | inl lt ↦ absurd (none (q % k.size) lt (subst (Into k words region) (sym (by_card k q card e)) x))
   | inr le ↦ omega (arith, by_card k q card e, le)
 ]
 
-pub none_next : (k : Shape) (words : List ℕ) (card region i r : ℕ) → get_elem? words (card * k.size + i) ≡ some r → ((crosses k (card * k.size + i) r ≡ true) × (region_at k r ≡ region) → ⊥) → ((j : ℕ) → j < i → Into k words region (card * k.size + j) → ⊥) → (j : ℕ) → j < i + 1 → Into k words region (card * k.size + j) → ⊥
+pub none_next : (k : RaceShape) (words : List ℕ) (card region i r : ℕ) → get_elem? words (card * k.size + i) ≡ some r → ((crosses k (card * k.size + i) r ≡ true) × (region_at k r ≡ region) → ⊥) → ((j : ℕ) → j < i → Into k words region (card * k.size + j) → ⊥) → (j : ℕ) → j < i + 1 → Into k words region (card * k.size + j) → ⊥
 none_next k words card region i r at never none j lt x = elim (cases_eq j i) [
   | inl e ↦
       let y : Into k words region (card * k.size + i) = subst (λ (m : ℕ). Into k words region (card * k.size + m)) e x in
@@ -61,5 +61,5 @@ none_next k words card region i r at never none j lt x = elim (cases_eq j i) [
   | inr ne ↦ none j (omega (arith, lt, ne)) x
 ]
 
-pub none_on : (k : Shape) (words : List ℕ) (card region i p : ℕ) → 0 < k.size → k.size ≤ i → ((j : ℕ) → j < i → Into k words region (card * k.size + j) → ⊥) → slot_card k p ≡ card → Into k words region p → ⊥
+pub none_on : (k : RaceShape) (words : List ℕ) (card region i p : ℕ) → 0 < k.size → k.size ≤ i → ((j : ℕ) → j < i → Into k words region (card * k.size + j) → ⊥) → slot_card k p ≡ card → Into k words region p → ⊥
 none_on k words card region i p pos le none e x = none (p % k.size) (let m : p % k.size < k.size = mod-lt p pos in omega (arith, m, le)) (subst (Into k words region) (sym (by_card k p card e)) x)

@@ -1,41 +1,41 @@
 -- How many references a redirect moves, and those that it has moved card by card.
 use Rattle.std.specs.Prelude.{◌≡◌, ◌+◌, ◌-◌, ◌*◌, ◌<◌, ◌≤◌}
-use Rattle.g1_race.specs.{ℕ, zero, suc, eqb, true, false, List, get_or, div-lt_iff_lt-mul, refl, sym, ap, ◌∙◌, subst, inl, inr, arith, eq-eqb, some, get_elem?, and_from, and_parts, cases_lt, eqb-true, true≢false, false_from_ne_true, mul-le-mul_right, suc-mul, Shape, IsBegun, HasBit, slot_card, crosses, mark_word, as_number, region_at, started, Into, is_member, AreMoved, into_count, is_into, reads_as}
+use Rattle.g1_race.specs.{ℕ, zero, suc, eqb, true, false, List, get_or, div-lt_iff_lt-mul, refl, sym, ap, ◌∙◌, subst, inl, inr, arith, eq-eqb, some, get_elem?, and_from, and_parts, cases_lt, eqb-true, true≢false, false_from_ne_true, mul-le-mul_right, suc-mul, RaceShape, IsBegun, HasBit, slot_card, crosses, mark_word, as_number, region_at, started, Into, is_member, AreMoved, into_count, is_into, reads_as}
 use Rattle.g1_race.proofs.AtPause.{begun_read}
 use Rattle.g1_race.proofs.LeastInto.{into_bit}
 use Rattle.g1_race.proofs.Moving.{moved_away, moved_none, moved_then}
 
 -- how many there are
 
-pub count_same : (k : Shape) (a b : List ℕ) (region first n : ℕ) → first + n ≤ k.slots → ((p : ℕ) → first ≤ p → p < first + n → get_or a p 0 ≡ get_or b p 0) → into_count k a region first n ≡ into_count k b region first n
+pub count_same : (k : RaceShape) (a b : List ℕ) (region first n : ℕ) → first + n ≤ k.slots → ((p : ℕ) → first ≤ p → p < first + n → get_or a p 0 ≡ get_or b p 0) → into_count k a region first n ≡ into_count k b region first n
 count_same k a b region first zero le h = refl
 count_same k a b region first (suc n) le h = λ i. count_same k a b region first n (omega arith) (λ p x y. h p x (omega (arith, y))) i + as_number (is_into k region (first + n) (h (first + n) (omega arith) (omega arith) i))
 
-pub count_more : (k : Shape) (words : List ℕ) (region first a b : ℕ) → into_count k words region first (a + b) ≡ into_count k words region first a + into_count k words region (first + a) b
+pub count_more : (k : RaceShape) (words : List ℕ) (region first a b : ℕ) → into_count k words region first (a + b) ≡ into_count k words region first a + into_count k words region (first + a) b
 count_more k words region first a zero = omega (arith, ap (into_count k words region first) (let e : a + 0 ≡ a = omega arith in e))
 count_more k words region first a (suc b) =
     let e : a + suc b ≡ suc (a + b) = omega arith in
     let f : first + (a + b) ≡ first + a + b = omega arith in
     omega (arith, ap (into_count k words region first) e, count_more k words region first a b, ap (λ (n : ℕ). as_number (is_into k region n (get_or words n 0))) f)
 
-pub count_one : (k : Shape) (words : List ℕ) (region first n : ℕ) → into_count k words region first (n + 1) ≡ into_count k words region first n + as_number (is_into k region (first + n) (get_or words (first + n) 0))
+pub count_one : (k : RaceShape) (words : List ℕ) (region first n : ℕ) → into_count k words region first (n + 1) ≡ into_count k words region first n + as_number (is_into k region (first + n) (get_or words (first + n) 0))
 count_one k words region first n = ap (into_count k words region first) (let e : n + 1 ≡ suc n = omega arith in e)
 
-pub count_none : (k : Shape) (words : List ℕ) (region first n : ℕ) → ((p : ℕ) → first ≤ p → p < first + n → is_into k region p (get_or words p 0) ≡ false) → into_count k words region first n ≡ 0
+pub count_none : (k : RaceShape) (words : List ℕ) (region first n : ℕ) → ((p : ℕ) → first ≤ p → p < first + n → is_into k region p (get_or words p 0) ≡ false) → into_count k words region first n ≡ 0
 count_none k words region first zero none = refl
 count_none k words region first (suc n) none = λ i. count_none k words region first n (λ p x y. none p x (omega (arith, y))) i + as_number (none (first + n) (omega arith) (omega arith) i)
 
 -- a slot that refers into the region, in two forms
 
-pub into_is : (k : Shape) (words : List ℕ) (region p n : ℕ) → p < k.slots → get_elem? words p ≡ some n → is_into k region p n ≡ true → Into k words region p
+pub into_is : (k : RaceShape) (words : List ℕ) (region p n : ℕ) → p < k.slots → get_elem? words p ≡ some n → is_into k region p n ≡ true → Into k words region p
 into_is k words region p n lt at is = let b = and_parts (crosses k p n) (eqb (region_at k n) region) is in (n, lt, at, b.0, eqb-true (region_at k n) region b.1)
 
-pub is_into_of : (k : Shape) (region p n : ℕ) → crosses k p n ≡ true → region_at k n ≡ region → is_into k region p n ≡ true
+pub is_into_of : (k : RaceShape) (region p n : ℕ) → crosses k p n ≡ true → region_at k n ≡ region → is_into k region p n ≡ true
 is_into_of k region p n cr e = and_from (crosses k p n) (eqb (region_at k n) region) cr (eq-eqb (region_at k n) region e)
 
 -- card by card
 
-module _ (k : Shape) (old mid : List ℕ) (from to low high : ℕ) (begun : IsBegun (started k old)) (apart : from ≡ to → ⊥) (le : low ≤ high) (within : high ≤ k.cards)
+module _ (k : RaceShape) (old mid : List ℕ) (from to low high : ℕ) (begun : IsBegun (started k old)) (apart : from ≡ to → ⊥) (le : low ≤ high) (within : high ≤ k.cards)
     (clean : (c : ℕ) → c < k.cards → get_elem? old (mark_word k c) ≡ some 1 → ⊥) (h : AreMoved k old mid from to 0 (low * k.size)) (none : (c : ℕ) → low ≤ c → c < high → is_member k mid from c ≡ false) where
   in_order : low * k.size ≤ high * k.size
   in_order = mul-le-mul_right k.size le
@@ -83,5 +83,5 @@ module _ (k : Shape) (old mid : List ℕ) (from to low high : ℕ) (begun : IsBe
 
 -- after all of them none is left
 
-pub none_into : (k : Shape) (old mid : List ℕ) (from to p : ℕ) → IsBegun (started k old) → (from ≡ to → ⊥) → AreMoved k old mid from to 0 k.slots → Into k mid from p → ⊥
+pub none_into : (k : RaceShape) (old mid : List ℕ) (from to p : ℕ) → IsBegun (started k old) → (from ≡ to → ⊥) → AreMoved k old mid from to 0 k.slots → Into k mid from p → ⊥
 none_into k old mid from to p begun apart h x = moved_away k old mid from to 0 k.slots p x.0 apart begun h (omega arith) (omega (arith, x.1)) x.1 x.2 (is_into_of k from p x.0 x.3 x.4)

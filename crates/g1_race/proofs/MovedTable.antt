@@ -1,6 +1,6 @@
 -- A redirect at a pause as a step of the plain table.
 use Rattle.std.specs.Prelude.{◌≡◌, ◌≢◌, ◌+◌, ◌/◌, ◌<◌, ◌≤◌, ◌&&◌, ◌||◌}
-use Rattle.g1_race.specs.{true_is, length-take-le, ℕ, zero, suc, cond, eqb, map, take, Bool, true, false, List, length, get_or, Option, Some, None, refl, sym, ap, ◌∙◌, subst, inl, inr, ⊎_elim, arith, ne_eqb, not, count_by, some, get_elem?, enumerate_from, filter_map, and_from, and_parts, cases_Bool, eqb-false, not-true, or_cases, or_left, or_right, get_or_default, get_or-map, length-map, length-take, count_by_more_no, count_by_more_yes, slot_count, region_of, pair_cmp, Table, enters, moved_target, moved_pair, moved, moved_count, pair_total, pair_exact, listed, unlisted, Kept, from_kept, to_kept, slot_of, Shape, IsBegun, IsPair, HasBit, slot_card, front, mark_word, as_number, started, shape_of, ended, refs_of, table_of, target_of_word, AreMovedAway, Acquires, into_count, is_into, word_after, card_below, in_row, take_all}
+use Rattle.g1_race.specs.{true_is, length-take-le, ℕ, zero, suc, cond, eqb, map, take, Bool, true, false, List, length, get_or, Option, Some, None, refl, sym, ap, ◌∙◌, subst, inl, inr, ⊎_elim, arith, ne_eqb, not, count_by, some, get_elem?, enumerate_from, filter_map, and_from, and_parts, cases_Bool, eqb-false, not-true, or_cases, or_left, or_right, get_or_default, get_or-map, length-map, length-take, count_by_more_no, count_by_more_yes, slot_count, region_of, pair_cmp, Table, enters, moved_target, moved_pair, moved, moved_count, pair_total, pair_exact, listed, unlisted, Kept, from_kept, to_kept, slot_of, RaceShape, IsBegun, IsPair, HasBit, slot_card, front, mark_word, as_number, started, shape_of, ended, refs_of, table_of, target_of_word, AreMovedAway, Acquires, into_count, is_into, word_after, card_below, in_row, take_all}
 use Rattle.std.specs.FinSet as set
 use Rattle.std.proofs.lemmas.List.{ext_get_or}
 use Rattle.std.proofs.lemmas.List.FromFn.{get_or-enumerate_from, length-enumerate_from}
@@ -19,7 +19,7 @@ count_next p xs i d lt = elim (cases_Bool (p (get_or xs i d))) [
   | inr e ↦ omega (arith, count_by_more_no p xs i d lt e, ap as_number e)
 ]
 
-module _ (k : Shape) (l : layout.Shape) (laid : k ≡ shape_of l k.members) where
+module _ (k : RaceShape) (l : layout.Shape) (laid : k ≡ shape_of l k.members) where
   refs_len : (words : List ℕ) → IsBegun (started k words) → length (refs_of (ended l k words)) ≡ slot_count l
   refs_len words h = length-map (take (slot_count l) (front k words)) target_of_word ∙ length-take-le (slot_count l) (front k words) (omega (arith, h.sized, slots_are k l laid, length-take (k.slots + k.cards) words))
 
@@ -61,7 +61,7 @@ module _ (k : Shape) (l : layout.Shape) (laid : k ≡ shape_of l k.members) wher
         ∙ ap (λ (c : Bool). c && not (eqb x.1 from)) (set.contains-union pair_total t.recorded _ x)
 
     card_is : (p : ℕ) → slot_card k p ≡ layout.card_of l p
-    card_is p = ap (λ (s : Shape). p / s.size) laid
+    card_is p = ap (λ (s : RaceShape). p / s.size) laid
 
     gained : (x : ℕ × ℕ) → Acquires k old from to x → set.contains (set.from_list {R = pair_cmp} (filter_map (moved_pair l from to) (enumerate_from 0 refs))) x ≡ true
     gained x (p, n, lt, at, is, ne, e) =

@@ -1,6 +1,6 @@
 -- The word of a slot after a redirect, as the target that a table has there.
 use Rattle.std.specs.Prelude.{◌^◌, ◌≡◌, ◌+◌, ◌-◌, ◌*◌, ◌/◌, ◌%◌, ◌<◌, ◌&&◌}
-use Rattle.g1_race.specs.{and_left, cases_eq, reference_crosses, ℕ, cond, eqb, Bool, true, false, Option, Some, None, refl, sym, ap, ◌∙◌, subst, inl, inr, arith, not, and_parts, cases_Bool, cases_lt, same_offset, enters, moved_target, Shape, crosses, region_at, shape_of, target_of_word, is_into, moved_word, word_after, crosses_reference, false_is, true_is}
+use Rattle.g1_race.specs.{and_left, cases_eq, reference_crosses, ℕ, cond, eqb, Bool, true, false, Option, Some, None, refl, sym, ap, ◌∙◌, subst, inl, inr, arith, not, and_parts, cases_Bool, cases_lt, same_offset, enters, moved_target, RaceShape, crosses, region_at, shape_of, target_of_word, is_into, moved_word, word_after, crosses_reference, false_is, true_is}
 use Rattle.std.proofs.lemmas.Bool.Decides.{nat_tests}
 use Rattle.g1_layout.specs.Shape as layout
 use Rattle.g1_race_words.proofs.Crossing.{data_crosses, null_crosses}
@@ -9,9 +9,9 @@ use Rattle.g1_race.proofs.Ends.{target_data, target_some}
 same_under : (a b r : ℕ) → (not (eqb a b) && eqb b r) ≡ (not (eqb a r) && eqb b r)
 same_under a b r = grind (arith, nat_tests)
 
-module _ (k : Shape) (l : layout.Shape) (laid : k ≡ shape_of l k.members) where
+module _ (k : RaceShape) (l : layout.Shape) (laid : k ≡ shape_of l k.members) where
   pub span_is : k.span ≡ l.cards * l.slots
-  span_is = ap (λ (s : Shape). s.span) laid
+  span_is = ap (λ (s : RaceShape). s.span) laid
 
   -- a slot refers into a region by its word just where it does by its target
   pub enters_is : (region p n : ℕ) → is_into k region p n ≡ enters l region (p, target_of_word n)

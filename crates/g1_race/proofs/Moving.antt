@@ -1,6 +1,6 @@
 -- References that are moved from one region to another at a pause, slot by slot.
 use Rattle.std.specs.Prelude.{◌^◌, ◌≡◌, ◌≢◌, ◌⊎◌, ◌+◌, ◌-◌, ◌*◌, ◌/◌, ◌%◌, ◌<◌, ◌≤◌}
-use Rattle.g1_race.specs.{ℕ, true, false, List, length, set, get_or, mod-lt, refl, sym, ap, ◌∙◌, subst, inl, inr, ⊎_elim, arith, some, some-injective, get_elem?, and_parts, cases_Bool, cases_lt, eqb-true, true≢false, div-mul-add, set_else, set_here, Shape, In, IsBegun, IsWholeShape, HasBit, slot_card, crosses, mark_word, region_at, started, word_count, Notes, AreMoved, Acquires, is_into, moved_word, word_after, mark_apart, bit_as, same_bits, false_is, true_is}
+use Rattle.g1_race.specs.{ℕ, true, false, List, length, set, get_or, mod-lt, refl, sym, ap, ◌∙◌, subst, inl, inr, ⊎_elim, arith, some, some-injective, get_elem?, and_parts, cases_Bool, cases_lt, eqb-true, true≢false, div-mul-add, set_else, set_here, RaceShape, In, IsBegun, IsWholeShape, HasBit, slot_card, crosses, mark_word, region_at, started, word_count, Notes, AreMoved, Acquires, is_into, moved_word, word_after, mark_apart, bit_as, same_bits, false_is, true_is}
 use Rattle.g1_race.proofs.AtPause.{begun_placed, begun_read}
 use Rattle.g1_race.proofs.Ends.{crosses_apart}
 use Rattle.g1_race.proofs.PauseStores.{slot_in}
@@ -8,20 +8,20 @@ use Rattle.g1_race.proofs.StoreCalls.{other_region}
 
 -- the word of a moved reference
 
-pub moved_region : (k : Shape) (to n : ℕ) → 0 < k.span → region_at k (moved_word k to n) ≡ to
+pub moved_region : (k : RaceShape) (to n : ℕ) → 0 < k.span → region_at k (moved_word k to n) ≡ to
 moved_region k to n pos = ap (λ (m : ℕ). m / k.span) (let e : to * k.span + (n - 1) % k.span + 1 - 1 ≡ to * k.span + (n - 1) % k.span = omega arith in e) ∙ div-mul-add to k.span ((n - 1) % k.span) (mod-lt (n - 1) pos)
 
-pub moved_fits : (k : Shape) (to n : ℕ) → IsWholeShape k → to < k.regions → moved_word k to n ≤ k.slots
+pub moved_fits : (k : RaceShape) (to n : ℕ) → IsWholeShape k → to < k.regions → moved_word k to n ≤ k.slots
 moved_fits k to n shaped lt = omega (arith, slot_in k to ((n - 1) % k.span) shaped lt (mod-lt (n - 1) shaped.2))
 
-pub moved_low : (k : Shape) (to n : ℕ) → IsWholeShape k → to < k.regions → moved_word k to n < 2 ^ 32
+pub moved_low : (k : RaceShape) (to n : ℕ) → IsWholeShape k → to < k.regions → moved_word k to n < 2 ^ 32
 moved_low k to n shaped lt = omega (arith, moved_fits k to n shaped lt, shaped.3)
 
-pub moved_crosses : (k : Shape) (to p n : ℕ) → IsWholeShape k → to < k.regions → p / k.span ≢ to → crosses k p (moved_word k to n) ≡ true
+pub moved_crosses : (k : RaceShape) (to p n : ℕ) → IsWholeShape k → to < k.regions → p / k.span ≢ to → crosses k p (moved_word k to n) ≡ true
 moved_crosses k to p n shaped lt ne = let pos = shaped.2 in other_region k p (to * k.span + (n - 1) % k.span) (moved_word k to n) refl (moved_low k to n shaped lt) (λ e. ne (e ∙ div-mul-add to k.span ((n - 1) % k.span) (mod-lt (n - 1) pos)))
 
 -- no moved reference refers into the region that it left
-not_into : (k : Shape) (from to p n : ℕ) → 0 < k.span → (from ≡ to → ⊥) → is_into k from p (word_after k from to p n) ≡ true → ⊥
+not_into : (k : RaceShape) (from to p n : ℕ) → 0 < k.span → (from ≡ to → ⊥) → is_into k from p (word_after k from to p n) ≡ true → ⊥
 not_into k from to p n pos apart h = elim (cases_Bool (is_into k from p n)) [
   | inl yes_it ↦ apart (sym (eqb-true (region_at k (moved_word k to n)) from (and_parts _ _ (subst (λ (m : ℕ). is_into k from p m ≡ true) (true_is (is_into k from p n) (moved_word k to n) n yes_it) h)).1) ∙ moved_region k to n pos)
   | inr no_it ↦ true≢false (sym (subst (λ (m : ℕ). is_into k from p m ≡ true) (false_is (is_into k from p n) (moved_word k to n) n no_it) h) ∙ no_it)
@@ -29,7 +29,7 @@ not_into k from to p n pos apart h = elim (cases_Bool (is_into k from p n)) [
 
 -- one slot
 
-module _ (k : Shape) (old mid : List ℕ) (from to p n : ℕ) (b : IsBegun (started k old)) (h : IsBegun (started k mid)) (xs : List (ℕ × ℕ)) (notes : Notes k old mid xs) (lt : p < k.slots) (low : to < k.regions) (at : get_elem? old p ≡ some n) (into : is_into k from p n ≡ true)
+module _ (k : RaceShape) (old mid : List ℕ) (from to p n : ℕ) (b : IsBegun (started k old)) (h : IsBegun (started k mid)) (xs : List (ℕ × ℕ)) (notes : Notes k old mid xs) (lt : p < k.slots) (low : to < k.regions) (at : get_elem? old p ≡ some n) (into : is_into k from p n ≡ true)
     (has : p / k.span ≢ to → In xs (slot_card k p, to)) (gain : (x : ℕ × ℕ) → In xs x → (p / k.span ≢ to) × ((slot_card k p, to) ≡ x)) where
   abbrev word : ℕ
   word = moved_word k to n
@@ -64,7 +64,7 @@ module _ (k : Shape) (old mid : List ℕ) (from to p n : ℕ) (b : IsBegun (star
 
 -- several slots
 
-pub moved_none : (k : Shape) (words : List ℕ) (from to first count : ℕ) → ((p n : ℕ) → first ≤ p → p < first + count → p < k.slots → get_elem? words p ≡ some n → is_into k from p n ≡ false) → AreMoved k words words from to first count
+pub moved_none : (k : RaceShape) (words : List ℕ) (from to first count : ℕ) → ((p n : ℕ) → first ≤ p → p < first + count → p < k.slots → get_elem? words p ≡ some n → is_into k from p n ≡ false) → AreMoved k words words from to first count
 moved_none k words from to first count none = record {
   moved = λ p n le lt inside at. at ∙ ap (λ (w : ℕ). some w) (sym (false_is (is_into k from p n) (moved_word k to n) n (none p n le lt inside at)));
   outside = λ p inside apart. refl;
@@ -75,11 +75,11 @@ moved_none k words from to first count none = record {
 }
 
 -- no moved slot still refers into the region
-pub moved_away : (k : Shape) (old mid : List ℕ) (from to first a p n : ℕ) → (from ≡ to → ⊥) → IsBegun (started k old) → AreMoved k old mid from to first a → first ≤ p → p < first + a → p < k.slots → get_elem? mid p ≡ some n → is_into k from p n ≡ true → ⊥
+pub moved_away : (k : RaceShape) (old mid : List ℕ) (from to first a p n : ℕ) → (from ≡ to → ⊥) → IsBegun (started k old) → AreMoved k old mid from to first a → first ≤ p → p < first + a → p < k.slots → get_elem? mid p ≡ some n → is_into k from p n ≡ true → ⊥
 moved_away k old mid from to first a p n apart begun h le low inside at is = not_into k from to p (get_or old p 0) begun.shaped.2 apart
     (subst (λ (m : ℕ). is_into k from p m ≡ true) (some-injective n (word_after k from to p (get_or old p 0)) (sym at ∙ h.moved p (get_or old p 0) le low inside (begun_read k old p begun inside))) is)
 
-pub moved_then : (k : Shape) (old mid new : List ℕ) (from to first a b : ℕ) → (from ≡ to → ⊥) → IsBegun (started k old) → AreMoved k old mid from to first a → AreMoved k mid new from to (first + a) b → AreMoved k old new from to first (a + b)
+pub moved_then : (k : RaceShape) (old mid new : List ℕ) (from to first a b : ℕ) → (from ≡ to → ⊥) → IsBegun (started k old) → AreMoved k old mid from to first a → AreMoved k mid new from to (first + a) b → AreMoved k old new from to first (a + b)
 moved_then k old mid new from to first a b apart begun h g = record {
   moved = λ p n le lt inside at. elim (cases_lt p (first + a)) [
     | inl low ↦ g.outside p inside (inl low) ∙ h.moved p n le low inside at

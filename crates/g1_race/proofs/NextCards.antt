@@ -1,33 +1,33 @@
 -- The next card of a row of bits, in a word that was read.
 use Rattle.std.specs.Prelude.{◌≡◌, ◌≢◌, ◌+◌, ◌-◌, ◌*◌, ◌/◌, ◌%◌, ◌^◌, ◌<◌, ◌≤◌}
-use Rattle.g1_race.specs.{ℕ, true, false, List, Some, None, get_or, w64, refl, sym, ap, ◌∙◌, inl, inr, ⊎_elim, arith, eq-eqb, ne_eqb, some, get_elem?, bit_at, trailing_zeros, div-div-eq-div-mul, div-le_self, mul-le-mul_left, cases_lt, true≢false, pow-add, bit_at_above, bit_at-zero, bit_at-trailing_zeros, Shape, IsBegun, IsWholeShape, bit_place, bit_word, mark_word, started, IsNext, is_marked, is_member, reads_as}
+use Rattle.g1_race.specs.{ℕ, true, false, List, Some, None, get_or, w64, refl, sym, ap, ◌∙◌, inl, inr, ⊎_elim, arith, eq-eqb, ne_eqb, some, get_elem?, bit_at, trailing_zeros, div-div-eq-div-mul, div-le_self, mul-le-mul_left, cases_lt, true≢false, pow-add, bit_at_above, bit_at-zero, bit_at-trailing_zeros, RaceShape, IsBegun, IsWholeShape, bit_place, bit_word, mark_word, started, IsNext, is_marked, is_member, reads_as}
 
 -- a card whose mark was read
-pub mark_is : (k : Shape) (words : List ℕ) (card n : ℕ) → get_elem? words (mark_word k card) ≡ some n → n ≡ 1 → is_marked k words card ≡ true
+pub mark_is : (k : RaceShape) (words : List ℕ) (card n : ℕ) → get_elem? words (mark_word k card) ≡ some n → n ≡ 1 → is_marked k words card ≡ true
 mark_is k words card n at e = eq-eqb _ 1 (reads_as words (mark_word k card) n 0 at ∙ e)
 
-pub mark_is_not : (k : Shape) (words : List ℕ) (card n : ℕ) → get_elem? words (mark_word k card) ≡ some n → n ≢ 1 → is_marked k words card ≡ false
+pub mark_is_not : (k : RaceShape) (words : List ℕ) (card n : ℕ) → get_elem? words (mark_word k card) ≡ some n → n ≢ 1 → is_marked k words card ≡ false
 mark_is_not k words card n at ne = ne_eqb _ 1 (λ e. ne (sym (reads_as words (mark_word k card) n 0 at) ∙ e))
 
 -- there are fewer than 2 ^ 32
-pub cards_fit : (k : Shape) → IsWholeShape k → k.cards < 2 ^ 32
+pub cards_fit : (k : RaceShape) → IsWholeShape k → k.cards < 2 ^ 32
 cards_fit k shaped = omega (arith, mul-le-mul_left k.cards (let one : 1 ≤ k.size = omega (arith, shaped.1) in one), shaped.0, shaped.3)
 
 -- back to its word
-pub marked_word : (k : Shape) (words : List ℕ) (card : ℕ) → IsBegun (started k words) → card < k.cards → is_marked k words card ≡ true → get_elem? words (mark_word k card) ≡ some 1
+pub marked_word : (k : RaceShape) (words : List ℕ) (card : ℕ) → IsBegun (started k words) → card < k.cards → is_marked k words card ≡ true → get_elem? words (mark_word k card) ≡ some 1
 marked_word k words card h lt e = ⊎_elim
     (λ (o : get_elem? words (mark_word k card) ≡ some 1). o)
     (λ (z : get_elem? words (mark_word k card) ≡ some 0). absurd (true≢false (sym e ∙ mark_is_not k words card 0 z (λ n. absurd (omega (arith, n))))))
     (h.marks card lt)
 
-pub unmarked_word : (k : Shape) (words : List ℕ) (card : ℕ) → is_marked k words card ≡ false → get_elem? words (mark_word k card) ≡ some 1 → ⊥
+pub unmarked_word : (k : RaceShape) (words : List ℕ) (card : ℕ) → is_marked k words card ≡ false → get_elem? words (mark_word k card) ≡ some 1 → ⊥
 unmarked_word k words card e at = true≢false (sym (mark_is k words card 1 at refl) ∙ e)
 
 bit_after : (n p i : ℕ) → bit_at (n / 2 ^ p) i ≡ bit_at n (p + i)
 bit_after n p i = ap (λ (m : ℕ). m % 2) (div-div-eq-div-mul n (2 ^ p) (2 ^ i) ∙ ap (λ (m : ℕ). n / m) (sym (pow-add 2 p i)))
 
 -- what a walk along a row knows that has found no card before this one, and reads its word
-module _ (k : Shape) {words read : List ℕ} (same : read ≡ words) (from card region at place found : ℕ) (e : at ≡ bit_word k (card, region)) (f : place ≡ bit_place k (card, region)) (there : get_elem? read at ≡ some found)
+module _ (k : RaceShape) {words read : List ℕ} (same : read ≡ words) (from card region at place found : ℕ) (e : at ≡ bit_word k (card, region)) (f : place ≡ bit_place k (card, region)) (there : get_elem? read at ≡ some found)
     (none : (x : ℕ) → from ≤ x → x < card → is_member k words region x ≡ false) where
   abbrev rest : ℕ
   rest = found / 2 ^ place

@@ -1,6 +1,6 @@
 -- What is recorded at a pause after some of its calls.
 use Rattle.std.specs.Prelude.{◌≡◌, ◌⊎◌, ◌<◌, ◌∷◌}
-use Rattle.g1_race.specs.{inl, inr, ℕ, suc, List, [], length, sym, ap, ◌∙◌, subst, arith, fold, and_parts, Table, Holds, IsRecorded, refined, Entry, Store, Clear, Redirect, written, settled, table_after, recorded_cases, Holds_from_held, Shape, table_of, DrainAtPause, HeldDuring, table_at_moment}
+use Rattle.g1_race.specs.{inl, inr, ℕ, suc, List, [], length, sym, ap, ◌∙◌, subst, arith, fold, and_parts, Table, Holds, IsRecorded, refined, Entry, Store, Clear, Redirect, written, settled, table_after, recorded_cases, Holds_from_held, RaceShape, table_of, DrainAtPause, HeldDuring, table_at_moment}
 use Rattle.std.proofs.lemmas.List.{take_all}
 use Rattle.g1_core.specs.declared.entry.Call.{Call}
 use Rattle.g1_core.specs.declared.entry.Reply.{Reply}
@@ -71,6 +71,6 @@ drain_at_pause e begun racers sweepers calls caller region cards done after shap
 
     had : Had (table_of e) calls card region
     had = elim (recorded_cases done now card region (step.allowed.answers.1.recorded card c)) [
-      | inl old ↦ recorded_had (table_of e) calls card region (subst (λ (n : ℕ). 0 < n) (ap (λ (s : Shape). s.span) laid) shaped.2) (subst (λ (u : Table). IsRecorded u card region) whole old)
+      | inl old ↦ recorded_had (table_of e) calls card region (subst (λ (n : ℕ). 0 < n) (ap (λ (s : RaceShape). s.span) laid) shaped.2) (subst (λ (u : Table). IsRecorded u card region) whole old)
       | inr new ↦ held_had (table_of e) calls card region (subst (λ (u : Table). Holds u card region) whole (Holds_from_held now card region new))
     ]

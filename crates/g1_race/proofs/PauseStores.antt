@@ -1,6 +1,6 @@
 -- A store at a pause as a step of the plain table.
 use Rattle.std.specs.Prelude.{◌≤◌, ◌^◌, ◌≡◌, ◌≢◌, ◌+◌, ◌-◌, ◌*◌, ◌/◌, ◌<◌}
-use Rattle.g1_race.specs.{SameBits, ℕ, cond, Bool, true, List, set, take, map, get_or, Option, None, refl, sym, ap, ◌∙◌, subst, inl, inr, arith, ne_eqb, some, get_elem?, nat_cmp, eq_by_cmp, Equal-is, take-set-lt, cases_Bool, cases_eq, or_cases, or_left, or_right, nat_cmp_total, eq_by_cmp_equiv, map-set, exact_unsigned, set_else, set_here, Kind, SameRegion, Null, AlreadyDirty, Logged, slot_count, region_of, CardSet, Table, IsPending, IsStep, kind_of, pending_after, stored, store_entry, refined_none, none_refinable, IfSome, Shape, IsBegun, IsWholeShape, slot_card, crosses, mark_word, started, shape_of, ended, refs_of, table_of, target_of_word, plain_reply, mark_apart, mul-add-lt, at_take, crosses_reference, bit_as, card_below, same_bits}
+use Rattle.g1_race.specs.{SameBits, ℕ, cond, Bool, true, List, set, take, map, get_or, Option, None, refl, sym, ap, ◌∙◌, subst, inl, inr, arith, ne_eqb, some, get_elem?, nat_cmp, eq_by_cmp, Equal-is, take-set-lt, cases_Bool, cases_eq, or_cases, or_left, or_right, nat_cmp_total, eq_by_cmp_equiv, map-set, exact_unsigned, set_else, set_here, Kind, SameRegion, Null, AlreadyDirty, Logged, slot_count, region_of, CardSet, Table, IsPending, IsStep, kind_of, pending_after, stored, store_entry, refined_none, none_refinable, IfSome, RaceShape, IsBegun, IsWholeShape, slot_card, crosses, mark_word, started, shape_of, ended, refs_of, table_of, target_of_word, plain_reply, mark_apart, mul-add-lt, at_take, crosses_reference, bit_as, card_below, same_bits}
 use Rattle.std.specs.FinSet as fin
 use Rattle.g1_layout.specs.Shape as layout
 use Rattle.g1_race.proofs.Ends.{target_data, crosses_apart, recorded_set, set_recorded, target_some, word_gives}
@@ -11,12 +11,12 @@ store_step t new caller slot target kind lt within is e = record { allowed = rec
 
 -- the slots of a region
 
-pub slot_in : (k : Shape) (region i : ℕ) → IsWholeShape k → region < k.regions → i < k.span → region * k.span + i < k.slots
+pub slot_in : (k : RaceShape) (region i : ℕ) → IsWholeShape k → region < k.regions → i < k.span → region * k.span + i < k.slots
 slot_in k region i shaped lt below = omega (arith, mul-add-lt region k.span i k.regions lt below, shaped.6)
 
 -- what a slot with this word refers to
-pub slot_gives : (k : Shape) (l : layout.Shape) (words : List ℕ) (p n : ℕ) → k ≡ shape_of l k.members → p < k.slots → get_elem? words p ≡ some n → get_or (refs_of (ended l k words)) p None ≡ target_of_word n
-slot_gives k l words p n laid lt at = let slots : k.slots ≡ slot_count l = ap (λ (s : Shape). s.slots) laid in
+pub slot_gives : (k : RaceShape) (l : layout.Shape) (words : List ℕ) (p n : ℕ) → k ≡ shape_of l k.members → p < k.slots → get_elem? words p ≡ some n → get_or (refs_of (ended l k words)) p None ≡ target_of_word n
+slot_gives k l words p n laid lt at = let slots : k.slots ≡ slot_count l = ap (λ (s : RaceShape). s.slots) laid in
     word_gives (ended l k words) p n (omega (arith, lt, slots)) (at_take words (k.slots + k.cards) p n (omega (arith, lt)) at)
 
 -- a store that dirties no card leaves what is pending
@@ -26,7 +26,7 @@ pending_stays SameRegion pending card quiet = refl
 pending_stays Null pending card quiet = refl
 pending_stays AlreadyDirty pending card quiet = refl
 
-module _ (k : Shape) (l : layout.Shape) (laid : k ≡ shape_of l k.members) (p : ℕ) (lt : p < k.slots) (target : Option ℕ) (n : ℕ) (back : target_of_word n ≡ target) where
+module _ (k : RaceShape) (l : layout.Shape) (laid : k ≡ shape_of l k.members) (p : ℕ) (lt : p < k.slots) (target : Option ℕ) (n : ℕ) (back : target_of_word n ≡ target) where
   -- the kind of the store
 
   pub kind_null : (t : Table) → n ≡ 0 → kind_of t p target ≡ Null
@@ -40,7 +40,7 @@ module _ (k : Shape) (l : layout.Shape) (laid : k ≡ shape_of l k.members) (p :
 
   pub kind_across : (words : List ℕ) → crosses k p n ≡ true → kind_of (table_of (ended l k words)) p target ≡ cond (fin.contains (table_of (ended l k words)).pending (layout.card_of l p)) AlreadyDirty Logged
   kind_across words cr = ap (kind_of (table_of (ended l k words)) p) (sym back ∙ target_some n (crosses_reference k p n cr))
-      ∙ ap (kind_at words) (ne_eqb (region_of l p) (region_of l (n - 1)) (crosses_apart (shape_of l k.members) p n (subst (λ (s : Shape). crosses s p n ≡ true) laid cr)))
+      ∙ ap (kind_at words) (ne_eqb (region_of l p) (region_of l (n - 1)) (crosses_apart (shape_of l k.members) p n (subst (λ (s : RaceShape). crosses s p n ≡ true) laid cr)))
 
   -- the slot is written
 
@@ -63,7 +63,7 @@ module _ (k : Shape) (l : layout.Shape) (laid : k ≡ shape_of l k.members) (p :
       (λ x r. let s = recorded_set k l words laid h x r in (s.0, bit_as k words (set words p n) x (same_bits k words p n (omega (arith, lt))) s.1))
 
   card_is : slot_card k p ≡ layout.card_of l p
-  card_is = ap (λ (s : Shape). p / s.size) laid
+  card_is = ap (λ (s : RaceShape). p / s.size) laid
 
   -- its card becomes dirty
   module _ (words : List ℕ) (h : IsBegun (started k words)) (h' : IsBegun (started k (set (set words (mark_word k (slot_card k p)) 1) p n))) where

@@ -1,6 +1,6 @@
 -- What a pause's words say as a table.
 use Rattle.std.specs.Prelude.{◌≡◌, ◌+◌, ◌<◌, ◌≤◌}
-use Rattle.g1_race.specs.{at_read, cases_lt, false, get_or, get_or-map, get_or_past, length-drop, length-map, ℕ, eqb, List, map, drop, Contains, refl, sym, ap, ◌∙◌, subst, inl, inr, ⊎_elim, arith, some, get_elem?, slot_count, nat_cmp, and_parts, not-true, true≢false, eqb-true, Option, length, eq-eqb, CardSet, set_of, Table, Holds, IsPending, IsRecorded, AreMembers, refined, IsStep, drained, pending_flag, none_of, All_by_member, same_cards, same_pairs, refined_pending, still_recorded, newly_recorded, recorded_cases, held_from_Holds, Holds_from_held, Shape, BeganInto, IsBegun, IsPair, HasBit, IsWholeShape, mark_word, front, started, shape_of, ended, target_of_word, refs_of, marks_of, table_of, AreRefined, MembersAreExact, is_marked, is_member, marked_cards, member_cards, AreAllRefined, IsExactAtPause, never_both, at_take, at_untake, take_same}
+use Rattle.g1_race.specs.{at_read, cases_lt, false, get_or, get_or-map, get_or_past, length-drop, length-map, ℕ, eqb, List, map, drop, Contains, refl, sym, ap, ◌∙◌, subst, inl, inr, ⊎_elim, arith, some, get_elem?, slot_count, nat_cmp, and_parts, not-true, true≢false, eqb-true, Option, length, eq-eqb, CardSet, set_of, Table, Holds, IsPending, IsRecorded, AreMembers, refined, IsStep, drained, pending_flag, none_of, All_by_member, same_cards, same_pairs, refined_pending, still_recorded, newly_recorded, recorded_cases, held_from_Holds, Holds_from_held, RaceShape, BeganInto, IsBegun, IsPair, HasBit, IsWholeShape, mark_word, front, started, shape_of, ended, target_of_word, refs_of, marks_of, table_of, AreRefined, MembersAreExact, is_marked, is_member, marked_cards, member_cards, AreAllRefined, IsExactAtPause, never_both, at_take, at_untake, take_same}
 use Rattle.std.proofs.Math.Seq.{take-take}
 use Rattle.std.proofs.lemmas.List.{get_or-drop}
 use Rattle.g1_layout.specs.Shape as layout
@@ -15,15 +15,15 @@ pub members_exact : MembersAreExact
 members_exact t region cards clean cover m c h = m.all c (covered_held t c region clean cover h)
 
 -- no more cards are members than were members or dirty
-pub members_room : (k : Shape) (old new : List ℕ) (region : ℕ) → AreRefined k old new k.cards → length (member_cards k new region) ≤ length (member_cards k old region) + length (marked_cards k old)
+pub members_room : (k : RaceShape) (old new : List ℕ) (region : ℕ) → AreRefined k old new k.cards → length (member_cards k new region) ≤ length (member_cards k old region) + length (marked_cards k old)
 members_room k old new region r = at_most_both (is_member k new region) (is_member k old region) (is_marked k old) k.cards (λ c lt e. ⊎_elim
     (λ (u : HasBit k old (c, region)). inl (eq-eqb _ 1 u))
     (λ (u : (get_elem? old (mark_word k c) ≡ some 1) × BeganInto k old (c, region)). inr (mark_is k old c 1 u.0 refl))
     (r.only (c, region) lt (eqb-true _ 1 e)))
 
-module _ (k : Shape) (l : layout.Shape) (laid : k ≡ shape_of l k.members) where
+module _ (k : RaceShape) (l : layout.Shape) (laid : k ≡ shape_of l k.members) where
   pub slots_are : k.slots ≡ slot_count l
-  slots_are = ap (λ (s : Shape). s.slots) laid
+  slots_are = ap (λ (s : RaceShape). s.slots) laid
 
   -- a pending card has a word of 1
   pub pending_word : (words : List ℕ) (c : ℕ) → IsPending (table_of (ended l k words)) c → (c < k.cards) × (get_elem? words (mark_word k c) ≡ some 1)
@@ -52,7 +52,7 @@ module _ (k : Shape) (l : layout.Shape) (laid : k ≡ shape_of l k.members) wher
   pub holds_now : (words : List ℕ) (c r : ℕ) → IsWholeShape k → BeganInto k words (c, r) → Holds (table_of (ended l k words)) c r
   holds_now words c r shaped b =
       let at : get_elem? (front k words) b.0 ≡ some b.1 = at_take words (k.slots + k.cards) b.0 b.1 (let lt : b.0 < k.slots = b.3.0 in omega (arith, lt)) b.2 in
-      began_holds (ended l k words) k.members c r (subst IsWholeShape laid shaped) (subst (λ (s : Shape). BeganInto s (front k words) (c, r)) laid (b.0, b.1, at, b.3, b.4))
+      began_holds (ended l k words) k.members c r (subst IsWholeShape laid shaped) (subst (λ (s : RaceShape). BeganInto s (front k words) (c, r)) laid (b.0, b.1, at, b.3, b.4))
 
   -- the table that words make, by what it has
   pub table_is : (new : List ℕ) (t : Table) → IsBegun (started k new) → t.layout ≡ l → refs_of (ended l k new) ≡ t.refs → ((c : ℕ) → IsPending (table_of (ended l k new)) c → IsPending t c) → ((c : ℕ) → IsPending t c → IsPending (table_of (ended l k new)) c)

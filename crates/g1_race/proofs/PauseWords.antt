@@ -1,12 +1,12 @@
 -- What refinement at a pause does to the words.
 use Rattle.std.specs.Prelude.{◌≡◌, ◌⊎◌, ◌+◌, ◌*◌, ◌%◌, ◌^◌, ◌<◌, ◌≤◌, ◌∷◌, ◌++◌}
-use Rattle.g1_race.specs.{ℕ, zero, suc, cond, Bool, true, false, List, [], length, set, get_or, bit_or, length-set, div-add-mod', mod-lt, refl, sym, ap, ◌∙◌, subst, inl, inr, ⊎_elim, arith, some, cases_eq, get_elem?, cases_lt, bit_at, div-mul-add, set_else, set_here, Shape, In, IsBegun, IsOfCrossing, HasBit, BeganInto, bit_word, bit_place, flag, mark_word, slot_card, region_at, crosses, started, pair_at, Notes, RefinesCard, AreRefined, card_pairs, in_left, in_right, in_either, true_is, reads_as, word_low, SameBits, same_bits, bit_as, with_pair, bit_here, bits_stay, bits_back, bit_below, front_stays}
+use Rattle.g1_race.specs.{ℕ, zero, suc, cond, Bool, true, false, List, [], length, set, get_or, bit_or, length-set, div-add-mod', mod-lt, refl, sym, ap, ◌∙◌, subst, inl, inr, ⊎_elim, arith, some, cases_eq, get_elem?, cases_lt, bit_at, div-mul-add, set_else, set_here, RaceShape, In, IsBegun, IsOfCrossing, HasBit, BeganInto, bit_word, bit_place, flag, mark_word, slot_card, region_at, crosses, started, pair_at, Notes, RefinesCard, AreRefined, card_pairs, in_left, in_right, in_either, true_is, reads_as, word_low, SameBits, same_bits, bit_as, with_pair, bit_here, bits_stay, bits_back, bit_below, front_stays}
 use Rattle.g1_race.proofs.AtPause.{begun_front, begun_mark, begun_read, filled_next}
 use Rattle.g1_race.proofs.SweepCalls.{slot_below}
 
 -- one bit is set, of a pair or a card's flag
 
-module _ (k : Shape) (words : List ℕ) (x : ℕ × ℕ) (h : IsBegun (started k words)) (card : x.0 < k.cards) (row : x.1 ≤ k.regions) where
+module _ (k : RaceShape) (words : List ℕ) (x : ℕ × ℕ) (h : IsBegun (started k words)) (card : x.0 < k.cards) (row : x.1 ≤ k.regions) where
   short : bit_word k x < length words
   short = subst (λ (n : ℕ). bit_word k x < n) (sym h.sized) (bit_below k x h.shaped card row)
 
@@ -24,17 +24,17 @@ module _ (k : Shape) (words : List ℕ) (x : ℕ × ℕ) (h : IsBegun (started k
   }
 
 -- the word as the call writes it, over the words that it read
-pub with_found : (k : Shape) (words seen : List ℕ) (x : ℕ × ℕ) (at place found : ℕ) → seen ≡ words → at ≡ bit_word k x → place ≡ bit_place k x → get_elem? words at ≡ some found → set seen at (bit_or found (1 * 2 ^ place % 2 ^ 64)) ≡ with_pair k words x
+pub with_found : (k : RaceShape) (words seen : List ℕ) (x : ℕ × ℕ) (at place found : ℕ) → seen ≡ words → at ≡ bit_word k x → place ≡ bit_place k x → get_elem? words at ≡ some found → set seen at (bit_or found (1 * 2 ^ place % 2 ^ 64)) ≡ with_pair k words x
 with_found k words seen x at place found same e f there = λ i. set (same i) (e i) (bit_or ((sym (reads_as words at found 0 there) ∙ ap (λ (j : ℕ). get_or words j 0) e) i) (1 * 2 ^ f i % 2 ^ 64))
 
 -- the bit as a word that was read has it
-pub bit_read : (k : Shape) (words : List ℕ) (x : ℕ × ℕ) (at place found : ℕ) → at ≡ bit_word k x → place ≡ bit_place k x → get_elem? words at ≡ some found → bit_at found place ≡ bit_at (get_or words (bit_word k x) 0) (bit_place k x)
+pub bit_read : (k : RaceShape) (words : List ℕ) (x : ℕ × ℕ) (at place found : ℕ) → at ≡ bit_word k x → place ≡ bit_place k x → get_elem? words at ≡ some found → bit_at found place ≡ bit_at (get_or words (bit_word k x) 0) (bit_place k x)
 bit_read k words x at place found e f there = λ i. bit_at ((sym (reads_as words at found 0 there) ∙ ap (λ (j : ℕ). get_or words j 0) e) i) (f i)
 
-pub notes_same : (k : Shape) (old new : List ℕ) (xs : List (ℕ × ℕ)) → new ≡ old → ((x : ℕ × ℕ) → In xs x → HasBit k old x) → Notes k old new xs
+pub notes_same : (k : RaceShape) (old new : List ℕ) (xs : List (ℕ × ℕ)) → new ≡ old → ((x : ℕ × ℕ) → In xs x → HasBit k old x) → Notes k old new xs
 notes_same k old new xs e h = subst (λ (l : List ℕ). Notes k old l xs) (sym e) (record { front = λ i lt. refl; kept = λ x b. b; has = h; only = λ x p b. inl b })
 
-pub notes_then : (k : Shape) (a b c : List ℕ) (xs ys : List (ℕ × ℕ)) → Notes k a b xs → Notes k b c ys → Notes k a c (xs ++ ys)
+pub notes_then : (k : RaceShape) (a b c : List ℕ) (xs ys : List (ℕ × ℕ)) → Notes k a b xs → Notes k b c ys → Notes k a c (xs ++ ys)
 notes_then k a b c xs ys h g = record {
   front = λ i lt. g.front i lt ∙ h.front i lt;
   kept = λ x t. g.kept x (h.kept x t);
@@ -47,14 +47,14 @@ notes_then k a b c xs ys h g = record {
 
 -- the pairs of a card
 
-here_pairs : (k : Shape) (words : List ℕ) (c i : ℕ) (x : ℕ × ℕ) → In (pair_at k (c * k.size + i) (get_or words (c * k.size + i) 0)) x → (j : ℕ) → i < j → In (card_pairs k words c j) x
+here_pairs : (k : RaceShape) (words : List ℕ) (c i : ℕ) (x : ℕ × ℕ) → In (pair_at k (c * k.size + i) (get_or words (c * k.size + i) 0)) x → (j : ℕ) → i < j → In (card_pairs k words c j) x
 here_pairs k words c i x there zero lt = absurd (omega arith)
 here_pairs k words c i x there (suc j) lt = elim (cases_eq i j) [
   | inl e ↦ in_right (card_pairs k words c j) _ x (subst (λ (m : ℕ). In (pair_at k (c * k.size + m) (get_or words (c * k.size + m) 0)) x) e there)
   | inr ne ↦ in_left (card_pairs k words c j) _ x (here_pairs k words c i x there j (omega (arith, lt, ne)))
 ]
 
-on_card : (k : Shape) (words : List ℕ) (p n : ℕ) → 0 < k.size → get_elem? words p ≡ some n → crosses k p n ≡ true → In (card_pairs k words (slot_card k p) k.size) (slot_card k p, region_at k n)
+on_card : (k : RaceShape) (words : List ℕ) (p n : ℕ) → 0 < k.size → get_elem? words p ≡ some n → crosses k p n ≡ true → In (card_pairs k words (slot_card k p) k.size) (slot_card k p, region_at k n)
 on_card k words p n pos at cr =
     let x : ℕ × ℕ = (slot_card k p, region_at k n) in
     let here : pair_at k p (get_or words p 0) ≡ x ∷ [] = ap (pair_at k p) (reads_as words p n 0 at) ∙ true_is (crosses k p n) (x ∷ []) [] cr in
@@ -66,7 +66,7 @@ one_pair true y x (inr n) = absurd n
 one_pair false y x i = absurd i
 
 -- each is of a reference that is there
-found_there : (k : Shape) (words : List ℕ) (c : ℕ) → IsBegun (started k words) → c < k.cards → (i : ℕ) → i ≤ k.size → (x : ℕ × ℕ) → In (card_pairs k words c i) x → (x.0 ≡ c) × BeganInto k words x
+found_there : (k : RaceShape) (words : List ℕ) (c : ℕ) → IsBegun (started k words) → c < k.cards → (i : ℕ) → i ≤ k.size → (x : ℕ × ℕ) → In (card_pairs k words c i) x → (x.0 ≡ c) × BeganInto k words x
 found_there k words c h lt zero le x n = absurd n
 found_there k words c h lt (suc i) le x there = ⊎_elim
     (λ (a : In (card_pairs k words c i) x). found_there k words c h lt i (omega (arith, le)) x a)
@@ -82,7 +82,7 @@ found_there k words c h lt (suc i) le x there = ⊎_elim
 
 -- a card that is cleaned, once the bits of its pairs are set
 
-module _ (k : Shape) (old mid : List ℕ) (c : ℕ) (was : IsBegun (started k old)) (h : IsBegun (started k mid)) (lt : c < k.cards) (notes : Notes k old mid (card_pairs k old c k.size)) where
+module _ (k : RaceShape) (old mid : List ℕ) (c : ℕ) (was : IsBegun (started k old)) (h : IsBegun (started k mid)) (lt : c < k.cards) (notes : Notes k old mid (card_pairs k old c k.size)) where
   abbrev clean : List ℕ
   clean = set mid (mark_word k c) 0
 
@@ -108,7 +108,7 @@ module _ (k : Shape) (old mid : List ℕ) (c : ℕ) (was : IsBegun (started k ol
 -- one card after another
 
 -- the cards from one on to the next dirty one are clean
-pub refined_past : (k : Shape) (old mid : List ℕ) (n m : ℕ) → IsBegun (started k mid) → n ≤ m → ((c : ℕ) → n ≤ c → c < m → c < k.cards → get_elem? mid (mark_word k c) ≡ some 1 → ⊥) → AreRefined k old mid n → AreRefined k old mid m
+pub refined_past : (k : RaceShape) (old mid : List ℕ) (n m : ℕ) → IsBegun (started k mid) → n ≤ m → ((c : ℕ) → n ≤ c → c < m → c < k.cards → get_elem? mid (mark_word k c) ≡ some 1 → ⊥) → AreRefined k old mid n → AreRefined k old mid m
 refined_past k old mid n m b le never h = record { slots = h.slots; clean = λ c up below. pick c up below (cases_lt c n); marks = λ c up below. h.marks c (omega (arith, up, le)) below; kept = h.kept; only = h.only }
   where
     pick : (c : ℕ) → c < m → c < k.cards → (c < n) ⊎ (n ≤ c) → get_elem? mid (mark_word k c) ≡ some 0
@@ -116,7 +116,7 @@ refined_past k old mid n m b le never h = record { slots = h.slots; clean = λ c
     pick c up below (inr high) = ⊎_elim (λ (o : get_elem? mid (mark_word k c) ≡ some 1). absurd (never c high up below o)) (λ (z : get_elem? mid (mark_word k c) ≡ some 0). z) (b.marks c below)
 
 -- a dirty card
-pub refined_next : (k : Shape) (old mid new : List ℕ) (n : ℕ) → n < k.cards → get_elem? mid (mark_word k n) ≡ some 1 → AreRefined k old mid n → RefinesCard k mid new n → AreRefined k old new (n + 1)
+pub refined_next : (k : RaceShape) (old mid new : List ℕ) (n : ℕ) → n < k.cards → get_elem? mid (mark_word k n) ≡ some 1 → AreRefined k old mid n → RefinesCard k mid new n → AreRefined k old new (n + 1)
 refined_next k old mid new n there dirty h g = record {
   slots = λ p lt. g.slots p lt ∙ h.slots p lt;
   clean = filled_next k.cards (mark_word k) (λ c. 0) mid new n h.clean g.clean (λ c ne below. g.marks c below ne);

@@ -3,7 +3,7 @@ use Rattle.std.specs.Prelude.{◌≡◌, ◌⊎◌, ◌+◌, ◌*◌, ◌/◌, �
 use Rattle.g1_race.specs.Prelude.{ℕ, not, zero, suc, false, List, [], None, Contains, length}
 use Rattle.g1_race.specs.Prelude.{replicate, slice_index, nat_le, nat_lt, some, get_elem?}
 use Rattle.g1_race.specs.Prelude.{IsStrictlyIncreasing, Kind, region_of_card, Table, Holds}
-use Rattle.g1_race.specs.Prelude.{IsRecorded, IsCovered, AreRefinable, refined, stored, Shape}
+use Rattle.g1_race.specs.Prelude.{IsRecorded, IsCovered, AreRefinable, refined, stored, RaceShape}
 use Rattle.std.specs.FinSet as set
 use Rattle.g1_core.specs.declared.reply.Drained.{Drained}
 use Rattle.g1_core.specs.declared.reply.Drained.TheVariants.{Cards, Short}
@@ -12,28 +12,27 @@ use Rattle.g1_core.specs.declared.reply.StoreReply.{StoreReply}
 use Rattle.g1_race.specs.Over.{Pause}
 use Rattle.g1_race.specs.Refining.{AreUnflagged}
 
--- whose words these are, how they are laid out, and how many members there are is as it was
-pub record IsKept (old new : Pause) : Type 0 where
+-- all of a race at a pause but its words is as it was, and the racers' logs, of as many racers as
+-- before, are these
+pub record IsRaceWith (logged : List (List ℕ)) (old new : Pause) : Type 0 where
   pub layout : new.layout ≡ old.layout
   pub shape : new.shape ≡ old.shape
   pub address : new.address ≡ old.address
   pub table_id : new.table_id ≡ old.table_id
   pub racers : length new.logs ≡ length old.logs
   pub sweepers : new.sweepers ≡ old.sweepers
+  pub logs : new.logs ≡ logged
 
--- all of a race at a pause but its words is as it was
-pub record IsSameRace (old new : Pause) : Type 0 where
-  pub kept : IsKept old new
-  pub logs : new.logs ≡ old.logs
+abbrev pub IsSameRace : Pause → Pause → Type 0
+IsSameRace old new = IsRaceWith old.logs old new
 
 -- the same once all is refined: each racer's log is empty, and no flag is set
 pub record IsRefinedRace (old new : Pause) : Type 0 where
-  pub kept : IsKept old new
-  pub logs : new.logs ≡ replicate (length old.logs) []
+  pub kept : IsRaceWith (replicate (length old.logs) []) old new
   pub flags : AreUnflagged new.shape new.words
 
 -- each slot's word becomes this
-abbrev pub WordsBecome : (ℕ → ℕ → ℕ) → Shape → List ℕ → List ℕ → Type 0
+abbrev pub WordsBecome : (ℕ → ℕ → ℕ) → RaceShape → List ℕ → List ℕ → Type 0
 WordsBecome change heap old new = (p n : ℕ) → p < heap.slots →
     get_elem? old p ≡ some n → get_elem? new p ≡ some (change p n)
 
@@ -49,7 +48,7 @@ abbrev pub one_word : ℕ → ℕ → ℕ → ℕ → ℕ
 one_word place new slot word = if slot == place then new else word
 
 -- those of the region's slots become null
-abbrev pub wiped_word : Shape → ℕ → ℕ → ℕ → ℕ
+abbrev pub wiped_word : RaceShape → ℕ → ℕ → ℕ → ℕ
 wiped_word heap region slot word = if slot / heap.span == region then 0 else word
 
 -- those of as many slots, from one on, become the old words of those from another on

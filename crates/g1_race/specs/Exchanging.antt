@@ -1,13 +1,13 @@
 -- What a racer's store of a word does: a reference, null, or data, which refers to nothing.
 use Rattle.std.specs.Prelude.{◌≡◌, ◌≢◌, ◌++◌, ◌∷◌, if◌then◌else◌}
 use Rattle.g1_race.specs.Prelude.{ℕ, [], false, true, Kind, SameRegion, Null, AlreadyDirty, Logged}
-use Rattle.g1_race.specs.Prelude.{Shape, View, IsReference, IsWord, slot_card, crosses, IsFound}
+use Rattle.g1_race.specs.Prelude.{RaceShape, View, IsReference, IsWord, slot_card, crosses, IsFound}
 use Rattle.g1_race.specs.declared.race.Racer.{Racer}
 use Rattle.g1_race.specs.Race.{stored_view}
 use Rattle.g1_race.specs.Members.{is_logged, racer_log, racer_view}
 
 -- the kind of a store of this word to the slot: data is stored as null is
-abbrev pub IsWordKind : Shape → ℕ → ℕ → Kind → Type 0
+abbrev pub IsWordKind : RaceShape → ℕ → ℕ → Kind → Type 0
 IsWordKind heap slot word Null = IsReference word → ⊥
 IsWordKind heap slot word SameRegion = IsReference word × (crosses heap slot word ≡ false)
 IsWordKind heap slot word AlreadyDirty = crosses heap slot word ≡ true
@@ -15,7 +15,7 @@ IsWordKind heap slot word Logged = crosses heap slot word ≡ true
 
 -- the racer has stored the word to the slot and overwrote the old one, which the slot had at some
 -- moment of the race, with the racer's view as it was before; and this was the kind of the store
-pub record HasStoredWord (heap : Shape) (slot word old : ℕ) (kind : Kind) (before after : Racer)
+pub record HasStoredWord (heap : RaceShape) (slot word old : ℕ) (kind : Kind) (before after : Racer)
     : Type 0 where
   pub agrees : IsWordKind heap slot word kind
   pub found : IsFound (racer_view before) slot old
@@ -26,7 +26,7 @@ pub record HasStoredWord (heap : Shape) (slot word old : ℕ) (kind : Kind) (bef
 
 -- at some moment of the race, with the racer's view so, the slot had this word, which is not the
 -- one that was expected
-pub record HasOtherWord (heap : Shape) (view : View) (slot expected word : ℕ) : Type 0 where
+pub record HasOtherWord (heap : RaceShape) (view : View) (slot expected word : ℕ) : Type 0 where
   pub found : IsFound view slot word
   pub fits : IsWord heap word
   pub other : word ≢ expected

@@ -2,7 +2,7 @@
 use Rattle.std.specs.Prelude.{◌≡◌, ◌-◌, ◌^◌, ◌==◌, if◌then◌else◌}
 use Rattle.g1_race.specs.Prelude.{nat_lt, ℕ, List, map, take, drop, Bool, Option, Some, None, Ptr}
 use Rattle.g1_race.specs.Prelude.{TableId, slot_count, Table, Machine, table_with, adopted_machine}
-use Rattle.g1_race.specs.Prelude.{Shape, Start, IsBegun, front, pairs_up_to, started}
+use Rattle.g1_race.specs.Prelude.{RaceShape, Start, IsBegun, front, pairs_up_to, started}
 use Rattle.g1_layout.specs.Shape as layout
 use Rattle.g1_core.specs.declared.config.Settings.{Settings}
 use Rattle.g1_race.specs.Race.{shape_of}
@@ -36,12 +36,12 @@ core_of left settings =
     adopted_machine left.layout settings (refs_of left) (marks_of left) left.pairs
 
 -- what a race's words say
-abbrev pub ended : layout.Shape → Shape → List ℕ → Ended
+abbrev pub ended : layout.Shape → RaceShape → List ℕ → Ended
 ended layout heap words =
     record { layout = layout; words = front heap words; pairs = pairs_up_to heap words heap.cards }
 
 -- what the words of a closed race keep
-pub record IsEnded (heap : Shape) (layout : layout.Shape) (words : List ℕ) : Type 0 where
+pub record IsEnded (heap : RaceShape) (layout : layout.Shape) (words : List ℕ) : Type 0 where
   pub laid : heap ≡ shape_of layout heap.members
   pub begun : IsBegun (started heap words)
 
@@ -49,7 +49,7 @@ pub record IsEnded (heap : Shape) (layout : layout.Shape) (words : List ℕ) : T
 -- whose they are, the racers' logs, and how many sweepers there are
 pub record Pause : Type 0 where
   pub layout : layout.Shape
-  pub shape : Shape
+  pub shape : RaceShape
   pub words : List ℕ
   pub address : Ptr
   pub table_id : TableId

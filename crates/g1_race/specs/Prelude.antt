@@ -103,7 +103,6 @@ pub use Rattle.g1_race_words.proofs.StepKinds.{runs_are_of_five, steps_are_of_fi
 pub use Rattle.g1_race_words.proofs.Tallies.{tally_append, tally_in, tally_once, times_append}
 pub use Rattle.g1_race_words.proofs.Unchanged.{bounded_same, bounded_wrote, same_slots_at_mark}
 pub use Rattle.g1_race_words.specs.Begin.{Begun, Start}
-pub use Rattle.g1_race_words.specs.Readers.{IsLent, IsReader, IsReading}
 pub use Rattle.g1_race_words.specs.Rule.{AnswersFor, as_number, AtRest, BeganInto, BeganMarked}
 pub use Rattle.g1_race_words.specs.Rule.{beginning, bit_place, bit_word, Bounded, claims_at}
 pub use Rattle.g1_race_words.specs.Rule.{claims_of, cleanings_at, cleanings_of, crosses, flag}
@@ -115,9 +114,9 @@ pub use Rattle.g1_race_words.specs.Rule.{overwritten_sum, pairs_found, pairs_of_
 pub use Rattle.g1_race_words.specs.Rule.{Raced, region_at, slot_card, Someone, start_of, started}
 pub use Rattle.g1_race_words.specs.Rule.{stored_sum, StoredInto, StoreHistory, sum_at, tally, times}
 pub use Rattle.g1_race_words.specs.Rule.{total, word_count}
-pub use Rattle.g1_race_words.specs.Seats.{HoldsBit, IsFound, IsPaused, OwesFlag, Sits}
+pub use Rattle.g1_race_words.specs.Seats.{HoldsBit, IsAtPause, IsFound, IsPaused, OwesFlag, Sits}
 pub use Rattle.g1_race_words.specs.Steps.{after_split, blank, both, frozen_seat, gains_store}
 pub use Rattle.g1_race_words.specs.Steps.{new_racer, owed_card, pair_at, raised, recorded}
 pub use Rattle.g1_race_words.specs.Steps.{set_flags, sought, spotted, unset, whole_seat}
-pub use Rattle.g1_race_words.specs.declared.view.Shape.{Shape}
+pub use Rattle.g1_race_words.specs.declared.view.RaceShape.{RaceShape}
 pub use Rattle.g1_race_words.specs.declared.view.View.{View}

@@ -1,12 +1,12 @@
 -- What the rule of a race says of the words alone.
 use Rattle.std.specs.Prelude.{◌≡◌, ◌⊎◌, ◌<◌, ◌≤◌}
-use Rattle.g1_race.specs.Prelude.{ℕ, List, true, Some, some, get_elem?, Shape, View, Begun, In}
+use Rattle.g1_race.specs.Prelude.{ℕ, List, true, Some, some, get_elem?, RaceShape, View, Begun, In}
 use Rattle.g1_race.specs.Prelude.{Held, held_of, slot_card, region_at, crosses, IsMarked, IsPair}
 use Rattle.g1_race.specs.Prelude.{HasBit, StoredInto, BeganInto, Raced}
 
 -- the seat owes the card of the slot, still has the slot to read, or holds the pair of the slot and
 -- its word
-abbrev pub Minds : Shape → View → ℕ → ℕ → Type 0
+abbrev pub Minds : RaceShape → View → ℕ → ℕ → Type 0
 Minds heap view slot word =
     (view.owed ≡ Some (slot_card heap slot)) ⊎ ((view.next ≤ slot) × (slot < view.end))
     ⊎ In view.held (slot_card heap slot, region_at heap word)

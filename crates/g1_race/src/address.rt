@@ -3,7 +3,7 @@ ghost use Rattle.std.specs.Prelude.{◌≡◌};
 ghost use Rattle.g1_race.specs.{race_words};
 
 use crate::paused::Paused;
-use crate::paused::holds::Holds;
+use crate::paused::holds::HoldsRace;
 use crate::race::Race;
 
 impl Race {
@@ -22,7 +22,7 @@ impl Race {
     }
 }
 
-impl<R: Holds> Paused<R> {
+impl<R: HoldsRace> Paused<R> {
     /// As [`Race::words`]: the address is the same before, at and after each pause.
     pub fn words(&self) -> *const u64
         ensures { result ≡ self.now.address }

@@ -1,14 +1,12 @@
 //! Words that are no references: a slot may hold data, which refers to nothing.
 ghost use Rattle.std.specs.Prelude.{◌≡◌, ◌<◌, ◌≤◌, ◌^◌};
-ghost use Rattle.g1_race.specs.{ℕ, false, None, some, get_elem?, Null, slot_count, IsStep, stored};
-ghost use Rattle.g1_race.specs.{store_entry, IsWord, IsFound, IsSameRace, SlotsBecome, one_word};
-ghost use Rattle.g1_race.specs.{plain_reply, race_id, race_layout, race_shape, racer_log};
-ghost use Rattle.g1_race.specs.{racer_race, racer_start, racer_view, table_at, reader_race};
+ghost use Rattle.g1_race.specs.{false, some, get_elem?, slot_count, IsWord, IsFound, race_id};
+ghost use Rattle.g1_race.specs.{race_layout, race_shape, racer_log, racer_race, racer_start};
+ghost use Rattle.g1_race.specs.{racer_view, reader_race, StoresDataAt};
 ghost use Rattle.g1_race.specs.Race as racing;
 
 use crate::paused::Paused;
-use crate::paused::access::{put, see};
-use crate::paused::holds::Holds;
+use crate::paused::holds::HoldsRace;
 use crate::paused::reading::Reader;
 use crate::race::{Race, Racer};
 use g1_layout::Slot;
@@ -38,21 +36,16 @@ impl Racer {
     }
 }
 
-impl<R: Holds> Paused<R> {
+impl<R: HoldsRace> Paused<R> {
     /// Stores data into a slot: a word from 2^32 on, which refers to nothing. To the table it is a
     /// store of null. Takes no memory.
     pub fn store_data(&mut self, slot: Slot, word: u64)
         requires slot { slot < slot_count self.old.layout }
         requires high { 2 ^ 32 ≤ word }
-        ensures race { IsSameRace self.old self.new }
-        ensures words { SlotsBecome (one_word slot word) self.old self.new }
-        ensures table { table_at self.new ≡ stored (table_at self.old) slot None }
-        ensures step { (caller : ℕ) →
-            IsStep (table_at self.old) (store_entry caller slot None (plain_reply Null))
-            (table_at self.new) }
+        ensures { StoresDataAt self.old slot word self.new }
     {
         let race = self.race.race();
-        put(race, &mut self.seat, slot.number() as usize, word);
+        self.reader.put(race, slot.number() as usize, word);
     }
 
     /// Returns a slot's word: 0 for null, the number of the slot that it refers to plus 1, or data
@@ -63,7 +56,7 @@ impl<R: Holds> Paused<R> {
         ensures fits { IsWord self.old.shape result }
         ensures same { self.new ≡ self.old }
     {
-        see(self.race.race(), &mut self.seat, slot.number() as usize)
+        self.reader.word(self.race.race(), slot)
     }
 }
 
@@ -77,6 +70,6 @@ impl Reader {
         ensures fits { IsWord self.old.start.shape result }
         ensures same { self.new ≡ self.old }
     {
-        see(race, &mut self.seat, slot.number() as usize)
+        self.see(race, slot.number() as usize)
     }
 }

@@ -16,7 +16,7 @@ ghost use Rattle.g1_race.specs.Over.{refs_of, marks_of, table_of};
 use crate::ended::pairs::has_bit;
 use crate::word::refers_to;
 use g1_layout::{Card, Layout, Region, Slot};
-use g1_race_words::Shape;
+use g1_race_words::RaceShape;
 use std::alloc::Global;
 use std::marker::Model;
 
@@ -28,7 +28,7 @@ use std::marker::Model;
 pub struct Closed {
     pub(crate) words: atomic_table::Closed<(), Global>,
     pub(crate) layout: Layout,
-    pub(crate) shape: Shape,
+    pub(crate) shape: RaceShape,
 }
 
 impl Model for Closed {

@@ -50,9 +50,9 @@ mod race;
 mod word;
 
 pub use ended::Closed;
-pub use g1_race_words::{Shape, View};
+pub use g1_race_words::{RaceShape, View};
 pub use paused::Paused;
-pub use paused::holds::Holds;
+pub use paused::holds::HoldsRace;
 pub use paused::reading::{Reader, Reading};
 pub use race::refinement::Swept;
 pub use race::{Race, Racer, Sweeper};

@@ -31,9 +31,9 @@ mod wipe;
 
 ghost use Rattle.std.specs.Prelude.{◌≡◌, ◌+◌, ◌<◌};
 
-use crate::paused::holds::Holds;
+use crate::paused::holds::HoldsRace;
+use crate::paused::reading::Reader;
 use crate::race::{Race, Racer, Sweeper};
-use g1_race_words::RaceSeat;
 use std::marker::Model;
 
 /// A race at a pause: no thread takes part in it.
@@ -42,28 +42,29 @@ use std::marker::Model;
 /// whose they are, with the racers' logs and the number of sweepers. Each slot that refers into
 /// another region has its card dirty or its pair recorded.
 ///
-/// It holds the race by value, or by a share of it ([`Holds`]).
+/// It holds the race by value, or by a share of it ([`HoldsRace`]).
 #[derive(Drop)]
-pub struct Paused<R: Holds = Race> {
+pub struct Paused<R: HoldsRace = Race> {
     pub(crate) race: R,
-    pub(crate) seat: RaceSeat,
-    // Their seats are spent: this one has taken them in.
+    pub(crate) reader: Reader,
+    // Their seats are spent: the reader has taken them in.
     pub(crate) racers: Vec<Racer>,
     pub(crate) sweepers: Vec<Sweeper>,
 }
 
-impl<R: Holds> Model for Paused<R> {
+impl<R: HoldsRace> Model for Paused<R> {
     ghost use Rattle.std.specs.Prelude.{◌≡◌, ◌+◌};
-    ghost use Rattle.g1_race.specs.Prelude.{map, vec_len, IsPaused};
+    ghost use Rattle.g1_race.specs.Prelude.{map, vec_len};
     ghost use Rattle.g1_race.specs.Members.{at_pause_of, racer_log};
     ghost use Rattle.g1_race.specs.Over.{Pause};
+    ghost use Rattle.g1_race.specs.Reading.{IsPauseReader};
 
     ghost Value = { Pause };
 
-    ghost view = { λ a. at_pause_of (R.held a.race) a.seat.me.0.began_words
+    ghost view = { λ a. at_pause_of (R.held a.race) a.reader.start.words
         (map racer_log a.racers.items) (vec_len a.sweepers) };
 
     ghost invariant = { λ a. let race = R.held a.race in
-        IsPaused race.table.table_id race.shape a.seat
+        IsPauseReader race a.reader
         × (vec_len a.racers + vec_len a.sweepers ≡ race.shape.members) };
 }

@@ -18,7 +18,7 @@ ghost use Rattle.g1_race.specs.Race.{shape_of, IsRacing, IsSweeping};
 
 use arrayvec::ArrayVec;
 use g1_layout::{Card, Layout};
-use g1_race_words::{RaceSeat, RaceTable, Shape};
+use g1_race_words::{RaceSeat, RaceShape, RaceTable};
 
 /// A race over the slots and cards of one heap. Racers and sweepers in any number of threads share
 /// it by `&`.
@@ -30,7 +30,7 @@ pub struct Race {
     pub(crate) table: RaceTable,
     pub(crate) layout: Layout,
     // The layout in plain numbers, with the number of racers and sweepers.
-    pub(crate) shape: Shape,
+    pub(crate) shape: RaceShape,
     ghost laid: { shape ≡ shape_of layout shape.members },
     ghost key_is: { table.shape ≡ shape },
     ghost shaped: { IsWholeShape shape },

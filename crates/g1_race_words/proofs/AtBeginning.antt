@@ -1,12 +1,13 @@
 -- What a race begins with keeps its rule.
 use Rattle.std.specs.Prelude.{◌≡◌, ◌+◌, ◌<◌, ◌≤◌, ◌∷◌}
-use Rattle.g1_race_words.specs.{ℕ, zero, suc, Bool, true, List, [], get_or, take, refl, sym, ap, ◌∙◌, subst, inl, inr, ⊎_elim, arith, replicate, length-replicate, bit_at, bit_at-zero, some, some-ne-none, some-injective, get_elem?, Shape, View, MadeDirty, IsBegun, IsWholeShape, HasBit, bit_word, bit_place, slot_card, mark_word, region_at, In, Held, claims_of, pairs_found, IsMarked, IsBlank, Raced, Going, front, pairs_up_to, null_of, started, beginning, start_of, Numbered, weigh, times, claims_at, cleanings_at, sum_at, stored_sum, overwritten_sum, histories_of, held_of, flagged_of, word_count, frozen_seat}
+use Rattle.g1_race_words.specs.{ℕ, zero, suc, Bool, true, List, [], get_or, take, refl, sym, ap, ◌∙◌, subst, inl, inr, ⊎_elim, arith, replicate, length-replicate, bit_at, bit_at-zero, some, some-ne-none, some-injective, get_elem?, RaceShape, View, MadeDirty, IsBegun, IsWholeShape, HasBit, bit_word, bit_place, slot_card, mark_word, region_at, In, Held, claims_of, pairs_found, IsMarked, IsBlank, Raced, Going, front, pairs_up_to, null_of, started, beginning, start_of, Numbered, weigh, times, claims_at, cleanings_at, sum_at, stored_sum, overwritten_sum, histories_of, held_of, flagged_of, word_count, frozen_seat}
 use Rattle.g1_race_words.proofs.PairBits.{crossing_pair}
 use Rattle.g1_race_words.proofs.Places.{at_read, at_take, at_untake, reads_as}
 use Rattle.g1_race_words.proofs.Listing.{in_set, set_in}
 use Rattle.g1_race_words.proofs.Reading.{null_stays}
 use Rattle.g1_race_words.proofs.Plain.{total_none}
 use Rattle.g1_race_words.proofs.Balance.{sum_in}
+use Rattle.g1_race_words.proofs.Tallies.{none_below}
 
 abbrev pub zeros : ℕ → List ℕ
 zeros n = replicate n 0
@@ -34,7 +35,7 @@ pub same_word : (words : List ℕ) (count i m n : ℕ) → get_elem? (take count
 same_word words count i m n was is = some-injective m n (sym (at_untake words count i m was).1 ∙ is)
 
 -- a race begins with any words that one can start with, where no seat answers for anything
-pub raced_fresh : (k : Shape) (words : List ℕ) (views : List View) → IsBegun (started k words) → ((seat : ℕ) (u : View) → get_elem? views seat ≡ some u → IsBlank u) → weigh views ≡ k.members → Numbered k views → Raced (beginning (started k words)) words views
+pub raced_fresh : (k : RaceShape) (words : List ℕ) (views : List View) → IsBegun (started k words) → ((seat : ℕ) (u : View) → get_elem? views seat ≡ some u → IsBlank u) → weigh views ≡ k.members → Numbered k views → Raced (beginning (started k words)) words views
 raced_fresh k words views h blank all numbered = record {
   sized = h.sized;
   bounded = h.bounded;
@@ -72,16 +73,16 @@ raced_fresh k words views h blank all numbered = record {
     none_held {A} f none x b = subst (λ (l : List A). In l x) (none b.1 (blank b.0 b.1 b.2)) b.3
 
 -- and its rule holds, where the seats agree on the beginning
-pub going_fresh : (k : Shape) (words : List ℕ) (views : List View) (frozen : Bool) → IsBegun (started k words) → Raced (beginning (started k words)) words views
+pub going_fresh : (k : RaceShape) (words : List ℕ) (views : List View) (frozen : Bool) → IsBegun (started k words) → Raced (beginning (started k words)) words views
     → ((seat : ℕ) (v : View) → get_elem? views seat ≡ some v → 0 < v.weight → (start_of v ≡ started k words) × (v.frozen ≡ frozen)) → ((seat : ℕ) (v : View) → get_elem? views seat ≡ some v → v.spare ≤ v.weight) → Going k words views
 going_fresh k words views frozen begun raced agreed spared = record { first = words; frozen = frozen; raced = raced; proper = λ x i. let s = in_set k words x i in begun.proper x s.0 s.1; agreed = agreed; spared = spared; still = λ e. refl }
 
 -- words that begin with all null and all clean, and no bit set
 
-pub no_bit : (k : Shape) (words : List ℕ) (x : ℕ × ℕ) → get_or words (bit_word k x) 0 ≡ 0 → HasBit k words x → ⊥
+pub no_bit : (k : RaceShape) (words : List ℕ) (x : ℕ × ℕ) → get_or words (bit_word k x) 0 ≡ 0 → HasBit k words x → ⊥
 no_bit k words x e b = absurd (let z : bit_at (get_or words (bit_word k x) 0) (bit_place k x) ≡ 0 = ap (λ (n : ℕ). bit_at n (bit_place k x)) e ∙ bit_at-zero (bit_place k x) in omega (arith, z, b))
 
-pub null_begun : (k : Shape) → IsWholeShape k → IsBegun (null_of k)
+pub null_begun : (k : RaceShape) → IsWholeShape k → IsBegun (null_of k)
 null_begun k shaped = let all = word_count k in record {
   shaped = shaped;
   sized = length-replicate all 0;
@@ -93,8 +94,8 @@ null_begun k shaped = let all = word_count k in record {
 }
 
 -- a heap begins at a pause
-pub going_first : (k : Shape) → IsWholeShape k → Going k (zeros (word_count k)) (frozen_seat (null_of k) k.members ∷ [])
+pub going_first : (k : RaceShape) → IsWholeShape k → Going k (zeros (word_count k)) (frozen_seat (null_of k) k.members ∷ [])
 going_first k shaped = let all = word_count k in let start = frozen_seat (null_of k) k.members in going_fresh k (zeros all) (start ∷ []) true (null_begun k shaped)
-    (raced_fresh k (zeros all) (start ∷ []) (null_begun k shaped) (λ seat u at. subst IsBlank (only start u seat at) ((refl, refl, refl, refl), refl, refl, refl, refl, refl)) (omega arith) (λ m. omega arith))
+    (raced_fresh k (zeros all) (start ∷ []) (null_begun k shaped) (λ seat u at. subst IsBlank (only start u seat at) ((refl, refl, refl, refl), refl, refl, refl, refl, refl)) (omega arith) (λ m. let e = none_below m in omega arith))
     (λ seat v at heavy. subst (λ (u : View). (start_of u ≡ null_of k) × (u.frozen ≡ true)) (only start v seat at) (refl, refl))
     (λ seat v at. subst (λ (u : View). u.spare ≤ u.weight) (only start v seat at) (omega arith))

@@ -1,6 +1,6 @@
 -- What was stored and what was overwritten: each step keeps their balance.
 use Rattle.std.specs.Prelude.{◌≡◌, ◌≢◌, ◌+◌, ◌<◌, ◌∷◌, ◌++◌}
-use Rattle.g1_race_words.specs.{ℕ, cond, eqb, eq-eqb, ne_eqb, List, [], length, set, get_or, Bool, refl, sym, ap, ◌∙◌, subst, inl, inr, arith, sum_by, some, some-injective, ℕ_discrete, get_elem?, set_here, set_else, Shape, View, Begun, Covered, Recorded, Kept, Claimed, Counted, Flagged, Raced, In, StoreHistory, sum_at, stored_sum, overwritten_sum, total, Balanced, gains_store, wrote}
+use Rattle.g1_race_words.specs.{ℕ, cond, eqb, eq-eqb, ne_eqb, List, [], length, set, get_or, Bool, refl, sym, ap, ◌∙◌, subst, inl, inr, arith, sum_by, some, some-injective, ℕ_discrete, get_elem?, set_here, set_else, RaceShape, View, Begun, Covered, Recorded, PairsKept, Claimed, MarksCounted, Flagged, Raced, In, StoreHistory, sum_at, stored_sum, overwritten_sum, total, Balanced, gains_store, wrote}
 use Rattle.std.proofs.lemmas.List.Sums.{sum_by-cons, sum_by-append}
 use Rattle.g1_race_words.proofs.Plain.{total_same, read_at, total_set}
 use Rattle.g1_race_words.proofs.Unchanged.{SameSlots, weighed_step, numbers_stay, bounded_same, stores_stay}
@@ -41,7 +41,7 @@ module _ (f : ℕ → ℕ) (q : ℕ) where
   gives_none p n e = ap (λ (b : Bool). cond b (f n) 0) (ne_eqb p q e)
 
 -- a racer's store
-pub balanced_wrote : (k : Shape) (began words : List ℕ) (views : List View) (id : ℕ) (v : View) (p n : ℕ) (mine : StoreHistory) → p < length words → get_elem? views id ≡ some v → v.histories ≡ mine ∷ []
+pub balanced_wrote : (k : RaceShape) (began words : List ℕ) (views : List View) (id : ℕ) (v : View) (p n : ℕ) (mine : StoreHistory) → p < length words → get_elem? views id ≡ some v → v.histories ≡ mine ∷ []
     → Balanced k began words views → Balanced k began (set words p n) (set views id (wrote v p n (get_or words p 0)))
 balanced_wrote k began words views id v p n mine short at one h f q first now lt was is = pick (ℕ_discrete p q)
   where
@@ -75,19 +75,19 @@ balanced_wrote k began words views id v p n mine short at one h f q first now lt
         let d = gives_none f q p m ne in omega (arith, a, b, stored, over, t, c, d)
 
 -- the seats' stores and overwrites add up to what they did
-pub balance_same : (k : Shape) (began words new : List ℕ) (views after : List View) → SameSlots k words new → ((f : ℕ → ℕ) (q : ℕ) → total (stored_sum f q) after ≡ total (stored_sum f q) views)
+pub balance_same : (k : RaceShape) (began words new : List ℕ) (views after : List View) → SameSlots k words new → ((f : ℕ → ℕ) (q : ℕ) → total (stored_sum f q) after ≡ total (stored_sum f q) views)
     → ((f : ℕ → ℕ) (q : ℕ) → total (overwritten_sum f q) after ≡ total (overwritten_sum f q) views) → Balanced k began words views → Balanced k began new after
 balance_same k began words new views after slots stores over h f q first now lt was is =
     let t = h f q first now lt was (slots q now lt is) in omega (arith, stores f q, over f q, t)
 
 -- a step that stores nothing
-balance_stays : (k : Shape) (began words new : List ℕ) (views : List View) (id : ℕ) (v w : View) → get_elem? views id ≡ some v → v.histories ≡ w.histories → v.overwritten ≡ w.overwritten
+balance_stays : (k : RaceShape) (began words new : List ℕ) (views : List View) (id : ℕ) (v w : View) → get_elem? views id ≡ some v → v.histories ≡ w.histories → v.overwritten ≡ w.overwritten
     → SameSlots k words new → Balanced k began words views → Balanced k began new (set views id w)
 balance_stays k began words new views id v w at same over slots = balance_same k began words new views (set views id w) slots (λ f q. total_same (stored_sum f q) views id v w at (ap (sum_in f q) same)) (λ f q. total_same (overwritten_sum f q) views id v w at (ap (sum_at f q) over))
 
 -- the race after a step of a member that stores nothing: what the step may change is given
 pub raced_step : (begun : Begun) (words new : List ℕ) (views : List View) (id : ℕ) (v w : View) → get_elem? views id ≡ some v → v.weight ≡ 1 → (w.weight ≡ v.weight) × (v.spare ≡ w.spare) × (v.histories ≡ w.histories) × (v.overwritten ≡ w.overwritten) → length new ≡ length words → SameSlots begun.shape words new
-    → Covered begun.shape begun.pairs new (set views id w) → Recorded begun.shape begun.words (set views id w) → Kept begun.shape begun.pairs new (set views id w) → Claimed begun.shape begun.words new (set views id w) → Counted begun.shape begun.words new (set views id w) → Flagged begun.shape new (set views id w)
+    → Covered begun.shape begun.pairs new (set views id w) → Recorded begun.shape begun.words (set views id w) → PairsKept begun.shape begun.pairs new (set views id w) → Claimed begun.shape begun.words new (set views id w) → MarksCounted begun.shape begun.words new (set views id w) → Flagged begun.shape new (set views id w)
     → Raced begun words views → Raced begun new (set views id w)
 raced_step begun words new views id v w at one (weight, spare, stores, over) len slots covered recorded kept claimed counted flagged h = record {
   sized = len ∙ h.sized;

@@ -1,6 +1,6 @@
 -- What the calls of a step ask, of the table and the seat inside.
-use Rattle.std.specs.Prelude.{◌≡◌, ◌-◌, ◌*◌, ◌%◌, ◌^◌, ◌<◌, ◌==◌, ◌∷◌}
-use Rattle.g1_race_words.specs.{ℕ, bit_or, cond, List, [], set, get_or, Bool, true, false, None, refl, sym, ap, ◌∙◌, subst, arith, some, get_elem?, either, Me, keeps, Allows, Splits, Joins, TableId, Seat, set_again, set-get_or, Shape, View, Start, AtRest, Going, StoreHistory, IsBegun, IsBlank, IsWholeShape, IsWord, Raced, beginning, mark_word, bit_word, bit_place, flag, started, word_count, blank, both, whole_seat, cleaned, dirtied, exchanged, frozen_seat, after_split, looked, new_racer, new_sweeper, new_reader, no_seat, owed_card, put, raised, read, recorded, sought, spotted, thawed, wrote, Freezes, HoldsBit, IsWholeSeat, IsFound, IsMark, IsPaused, IsLent, IsReading, OwesFlag, OwesMark, Sits}
+use Rattle.std.specs.Prelude.{◌≡◌, ◌-◌, ◌*◌, ◌%◌, ◌^◌, ◌<◌, ◌≤◌, ◌==◌, ◌∷◌}
+use Rattle.g1_race_words.specs.{ℕ, bit_or, cond, List, [], set, get_or, Bool, true, false, None, refl, sym, ap, ◌∙◌, subst, arith, some, get_elem?, either, Me, keeps, Allows, Splits, Joins, TableId, Seat, set_again, set-get_or, RaceShape, View, Start, AtRest, Going, StoreHistory, IsBegun, IsBlank, IsWholeShape, IsWord, Raced, beginning, mark_word, bit_word, bit_place, flag, started, word_count, blank, both, whole_seat, cleaned, dirtied, exchanged, frozen_seat, after_split, looked, new_racer, new_sweeper, new_reader, no_seat, owed_card, put, raised, read, recorded, sought, spotted, thawed, wrote, Freezes, HoldsBit, IsWholeSeat, IsFound, IsMark, IsAtPause, IsPaused, OwesFlag, OwesMark, Sits}
 use Rattle.g1_race_words.proofs.PairBits.{word_below}
 use Rattle.g1_race_words.proofs.Flags.{flag_below}
 use Rattle.g1_race_words.proofs.Plain.{read_at}
@@ -15,7 +15,7 @@ use Rattle.g1_race_words.proofs.Going.{Stays, begun, known, going_step, going_jo
 use Rattle.g1_race_words.proofs.GoingAnew.{going_anew, begun_here, known_words, raced_mine, shape_mine}
 use Rattle.g1_race_words.proofs.Blanks.{Rule, card_back, fresh, splits}
 
-module _ (z : TableId) (k : Shape) (fits : z.words ≡ word_count k) (shaped : IsWholeShape k) (s : Seat (Unit {0}) View) (table : s.table_id ≡ z) where
+module _ (z : TableId) (k : RaceShape) (fits : z.words ≡ word_count k) (shaped : IsWholeShape k) (s : Seat (Unit {0}) View) (table : s.table_id ≡ z) where
   abbrev v : View
   v = s.me.0
 
@@ -98,7 +98,7 @@ module _ (z : TableId) (k : Shape) (fits : z.words ≡ word_count k) (shaped : I
   pub read_owed : (p : ℕ) → Sits k v → v.held ≡ [] → v.next ≡ p → p < k.slots
       → Owed p (λ n. n) (λ n after. Is (read v p) n after × IsWord v.shape n)
   read_owed p sits free next lt = loads p (read v p) (λ n after. Is (read v p) n after × IsWord v.shape n) (omega (arith, fits, lt)) sits (λ n. (refl, refl, refl, refl))
-      (λ words views h at. (raced_read (begun k words views h) words views s.id v p sits free next lt at h.raced, (refl, subst (λ (x : Shape). IsWord x (get_or words p 0)) (sym sits.shape) (h.raced.bounded p _ lt (read_at words p (omega (arith, h.raced.sized)))))))
+      (λ words views h at. (raced_read (begun k words views h) words views s.id v p sits free next lt at h.raced, (refl, subst (λ (x : RaceShape). IsWord x (get_or words p 0)) (sym sits.shape) (h.raced.bounded p _ lt (read_at words p (omega (arith, h.raced.sized)))))))
 
   pub seek_owed : (word : ℕ) → Sits k v → (x : ℕ × ℕ) → HoldsBit k v x word → Owed word (λ n. n) (Is (sought v))
   seek_owed word sits x (held, pair, is) = rw is (loads (bit_word k x) (sought v) (Is (sought v)) (omega (arith, fits, word_below k x shaped pair)) sits (λ n. (refl, refl, refl, refl))
@@ -123,8 +123,12 @@ module _ (z : TableId) (k : Shape) (fits : z.words ≡ word_count k) (shaped : I
   pub split_sweeper_owed : IsWholeSeat v → Cut new_sweeper
   split_sweeper_owed (begin, w, is, heavy) = (table, some_word, rw is (splits k s.id (whole_seat begin w) false [] ((refl, refl, refl, refl), refl, refl, refl, refl, refl) heavy refl (λ g i. absurd i) (number_dropped (whole_seat begin w))))
 
-  pub split_reader_owed : IsLent z k s → 0 < v.weight → Cut new_reader
-  split_reader_owed lent heavy = (table, some_word, splits k s.id v true [] lent.blank heavy lent.frozen (λ g i. absurd i) (number_dropped v))
+  -- what the seat of a pause is
+  frozen_blank : IsAtPause z k s → (v.frozen ≡ true) × IsBlank v × (v.spare ≡ 0)
+  frozen_blank here = subst (λ (m : Me (Unit {0}) View). (m.0.frozen ≡ true) × IsBlank m.0 × (m.0.spare ≡ 0)) (sym here.view) (refl, ((refl, refl, refl, refl), refl, refl, refl, refl, refl), refl)
+
+  pub split_reader_owed : IsAtPause z k s → 0 < v.weight → Cut new_reader
+  split_reader_owed here heavy = let is = frozen_blank here in (table, some_word, splits k s.id v true [] is.1 heavy is.0 (λ g i. absurd i) (number_dropped v))
 
   pub join_owed : (other : ℕ) (u : View) → u.weight ≡ 1 → AtRest u → (0 < z.words) × Joins (Rule k) s.id v other u (both v u) no_seat
   join_owed other u one rest = (
@@ -135,12 +139,12 @@ module _ (z : TableId) (k : Shape) (fits : z.words ≡ word_count k) (shaped : I
 
   -- a pause
 
-  pub see_owed : (p : ℕ) → IsReading z k s → p < word_count k → Owed p (λ n. n) (λ n after. (after ≡ s.me) × (get_elem? v.began_words p ≡ some n))
-  see_owed p reads lt = (
+  pub see_owed : (p : ℕ) → IsAtPause z k s → 0 < v.weight → p < word_count k → Owed p (λ n. n) (λ n after. (after ≡ s.me) × (get_elem? v.began_words p ≡ some n))
+  see_owed p here heavy lt = (
     table,
     omega (arith, fits, lt),
     λ t h len at bound.
-        (v, keeps, tt, rw (set-get_or t.words p 0, set_again t.views s.id v at) h, (refl, ap (λ (l : List ℕ). get_elem? l p) (sym (known k t.words t.views h s.id v at reads.weight reads.frozen)) ∙ read_at t.words p (omega (arith, h.raced.sized, lt)))),
+        (v, keeps, tt, rw (set-get_or t.words p 0, set_again t.views s.id v at) h, (refl, ap (λ (l : List ℕ). get_elem? l p) (sym (known k t.words t.views h s.id v at heavy (frozen_blank here).0)) ∙ read_at t.words p (omega (arith, h.raced.sized, lt)))),
   )
 
   module _ (pos : 0 < k.members) where
@@ -156,13 +160,13 @@ module _ (z : TableId) (k : Shape) (fits : z.words ≡ word_count k) (shaped : I
             w,
             keeps,
             tt,
-            rw (set-get_or t.words 0 0) (going_anew k t.words t.views s.id v all pos h at t.words w here ((refl, refl, refl, refl), refl, refl, refl, refl, refl) all all (ap (λ (x : Shape). started x t.words) shape)),
+            rw (set-get_or t.words 0 0) (going_anew k t.words t.views s.id v all pos h at t.words w here ((refl, refl, refl, refl), refl, refl, refl, refl, refl) all (omega arith) (ap (λ (x : RaceShape). started x t.words) shape)),
             record {
               words = t.words;
               views = t.views;
               id = s.id;
               view = refl;
-              begun = subst (λ (x : Shape). IsBegun (started x t.words)) (sym shape) here;
+              begun = subst (λ (x : RaceShape). IsBegun (started x t.words)) (sym shape) here;
               raced = raced_mine k t.words t.views s.id v all pos h at;
               mine = at;
               still = known_words k t.words t.views s.id v all pos h at;
@@ -171,28 +175,23 @@ module _ (z : TableId) (k : Shape) (fits : z.words ≡ word_count k) (shaped : I
     )
 
     module _ (paused : IsPaused z k s) where
-      view : v ≡ frozen_seat (started k v.began_words) k.members
-      view = ap (λ (m : Me (Unit {0}) View). m.0) paused.view
-
       -- the race begins anew, with these words
-      anew : (p : ℕ) (f : ℕ → ℕ) (new : List ℕ) (frozen : Bool) → p < z.words → IsBegun (started k new) → set v.began_words p (f (get_or v.began_words p 0)) ≡ new → Owed p f (Is (λ _. record v { began_words = new; frozen = frozen }))
-      anew p f new frozen lt begun is = (
+      anew : (p : ℕ) (f : ℕ → ℕ) (w : View) → p < z.words → IsBegun (started k w.began_words) → set v.began_words p (f (get_or v.began_words p 0)) ≡ w.began_words → IsBlank w → w.weight ≡ v.weight → w.spare ≤ k.members → w.shape ≡ v.shape → Owed p f (Is (λ _. w))
+      anew p f w lt begun is still weight spare shape = (
         table,
         lt,
         λ t h len at bound.
-            let all = ap (λ (u : View). u.weight) view in
-            let w = record v { began_words = new; frozen = frozen } in
-            let words = known_words k t.words t.views s.id v all pos h at (ap (λ (u : View). u.frozen) view) in (
+            let words = known_words k t.words t.views s.id v paused.all pos h at (frozen_blank paused.here).0 in (
               w,
               keeps,
               tt,
-              rw (words, is) (going_anew k t.words t.views s.id v all pos h at new w begun (subst IsBlank (sym view) ((refl, refl, refl, refl), refl, refl, refl, refl, refl)) all (ap (λ (u : View). u.spare) view) (ap (λ (u : View). started u.shape new) view)),
+              rw (words, is) (going_anew k t.words t.views s.id v paused.all pos h at w.began_words w begun still (weight ∙ paused.all) spare (ap (λ (x : RaceShape). started x w.began_words) (shape ∙ ap (λ (m : Me (Unit {0}) View). m.0.shape) paused.here.view))),
               refl,
             ),
       )
 
       pub thaw_owed : Owed 0 (λ n. n) (λ n after. after ≡ (thawed v, s.me.1))
-      thaw_owed = anew 0 (λ n. n) v.began_words false some_word paused.begun (set-get_or v.began_words 0 0)
+      thaw_owed = anew 0 (λ n. n) (thawed v) some_word paused.here.begun (set-get_or v.began_words 0 0) (frozen_blank paused.here).1 refl (omega (arith, paused.all)) refl
 
       pub put_owed : (p n : ℕ) → p < word_count k → IsBegun (started k (set v.began_words p n)) → Owed p (λ _. n) (Is (λ _. put v p n))
-      put_owed p n lt begun = anew p (λ _. n) (set v.began_words p n) v.frozen (omega (arith, fits, lt)) begun refl
+      put_owed p n lt begun = anew p (λ _. n) (put v p n) (omega (arith, fits, lt)) begun refl (frozen_blank paused.here).1 refl (omega (arith, (frozen_blank paused.here).2)) refl

@@ -1,15 +1,15 @@
 -- A racer's steps keep that every reference between regions is answered for.
 use Rattle.std.specs.Prelude.{◌≡◌, ◌≢◌, ◌⊎◌, ◌<◌}
-use Rattle.g1_race_words.specs.{ℕ, cond, eqb, List, length, set, get_or, true, Some, None, refl, sym, ap, ◌∙◌, subst, inl, inr, ⊎_elim, arith, ne_eqb, some, ℕ_discrete, get_elem?, at_set, set_here, set_else, Shape, View, slot_card, mark_word, crosses, AnswersFor, IsMarked, Covered, wrote, looked, dirtied}
+use Rattle.g1_race_words.specs.{ℕ, cond, eqb, List, length, set, get_or, true, Some, None, refl, sym, ap, ◌∙◌, subst, inl, inr, ⊎_elim, arith, ne_eqb, some, ℕ_discrete, get_elem?, at_set, set_here, set_else, RaceShape, View, slot_card, mark_word, crosses, AnswersFor, IsMarked, Covered, wrote, looked, dirtied}
 use Rattle.g1_race_words.proofs.Plain.{read_at, true_is, false_is}
 use Rattle.g1_race_words.proofs.Cover.{Answered, HandsOn, covered_moves, Passes, by_seat, others_pass}
 
 -- a racer writes a slot
 
-pub mark_apart : (k : Shape) (p c : ℕ) → p < k.slots → mark_word k c ≢ p
+pub mark_apart : (k : RaceShape) (p c : ℕ) → p < k.slots → mark_word k c ≢ p
 mark_apart k p c lt e = absurd (omega arith)
 
-pub covered_wrote : (k : Shape) (known : List (ℕ × ℕ)) (words : List ℕ) (views : List View) (id : ℕ) (v : View) (p n o : ℕ) → v.shape ≡ k → v.owed ≡ None → p < k.slots
+pub covered_wrote : (k : RaceShape) (known : List (ℕ × ℕ)) (words : List ℕ) (views : List View) (id : ℕ) (v : View) (p n o : ℕ) → v.shape ≡ k → v.owed ≡ None → p < k.slots
     → get_elem? views id ≡ some v → Covered k known words views → Covered k known (set words p n) (set views id (wrote v p n o))
 covered_wrote k known words views id v p n o shape free lt at h = covered_moves k known words new views (set views id w) h one
   where
@@ -20,7 +20,7 @@ covered_wrote k known words views id v p n o shape free lt at h = covered_moves 
     w = wrote v p n o
 
     owes : (q m : ℕ) → q ≡ p → n ≡ m → crosses k q m ≡ true → w.owed ≡ Some (slot_card k q)
-    owes q m e f cr = subst (λ (s : Shape). cond (crosses s p n) (Some (slot_card s p)) None ≡ Some (slot_card k q)) (sym shape)
+    owes q m e f cr = subst (λ (s : RaceShape). cond (crosses s p n) (Some (slot_card s p)) None ≡ Some (slot_card k q)) (sym shape)
         (true_is (crosses k p n) (Some (slot_card k p)) None (subst (λ (x : ℕ × ℕ). crosses k x.0 x.1 ≡ true) (λ i. (e i, sym f i)) cr) ∙ ap (λ (x : ℕ). Some (slot_card k x)) (sym e))
 
     same : (q : ℕ) → IsMarked k words q → IsMarked k new q
@@ -38,7 +38,7 @@ covered_wrote k known words views id v p n o shape free lt at h = covered_moves 
 
 -- a racer finds n at the mark of the card that it owes
 
-looked_passes : (k : Shape) (words : List ℕ) (v : View) (c n : ℕ) → v.owed ≡ Some c → get_or words (mark_word k c) 0 ≡ n → mark_word k c < length words → (q m : ℕ) → Passes k words v (looked v n) q m
+looked_passes : (k : RaceShape) (words : List ℕ) (v : View) (c n : ℕ) → v.owed ≡ Some c → get_or words (mark_word k c) 0 ≡ n → mark_word k c < length words → (q m : ℕ) → Passes k words v (looked v n) q m
 looked_passes k words v c n owes found short q m (inr a) = inr (inr a)
 looked_passes k words v c n owes found short q m (inl o) = pick (ℕ_discrete n 1)
   where
@@ -49,7 +49,7 @@ looked_passes k words v c n owes found short q m (inl o) = pick (ℕ_discrete n 
     pick (yes e) = inl (subst (λ (x : ℕ). get_elem? words (mark_word k x) ≡ some 1) card (read_at words (mark_word k c) short ∙ ap (λ (x : ℕ). some x) (found ∙ e)))
     pick (no ne) = inr (inl (false_is (eqb n 1) None v.owed (ne_eqb n 1 ne) ∙ o))
 
-pub covered_looked : (k : Shape) (known : List (ℕ × ℕ)) (words : List ℕ) (views : List View) (id : ℕ) (v : View) (c : ℕ) → v.owed ≡ Some c → mark_word k c < length words
+pub covered_looked : (k : RaceShape) (known : List (ℕ × ℕ)) (words : List ℕ) (views : List View) (id : ℕ) (v : View) (c : ℕ) → v.owed ≡ Some c → mark_word k c < length words
     → get_elem? views id ≡ some v → Covered k known words views → Covered k known words (set views id (looked v (get_or words (mark_word k c) 0)))
 covered_looked k known words views id v c owes short at h = covered_moves k known words words views (set views id (looked v n)) h
     (λ q m l e cr. inr (e, (λ mk. inl mk), others_pass k words views id v (looked v n) q m at (looked_passes k words v c n owes refl short q m)))
@@ -58,7 +58,7 @@ covered_looked k known words views id v c owes short at h = covered_moves k know
     n = get_or words (mark_word k c) 0
 
 -- the mark of a card is swapped: its slots are answered for anew
-pub covered_swapped : (k : Shape) (known : List (ℕ × ℕ)) (words : List ℕ) (views : List View) (id : ℕ) (v w : View) (c m : ℕ) → get_elem? views id ≡ some v
+pub covered_swapped : (k : RaceShape) (known : List (ℕ × ℕ)) (words : List ℕ) (views : List View) (id : ℕ) (v w : View) (c m : ℕ) → get_elem? views id ≡ some v
     → ((q n : ℕ) → slot_card k q ≡ c → IsMarked k (set words (mark_word k c) m) q ⊎ AnswersFor k w q n) → ((q n : ℕ) → slot_card k q ≢ c → Passes k (set words (mark_word k c) m) v w q n)
     → Covered k known words views → Covered k known (set words (mark_word k c) m) (set views id w)
 covered_swapped k known words views id v w c m at here pass h = covered_moves k known words new views (set views id w) h (λ q n l e cr. pick q n l e (ℕ_discrete (slot_card k q) c))
@@ -76,7 +76,7 @@ covered_swapped k known words views id v w c m at here pass h = covered_moves k 
 
 -- a racer dirties the card that it owes
 
-pub covered_dirtied : (k : Shape) (known : List (ℕ × ℕ)) (words : List ℕ) (views : List View) (id : ℕ) (v : View) (c n : ℕ) → v.owed ≡ Some c → mark_word k c < length words
+pub covered_dirtied : (k : RaceShape) (known : List (ℕ × ℕ)) (words : List ℕ) (views : List View) (id : ℕ) (v : View) (c n : ℕ) → v.owed ≡ Some c → mark_word k c < length words
     → get_elem? views id ≡ some v → Covered k known words views → Covered k known (set words (mark_word k c) 1) (set views id (dirtied v c n))
 covered_dirtied k known words views id v c n owes short at = covered_swapped k known words views id v (dirtied v c n) c 1 at (λ q m is. inl (rw is (set_here words (mark_word k c) 1 short))) pass
   where

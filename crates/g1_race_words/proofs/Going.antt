@@ -1,6 +1,6 @@
 -- What the steps, the splits and the joins do to the rule beside the race itself: who agrees on the beginning, and what is known at a pause.
 use Rattle.std.specs.Prelude.{◌≡◌, ◌<◌, ◌≤◌, ◌∷◌, ◌++◌}
-use Rattle.g1_race_words.specs.{ℕ, List, [], set, Bool, true, false, sym, ap, ◌∙◌, arith, some, get_elem?, set_else, Shape, View, Start, Begun, IsBlank, Raced, Going, started, beginning, start_of, after_split, both, no_seat}
+use Rattle.g1_race_words.specs.{ℕ, List, [], set, Bool, true, false, sym, ap, ◌∙◌, arith, some, get_elem?, set_else, RaceShape, View, Start, Begun, IsBlank, Raced, Going, started, beginning, start_of, after_split, both, no_seat}
 use Rattle.g1_race_words.proofs.Plain.{weigh_all, each_set, each_snoc}
 
 -- where one seat has all the weight, no other answers for anything
@@ -15,7 +15,7 @@ Agrees begin frozen v = 0 < v.weight → (start_of v ≡ begin) × (v.frozen ≡
 abbrev pub Stays : View → View → Type 0
 Stays v w = (w.weight ≡ v.weight) × (start_of w ≡ start_of v) × (w.frozen ≡ v.frozen) × (w.spare ≡ v.spare)
 
-module _ (k : Shape) (words : List ℕ) (views : List View) (h : Going k words views) where
+module _ (k : RaceShape) (words : List ℕ) (views : List View) (h : Going k words views) where
   abbrev pub begin : Start
   begin = started k h.first
 

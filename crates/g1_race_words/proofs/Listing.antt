@@ -1,6 +1,6 @@
 -- The pairs whose bits are set, as a list.
 use Rattle.std.specs.Prelude.{◌≡◌, ◌<◌, ◌∷◌, ◌++◌}
-use Rattle.g1_race_words.specs.{ℕ, zero, suc, cond, eqb, List, [], Contains, refl, subst, inl, inr, ⊎_elim, arith, eq-eqb, eqb-true, ne_eqb, cases_eq, slice_index, bit_at, Shape, In, IsPair, HasBit, bit_word, bit_place, pairs_of_card, pairs_up_to}
+use Rattle.g1_race_words.specs.{ℕ, zero, suc, cond, eqb, List, [], Contains, refl, subst, inl, inr, ⊎_elim, arith, eq-eqb, eqb-true, ne_eqb, cases_eq, slice_index, bit_at, RaceShape, In, IsPair, HasBit, bit_word, bit_place, pairs_of_card, pairs_up_to}
 use Rattle.g1_race_words.proofs.Plain.{in_cond_back, in_left, in_right, in_either, true_is, false_is}
 use Rattle.g1_race_words.proofs.Places.{in_contains, contains_in}
 
@@ -17,7 +17,7 @@ module _ {A : Type 0} (up part : ℕ → List A) where
   up_on more zero i x lt a = absurd (omega arith)
   up_on more (suc n) i x lt a = rw (more n) (elim (cases_eq i n) [ inl e ↦ in_right (up n) (part n) x (rw e at a) | inr ne ↦ in_left (up n) (part n) x (up_on more n i x (omega arith) a) ])
 
-module _ (k : Shape) (words : List ℕ) where
+module _ (k : RaceShape) (words : List ℕ) where
   abbrev bit : ℕ × ℕ → ℕ
   bit x = bit_at (slice_index words (bit_word k x)) (bit_place k x)
 

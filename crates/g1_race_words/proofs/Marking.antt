@@ -1,6 +1,6 @@
 -- A racer looks at a mark and dirties it, and a sweeper cleans it.
 use Rattle.std.specs.Prelude.{◌≡◌, ◌≢◌, ◌⊎◌, ◌+◌, ◌<◌, ◌∷◌}
-use Rattle.g1_race_words.specs.{ℕ, cond, eqb, List, length, set, get_or, Bool, true, false, Some, refl, sym, ◌∙◌, inl, inr, ⊎_elim, arith, length-set, eq-eqb, some, some-injective, ℕ_discrete, get_elem?, set_here, set_else, Shape, View, Begun, MadeDirty, mark_word, In, Held, claims_of, cleanings_of, claims_at, cleanings_at, as_number, times, total, Claimed, Counted, Raced, looked, owed_card, dirtied, Sits, flag, cleaned, Covered, Flagged}
+use Rattle.g1_race_words.specs.{ℕ, cond, eqb, List, length, set, get_or, Bool, true, false, Some, refl, sym, ◌∙◌, inl, inr, ⊎_elim, arith, length-set, eq-eqb, some, some-injective, ℕ_discrete, get_elem?, set_here, set_else, RaceShape, View, Begun, MadeDirty, mark_word, In, Held, claims_of, cleanings_of, claims_at, cleanings_at, as_number, times, total, Claimed, MarksCounted, Raced, looked, owed_card, dirtied, Sits, flag, cleaned, Covered, Flagged}
 use Rattle.g1_race_words.proofs.Plain.{in_cond, in_cond_back, in_cond_here, put_here, read_at, read_is, total_set, held_on, held_same, some_same}
 use Rattle.g1_race_words.proofs.CoverStores.{covered_looked, covered_dirtied}
 use Rattle.g1_race_words.proofs.PairBits.{same_bits, bit_as}
@@ -37,7 +37,7 @@ times_other d c false l ne = refl
 -- the mark of a card is swapped to m, and only that card may come to a seat's claims and cleanings
 
 module _ (begun : Begun) (words : List ℕ) (views : List View) (id : ℕ) (v w : View) (c m : ℕ) (lt : c < begun.shape.cards) (at : get_elem? views id ≡ some v) (h : Raced begun words views) where
-  abbrev k : Shape
+  abbrev k : RaceShape
   k = begun.shape
 
   abbrev new : List ℕ
@@ -70,7 +70,7 @@ module _ (begun : Begun) (words : List ℕ) (views : List View) (id : ℕ) (v w 
       pick (no ne) = let same = some_same (λ u. In u.claims d) views id v w at (on d) (back d ne) in
           claim_same k begun.words words new views after d (set_else words (mark_word k c) (mark_word k d) m (λ x. ne (omega arith))) same.0 same.1 (held_on cleanings_of views id v w at cleans d) (h.claimed d below)
 
-  counted_swapped : ((d : ℕ) → d ≡ c → now + claims_at d w + cleanings_at d v ≡ m + claims_at d v + cleanings_at d w) → ((d : ℕ) → d ≢ c → (claims_at d w ≡ claims_at d v) × (cleanings_at d w ≡ cleanings_at d v)) → Counted k begun.words new after
+  counted_swapped : ((d : ℕ) → d ≡ c → now + claims_at d w + cleanings_at d v ≡ m + claims_at d v + cleanings_at d w) → ((d : ℕ) → d ≢ c → (claims_at d w ≡ claims_at d v) × (cleanings_at d w ≡ cleanings_at d v)) → MarksCounted k begun.words new after
   counted_swapped here other d first last below was is = let a = total_set (claims_at d) views id v w at in let b = total_set (cleanings_at d) views id v w at in pick a b (ℕ_discrete d c)
     where
       pick : total (claims_at d) after + claims_at d v ≡ total (claims_at d) views + claims_at d w → total (cleanings_at d) after + cleanings_at d v ≡ total (cleanings_at d) views + cleanings_at d w → Dec (d ≡ c) → total (claims_at d) after + first ≡ total (cleanings_at d) after + last
@@ -83,7 +83,7 @@ module _ (begun : Begun) (words : List ℕ) (views : List View) (id : ℕ) (v w 
           let g = other d ne in omega (arith, a, b, t, g.0, g.1)
 
   raced_swapped : v.weight ≡ 1 → (w.weight ≡ v.weight) × (v.spare ≡ w.spare) × (v.histories ≡ w.histories) × (v.overwritten ≡ w.overwritten) → v.pairs ≡ w.pairs → v.held ≡ w.held
-      → Covered k begun.pairs new after → Claimed k begun.words new after → Counted k begun.words new after → Flagged k new after → Raced begun new after
+      → Covered k begun.pairs new after → Claimed k begun.words new after → MarksCounted k begun.words new after → Flagged k new after → Raced begun new after
   raced_swapped one stays pairs held covered claimed counted flagged = raced_step begun words new views id v w at one stays (length-set words (mark_word k c) m) (same_slots_at_mark k words c m) covered
       (pairs_stay k begun.words views id v w at stays.2 pairs h.recorded) (kept_stays k begun.pairs words new views id v w at pairs held (same_bits k words (mark_word k c) m (omega arith)) h.kept) claimed counted flagged h
 
@@ -99,7 +99,7 @@ raced_dirtied begun words views id v c sits owes is lt at h = raced_swapped begu
     (λ d e. let a : claims_at d w ≡ as_number (eqb n 0) + claims_at d v = times_here d c (eqb n 0) v.claims e in let b = gains (mark_is begun words views id v w c 1 lt at h) in omega (arith, a, b)) (λ d ne. (times_other d c (eqb n 0) v.claims ne, refl)))
     (flagged_dirtied k words views id v c n owes is lt at h.flagged)
   where
-    k : Shape
+    k : RaceShape
     k = begun.shape
 
     n : ℕ
@@ -133,7 +133,7 @@ raced_cleaned begun words views id v c sits pos done lt at h = raced_swapped beg
     (flags_stay k words (set words (mark_word k c) 0) views id v w at refl (none_dirtied k words c (omega (arith, h.sized)))
     (λ d. bit_as k words (set words (mark_word k c) 0) (flag k d) (same_bits k words (mark_word k c) 0 (omega (arith, lt)))) h.flagged)
   where
-    k : Shape
+    k : RaceShape
     k = begun.shape
 
     n : ℕ

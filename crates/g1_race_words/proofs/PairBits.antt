@@ -1,28 +1,28 @@
 -- The bits of the pairs among the words.
 use Rattle.std.specs.Prelude.{◌≡◌, ◌≢◌, ◌⊎◌, ◌+◌, ◌-◌, ◌*◌, ◌/◌, ◌%◌, ◌^◌, ◌<◌, ◌≤◌}
-use Rattle.g1_race_words.specs.{ℕ, List, length, set, get_or, bit_or, w64, true, sym, ap, ◌∙◌, subst, inl, inr, arith, div-lt_iff_lt-mul, bit_at, cases_eq, get_or-set_same, get_or-set_other, div-mul-add, mod-mul-add, mul-add-lt, bit_at_set_same, bit_at_set_other, Shape, IsWord, slot_card, region_at, crosses, IsWholeShape, IsPair, HasBit, bit_word, bit_place}
+use Rattle.g1_race_words.specs.{ℕ, List, length, set, get_or, bit_or, w64, true, sym, ap, ◌∙◌, subst, inl, inr, arith, div-lt_iff_lt-mul, bit_at, cases_eq, get_or-set_same, get_or-set_other, div-mul-add, mod-mul-add, mul-add-lt, bit_at_set_same, bit_at_set_other, RaceShape, IsWord, slot_card, region_at, crosses, IsWholeShape, IsPair, HasBit, bit_word, bit_place}
 use Rattle.g1_race_words.proofs.Crossing.{crosses_reference, word_low}
 
-pub card_below : (k : Shape) (p : ℕ) → IsWholeShape k → p < k.slots → slot_card k p < k.cards
+pub card_below : (k : RaceShape) (p : ℕ) → IsWholeShape k → p < k.slots → slot_card k p < k.cards
 card_below k p shaped lt = (div-lt_iff_lt-mul shaped.1).1 (subst (λ (n : ℕ). p < n) shaped.0 lt)
 
 -- the pair of a reference that crosses regions
-pub crossing_pair : (k : Shape) (p n : ℕ) → IsWholeShape k → p < k.slots → IsWord k n → crosses k p n ≡ true → IsPair k (slot_card k p, region_at k n)
+pub crossing_pair : (k : RaceShape) (p n : ℕ) → IsWholeShape k → p < k.slots → IsWord k n → crosses k p n ≡ true → IsPair k (slot_card k p, region_at k n)
 crossing_pair k p n shaped lt word cr = (card_below k p shaped lt, (div-lt_iff_lt-mul shaped.2).1 (let some_n = (crosses_reference k p n cr).0 in let le = word_low k p n word cr in let x : ℕ = k.regions * k.span in let e : k.slots ≡ x = shaped.6 in let goal : n - 1 < x = omega arith in goal))
 
 -- the bits of all pairs have room, and no two pairs have one bit
 
-pub card_in_row : (k : Shape) (c : ℕ) → IsWholeShape k → c < k.cards → c / 64 < k.row
+pub card_in_row : (k : RaceShape) (c : ℕ) → IsWholeShape k → c < k.cards → c / 64 < k.row
 card_in_row k c shaped lt = let e : k.cards ≤ k.row * 64 = shaped.7 in omega arith
 
-pub in_row : (k : Shape) (x : ℕ × ℕ) → IsWholeShape k → IsPair k x → x.0 / 64 < k.row
+pub in_row : (k : RaceShape) (x : ℕ × ℕ) → IsWholeShape k → IsPair k x → x.0 / 64 < k.row
 in_row k x shaped pair = card_in_row k x.0 shaped pair.0
 
-pub word_below : (k : Shape) (x : ℕ × ℕ) → IsWholeShape k → IsPair k x → bit_word k x < k.slots + k.cards + k.bits
+pub word_below : (k : RaceShape) (x : ℕ × ℕ) → IsWholeShape k → IsPair k x → bit_word k x < k.slots + k.cards + k.bits
 word_below k x shaped pair = let n : ℕ = x.0 / 64 in let r : ℕ = x.1 * k.row in let all : ℕ = k.row * k.regions in let same : ℕ = k.regions * k.row in
     let a : r + n < all = mul-add-lt x.1 k.row n k.regions pair.1 (in_row k x shaped pair) in let b : k.bits ≡ same = shaped.8 in let e : all ≡ same = omega arith in let goal : k.slots + k.cards + (r + n) < k.slots + k.cards + k.bits = omega arith in goal
 
-pub bit_apart : (k : Shape) (x y : ℕ × ℕ) → IsWholeShape k → x.0 < k.cards → y.0 < k.cards → bit_word k x ≡ bit_word k y → bit_place k x ≡ bit_place k y → x ≡ y
+pub bit_apart : (k : RaceShape) (x y : ℕ × ℕ) → IsWholeShape k → x.0 < k.cards → y.0 < k.cards → bit_word k x ≡ bit_word k y → bit_place k x ≡ bit_place k y → x ≡ y
 bit_apart k x y shaped px py e f =
     let low : x.1 * k.row + x.0 / 64 ≡ y.1 * k.row + y.0 / 64 = (let n : ℕ = x.1 * k.row + x.0 / 64 in let m : ℕ = y.1 * k.row + y.0 / 64 in let g : k.slots + k.cards + n ≡ k.slots + k.cards + m = e in let goal : n ≡ m = omega arith in goal) in
     let regions : x.1 ≡ y.1 = sym (div-mul-add x.1 k.row (x.0 / 64) (card_in_row k x.0 shaped px)) ∙ (ap (λ (n : ℕ). n / k.row) low ∙ div-mul-add y.1 k.row (y.0 / 64) (card_in_row k y.0 shaped py)) in
@@ -31,18 +31,18 @@ bit_apart k x y shaped px py e f =
     λ i. (cards i, regions i)
 
 -- words of slots and marks change no bit
-abbrev pub SameBits : Shape → List ℕ → List ℕ → Type 0
+abbrev pub SameBits : RaceShape → List ℕ → List ℕ → Type 0
 SameBits k words new = (x : ℕ × ℕ) → get_or new (bit_word k x) 0 ≡ get_or words (bit_word k x) 0
 
-pub same_bits : (k : Shape) (words : List ℕ) (i n : ℕ) → i < k.slots + k.cards → SameBits k words (set words i n)
+pub same_bits : (k : RaceShape) (words : List ℕ) (i n : ℕ) → i < k.slots + k.cards → SameBits k words (set words i n)
 same_bits k words i n lt x = get_or-set_other words i (bit_word k x) n 0 (λ e. let m : ℕ = x.1 * k.row + x.0 / 64 in let f : k.slots + k.cards + m ≡ i = e in omega arith)
 
-pub bit_as : (k : Shape) (words new : List ℕ) (x : ℕ × ℕ) → SameBits k words new → HasBit k words x → HasBit k new x
+pub bit_as : (k : RaceShape) (words new : List ℕ) (x : ℕ × ℕ) → SameBits k words new → HasBit k words x → HasBit k new x
 bit_as k words new x same h = ap (λ (n : ℕ). bit_at n (bit_place k x)) (same x) ∙ h
 
 -- one pair's bit is set
 
-module _ (k : Shape) (words : List ℕ) (x : ℕ × ℕ) where
+module _ (k : RaceShape) (words : List ℕ) (x : ℕ × ℕ) where
   abbrev pub with_bit : ℕ
   with_bit = bit_or (get_or words (bit_word k x) 0) (1 * 2 ^ bit_place k x % 2 ^ 64)
 

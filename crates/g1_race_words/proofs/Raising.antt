@@ -1,6 +1,6 @@
 -- A racer looks for the flag of the card that it owes, sets it, and dirties the card.
 use Rattle.std.specs.Prelude.{◌≡◌, ◌<◌, ◌∷◌}
-use Rattle.g1_race_words.specs.{ℕ, eqb, eqb-true, true, List, [], length, set, get_or, Option, Some, refl, sym, ap, ◌∙◌, subst, inl, inr, ⊎_elim, arith, length-set, some, ℕ_discrete, get_elem?, bit_at, set_else, Shape, View, Begun, In, Held, flagged_of, mark_word, bit_word, bit_place, flag, IsFlagged, IsWholeShape, HasBit, Flagged, Raced, owed_card, set_flags, spotted, raised, dirtied, Sits}
+use Rattle.g1_race_words.specs.{ℕ, eqb, eqb-true, true, List, [], length, set, get_or, Option, Some, refl, sym, ap, ◌∙◌, subst, inl, inr, ⊎_elim, arith, length-set, some, ℕ_discrete, get_elem?, bit_at, set_else, RaceShape, View, Begun, In, Held, flagged_of, mark_word, bit_word, bit_place, flag, IsFlagged, IsWholeShape, HasBit, Flagged, Raced, owed_card, set_flags, spotted, raised, dirtied, Sits}
 use Rattle.g1_race_words.proofs.Plain.{in_one, in_cond_back, held_back}
 use Rattle.g1_race_words.proofs.PairBits.{with_pair, bit_here, bits_stay, bits_back, same_bits, bit_as}
 use Rattle.g1_race_words.proofs.Keeping.{kept_stays, kept_moves}
@@ -9,7 +9,7 @@ use Rattle.g1_race_words.proofs.Flags.{flag_below, flag_card, front_stays}
 
 -- the flag is looked for
 
-set_back : (k : Shape) (n : ℕ) (cs : List ℕ) (d : ℕ) → In (set_flags k n cs) d → In cs d × (bit_at n (bit_place k (flag k d)) ≡ 1)
+set_back : (k : RaceShape) (n : ℕ) (cs : List ℕ) (d : ℕ) → In (set_flags k n cs) d → In cs d × (bit_at n (bit_place k (flag k d)) ≡ 1)
 set_back k n [] d i = absurd i
 set_back k n (c ∷ cs) d i = let bit = bit_at n (bit_place k (flag k c)) in ⊎_elim
     (λ (t : (c ≡ d) × (eqb bit 1 ≡ true)). (inl t.0, subst (λ (x : ℕ). bit_at n (bit_place k (flag k x)) ≡ 1) t.0 (eqb-true bit 1 t.1)))
@@ -22,7 +22,7 @@ raced_spotted begun words views id v c shaped sits owes at h = raced_held begun 
     (kept_stays k begun.pairs words words views id v w at refl refl (λ x. refl) h.kept)
     (record { marked = h.flagged.marked; known = λ d b. ⊎_elim (λ (a : Held flagged_of views d). h.flagged.known d a) (λ (i : In w.flagged d). found d i) (held_back flagged_of views id w d b) }) h
   where
-    k : Shape
+    k : RaceShape
     k = begun.shape
 
     n : ℕ
@@ -33,7 +33,7 @@ raced_spotted begun words views id v c shaped sits owes at h = raced_held begun 
 
     found : (d : ℕ) → In w.flagged d → IsFlagged k words d
     found d i =
-        let b = set_back k n (owed_card v.owed) d (subst (λ (s : Shape). In (set_flags s n (owed_card v.owed)) d) sits.shape i) in
+        let b = set_back k n (owed_card v.owed) d (subst (λ (s : RaceShape). In (set_flags s n (owed_card v.owed)) d) sits.shape i) in
         let e : c ≡ d = in_one (owed_card v.owed) c d (ap owed_card owes) b.0 in
         subst (IsFlagged k words) e (subst (λ (x : ℕ). bit_at n (bit_place k (flag k x)) ≡ 1) (sym e) b.1)
 
@@ -50,7 +50,7 @@ raced_raised begun words views id v c shaped sits owes lt at h = raced_held begu
       known = λ d b. ⊎_elim (λ (a : Held flagged_of views d). bits_stay k words x short (flag k d) (h.flagged.known d a)) (λ (i : In w.flagged d). subst (IsFlagged k new) (in_one (owed_card v.owed) c d (ap owed_card owes) i) (bit_here k words x short)) (held_back flagged_of views id w d b);
     }) h
   where
-    k : Shape
+    k : RaceShape
     k = begun.shape
 
     x : ℕ × ℕ
@@ -67,7 +67,7 @@ raced_raised begun words views id v c shaped sits owes lt at h = raced_held begu
 
 -- the mark is made dirty
 
-pub flagged_dirtied : (k : Shape) (words : List ℕ) (views : List View) (id : ℕ) (v : View) (c n : ℕ) → v.owed ≡ Some c → v.flagged ≡ owed_card v.owed → c < k.cards
+pub flagged_dirtied : (k : RaceShape) (words : List ℕ) (views : List View) (id : ℕ) (v : View) (c n : ℕ) → v.owed ≡ Some c → v.flagged ≡ owed_card v.owed → c < k.cards
     → get_elem? views id ≡ some v → Flagged k words views → Flagged k (set words (mark_word k c) 1) (set views id (dirtied v c n))
 flagged_dirtied k words views id v c n owes is lt at h = record {
   marked = λ d below m. pick d below m (ℕ_discrete d c);

@@ -1,6 +1,6 @@
 -- A seat is split off, takes in another, or comes.
 use Rattle.std.specs.Prelude.{◌≡◌, ◌⊎◌, ◌+◌, ◌<◌, ◌∷◌, ◌++◌, ◌≤◌}
-use Rattle.g1_race_words.specs.{ℕ, List, [], set, refl, sym, ap, ◌∙◌, inl, inr, ⊎_elim, arith, append-nil, some, get_elem?, Shape, View, Begun, In, Held, AnswersFor, StoreHistory, histories_of, claims_of, cleanings_of, pairs_found, held_of, flagged_of, Covered, AtRest, IsBlank, numbers, Weighed, Numbered, Raced, times, claims_at, cleanings_at, sum_at, stored_sum, overwritten_sum, total, after_split, both}
+use Rattle.g1_race_words.specs.{ℕ, List, [], set, refl, sym, ap, ◌∙◌, inl, inr, ⊎_elim, arith, append-nil, some, get_elem?, RaceShape, View, Begun, In, Held, AnswersFor, StoreHistory, histories_of, claims_of, cleanings_of, pairs_found, held_of, flagged_of, Covered, AtRest, IsBlank, numbers, Weighed, Numbered, Raced, times, claims_at, cleanings_at, sum_at, stored_sum, overwritten_sum, total, after_split, both}
 use Rattle.g1_race_words.proofs.Plain.{each_set, each_snoc, some_longer, some_shorter, held_more, held_same, held_split, held_join, total_set, total_snoc}
 use Rattle.g1_race_words.proofs.Tallies.{tally_append, times_append, numbers_none}
 use Rattle.g1_race_words.proofs.Cover.{covered_moves}
@@ -17,13 +17,13 @@ held_split_blank : (views : List View) (id : ℕ) (v left right : View) → get_
 held_split_blank views id v left right at e none h = let same = held_same histories_of views id v left at e h in
     (λ x. some_longer (λ u. In u.histories h) (set views id left) right (same.0 x), λ x. ⊎_elim (λ (a : Held histories_of (set views id left) h). inl (same.1 a)) (λ (i : In right.histories h). inr (none h i)) (some_shorter (λ u. In u.histories h) (set views id left) right x))
 
-weighed_split : (k : Shape) (views : List View) (id : ℕ) (v right : View) → get_elem? views id ≡ some v → IsBlank v → 0 < v.weight → right.weight ≡ 1 → Weighed k views → Weighed k (set views id (after_split v) ++ right ∷ [])
+weighed_split : (k : RaceShape) (views : List View) (id : ℕ) (v right : View) → get_elem? views id ≡ some v → IsBlank v → 0 < v.weight → right.weight ≡ 1 → Weighed k views → Weighed k (set views id (after_split v) ++ right ∷ [])
 weighed_split k views id v right at still heavy one h = let left = after_split v in (
   let a = total_set (λ u. u.weight) views id v left at in let b = total_snoc (λ u. u.weight) (set views id left) right in let t = h.0 in omega arith,
   each_snoc (set views id left) right (λ (u : View). u.weight ≡ 0 → IsBlank u) (each_set views id left (λ (u : View). u.weight ≡ 0 → IsBlank u) (λ seat u there ne. h.1 seat u there) (λ none. still)) (λ none. absurd (omega (arith, one, none))),
 )
 
-numbered_split : (k : Shape) (views : List View) (id : ℕ) (v left right : View) → get_elem? views id ≡ some v → ((m : ℕ) → numbers m left + numbers m right ≤ numbers m v) → Numbered k views → Numbered k (set views id left ++ right ∷ [])
+numbered_split : (k : RaceShape) (views : List View) (id : ℕ) (v left right : View) → get_elem? views id ≡ some v → ((m : ℕ) → numbers m left + numbers m right ≤ numbers m v) → Numbered k views → Numbered k (set views id left ++ right ∷ [])
 numbered_split k views id v left right at fewer h m = let a = total_set (numbers m) views id v left at in let b = total_snoc (numbers m) (set views id left) right in let c = fewer m in let t = h m in omega arith
 
 -- what the seats have adds up to what it was
@@ -56,14 +56,14 @@ raced_split begun words views id v right still heavy one fewer fresh claims clea
 
 -- a seat takes in a member's seat that is at rest
 
-weighed_join : (k : Shape) (views : List View) (id : ℕ) (v : View) (other : ℕ) (u spent : View) → u.weight ≡ 1 → IsBlank spent → spent.weight ≡ 0
+weighed_join : (k : RaceShape) (views : List View) (id : ℕ) (v : View) (other : ℕ) (u spent : View) → u.weight ≡ 1 → IsBlank spent → spent.weight ≡ 0
     → get_elem? views id ≡ some v → ¬ (other ≡ id) → get_elem? (set views id (both v u)) other ≡ some u → Weighed k views → Weighed k (set (set views id (both v u)) other spent)
 weighed_join k views id v other u spent one still none at apart there h = let w = both v u in (
   let a = total_set (λ u. u.weight) views id v w at in let b = total_set (λ u. u.weight) (set views id w) other u spent there in let t = h.0 in omega arith,
   each_set (set views id w) other spent (λ (u : View). u.weight ≡ 0 → IsBlank u) (λ seat x is ne. each_set views id w (λ (u : View). u.weight ≡ 0 → IsBlank u) (λ seat x is ne. h.1 seat x is) (λ light. absurd (omega (arith, one, light))) seat x is) (λ light. still),
 )
 
-numbered_join : (k : Shape) (views : List View) (id : ℕ) (v : View) (other : ℕ) (u spent : View) → IsBlank spent → spent.spare ≡ 0
+numbered_join : (k : RaceShape) (views : List View) (id : ℕ) (v : View) (other : ℕ) (u spent : View) → IsBlank spent → spent.spare ≡ 0
     → get_elem? views id ≡ some v → get_elem? (set views id (both v u)) other ≡ some u → Numbered k views → Numbered k (set (set views id (both v u)) other spent)
 numbered_join k views id v other u spent still none at there h m =
     let a = total_set (numbers m) views id v (both v u) at in
@@ -98,7 +98,7 @@ raced_join begun words views id v other u spent one rest still none given at apa
 total_more : (f : View → ℕ) (views : List View) (w : View) → f w ≡ 0 → total f (views ++ w ∷ []) ≡ total f views
 total_more f views w none = let a = total_snoc f views w in omega (arith, a, none)
 
-covered_more : (k : Shape) (known : List (ℕ × ℕ)) (words : List ℕ) (views : List View) (w : View) → Covered k known words views → Covered k known words (views ++ w ∷ [])
+covered_more : (k : RaceShape) (known : List (ℕ × ℕ)) (words : List ℕ) (views : List View) (w : View) → Covered k known words views → Covered k known words (views ++ w ∷ [])
 covered_more k known words views w h = covered_moves k known words words views (views ++ w ∷ []) h
     (λ p n lt at cr. inr (at, (λ m. inl m), λ s. inr (some_longer (λ u. AnswersFor k u p n) views w s)))
 

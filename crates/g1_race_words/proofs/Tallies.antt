@@ -35,6 +35,9 @@ tally_once m g h (x ∷ xs) le (inr a) (inr b) = tally_once m g h xs (omega arit
 pub none_below : (m : ℕ) → as_number (nat_lt m 0) ≡ 0
 none_below m = omega (arith, below_is m 0)
 
+pub below_up_to : (m n l : ℕ) → n ≤ l → as_number (nat_lt m n) ≤ as_number (nat_lt m l)
+below_up_to m n l le = omega (arith, below_is m n, below_is m l)
+
 pub numbers_none : (m : ℕ) (v : View) → v.histories ≡ [] → v.spare ≡ 0 → numbers m v ≡ 0
 numbers_none m v none few = ap (λ (x : ℕ × List StoreHistory). as_number (nat_lt m x.0) + tally m x.1) (λ i. (few i, none i)) ∙ (let z = none_below m in omega (arith, z))
 

@@ -1,6 +1,6 @@
 -- A racer writes a slot.
 use Rattle.std.specs.Prelude.{◌≡◌, ◌≢◌, ◌⊎◌, ◌<◌, ◌∷◌}
-use Rattle.g1_race_words.specs.{ℕ, eqb, List, [], set, get_or, Some, None, refl, sym, ap, ◌∙◌, subst, inl, inr, ⊎_elim, length-set, eq-eqb, ne_eqb, arith, some, get_elem?, at_set, set_else, Shape, View, Begun, IsWord, BeganInto, mark_word, flag, In, Held, StoreHistory, histories_of, claims_of, cleanings_of, pairs_found, last_to, Stored, StoredInto, Recorded, Raced, gains_store, wrote, Sits}
+use Rattle.g1_race_words.specs.{ℕ, eqb, List, [], set, get_or, Some, None, refl, sym, ap, ◌∙◌, subst, inl, inr, ⊎_elim, length-set, eq-eqb, ne_eqb, arith, some, get_elem?, at_set, set_else, RaceShape, View, Begun, IsWord, BeganInto, mark_word, flag, In, Held, StoreHistory, histories_of, claims_of, cleanings_of, pairs_found, last_to, SlotsStored, StoredInto, Recorded, Raced, gains_store, wrote, Sits}
 use Rattle.g1_race_words.proofs.Plain.{put_here, some_or, true_is, false_is, held_back, held_same}
 use Rattle.g1_race_words.proofs.Tallies.{tally_gained}
 use Rattle.g1_race_words.proofs.CoverStores.{mark_apart, covered_wrote}
@@ -43,7 +43,7 @@ held_before views id v p n o at h x = ⊎_elim
     (λ (i : In (gains_store p n v.histories) h). ⊎_elim (λ (a : In v.histories h). inl (id, v, at, a)) (λ (a : (g : StoreHistory) × In v.histories g × (h ≡ grown p n g)). inr (a.0, (id, v, at, a.1), a.2)) (gained_back p n v.histories h i))
     (held_back histories_of views id (wrote v p n o) h x)
 
-stored_wrote : (k : Shape) (began : List ℕ) (words : List ℕ) (views : List View) (id : ℕ) (v : View) (p n o : ℕ) (mine : StoreHistory) → get_elem? views id ≡ some v → v.histories ≡ mine ∷ [] → Stored k began words views → Stored k began (set words p n) (set views id (wrote v p n o))
+stored_wrote : (k : RaceShape) (began : List ℕ) (words : List ℕ) (views : List View) (id : ℕ) (v : View) (p n o : ℕ) (mine : StoreHistory) → get_elem? views id ≡ some v → v.histories ≡ mine ∷ [] → SlotsStored k began words views → SlotsStored k began (set words p n) (set views id (wrote v p n o))
 stored_wrote k began words views id v p n o mine at one h q m lt there = ⊎_elim
     (λ (x : (q ≡ p) × (n ≡ m)). inl (grown p n mine, (id, wrote v p n o, put_here views id v (wrote v p n o) at, newest), subst (λ (y : ℕ × ℕ). last_to y.0 ((p, n) ∷ mine.1) ≡ Some y.1) (λ i. (sym x.0 i, x.1 i)) (this_last p n mine.1)))
     (λ (x : (q ≢ p) × (get_elem? words q ≡ some m)). ⊎_elim (was x.0) (never x.0) (h q m lt x.1))
@@ -73,7 +73,7 @@ stored_wrote k began words views id v p n o mine at one h q m lt there = ⊎_eli
           (held_before views id v p n o at g b),
     )
 
-recorded_wrote : (k : Shape) (began : List ℕ) (views : List View) (id : ℕ) (v : View) (p n o : ℕ) → get_elem? views id ≡ some v → Recorded k began views → Recorded k began (set views id (wrote v p n o))
+recorded_wrote : (k : RaceShape) (began : List ℕ) (views : List View) (id : ℕ) (v : View) (p n o : ℕ) → get_elem? views id ≡ some v → Recorded k began views → Recorded k began (set views id (wrote v p n o))
 recorded_wrote k began views id v p n o at h x held = ⊎_elim
     (λ (s : StoredInto k views x). inl (⊎_elim
     (λ (a : Held histories_of (set views id (wrote v p n o)) s.0). (s.0, s.1, s.2, a, s.4, s.5, s.6))

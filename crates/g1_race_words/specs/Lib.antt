@@ -4,7 +4,6 @@ pub mod Begin
 pub mod Rule
 pub mod Steps
 pub mod Seats
-pub mod Readers
 pub mod StepKinds
 pub mod Together
 pub use Prelude.*
@@ -12,8 +11,7 @@ pub use Begin.*
 pub use Rule.*
 pub use Steps.*
 pub use Seats.*
-pub use Readers.*
 pub use StepKinds.*
 pub use Together.*
-pub use declared.view.Shape.{Shape}
+pub use declared.view.RaceShape.{RaceShape}
 pub use declared.view.View.{View}

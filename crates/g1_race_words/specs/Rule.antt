@@ -9,33 +9,33 @@ use Rattle.std.specs.Prelude.{◌==◌, if◌then◌else◌}
 use Rattle.g1_race_words.specs.Prelude.{nat_lt, ℕ, slice_index, replicate, take, List, [], length}
 use Rattle.g1_race_words.specs.Prelude.{zero, suc, Bool, true, false, not, Option, Some, None}
 use Rattle.g1_race_words.specs.Prelude.{sum_by, bit_at, some, get_elem?}
-use Rattle.g1_race_words.specs.declared.view.Shape.{Shape}
+use Rattle.g1_race_words.specs.declared.view.RaceShape.{RaceShape}
 use Rattle.g1_race_words.specs.declared.view.View.{View}
 use Rattle.g1_race_words.specs.Begin.{Start, Begun}
 
-abbrev pub slot_card : Shape → ℕ → ℕ
+abbrev pub slot_card : RaceShape → ℕ → ℕ
 slot_card heap slot = slot / heap.size
 
-abbrev pub mark_word : Shape → ℕ → ℕ
+abbrev pub mark_word : RaceShape → ℕ → ℕ
 mark_word heap card = heap.slots + card
 
 -- the region of the slot to which a word that is not 0 refers
-abbrev pub region_at : Shape → ℕ → ℕ
+abbrev pub region_at : RaceShape → ℕ → ℕ
 region_at heap word = (word - 1) / heap.span
 
 -- the pair's bit: its word, in the region's row, and its place in the word
-abbrev pub bit_word : Shape → ℕ × ℕ → ℕ
+abbrev pub bit_word : RaceShape → ℕ × ℕ → ℕ
 bit_word heap pair = heap.slots + heap.cards + (pair.1 * heap.row + pair.0 / 64)
 
-abbrev pub bit_place : Shape → ℕ × ℕ → ℕ
+abbrev pub bit_place : RaceShape → ℕ × ℕ → ℕ
 bit_place heap pair = pair.0 % 64
 
 -- a card and a region of the heap
-abbrev pub IsPair : Shape → ℕ × ℕ → Type 0
+abbrev pub IsPair : RaceShape → ℕ × ℕ → Type 0
 IsPair heap pair = (pair.0 < heap.cards) × (pair.1 < heap.regions)
 
 -- the pair's bit is set
-abbrev pub HasBit : Shape → List ℕ → ℕ × ℕ → Type 0
+abbrev pub HasBit : RaceShape → List ℕ → ℕ × ℕ → Type 0
 HasBit heap words pair = bit_at (slice_index words (bit_word heap pair)) (bit_place heap pair) ≡ 1
 
 -- a word that refers to a slot: neither null nor data
@@ -43,18 +43,18 @@ abbrev pub IsReference : ℕ → Type 0
 IsReference word = (word ≢ 0) × (word < 2 ^ 32)
 
 -- null, one more than a slot, or data, which refers to nothing
-abbrev pub IsWord : Shape → ℕ → Type 0
+abbrev pub IsWord : RaceShape → ℕ → Type 0
 IsWord heap word = (word ≤ heap.slots) ⊎ (2 ^ 32 ≤ word)
 
 -- the slot's word refers into another region
-abbrev pub crosses : Shape → ℕ → ℕ → Bool
+abbrev pub crosses : RaceShape → ℕ → ℕ → Bool
 crosses heap slot word =
     if word == 0 then false
     else if nat_lt word (2 ^ 32) then not (slot / heap.span == region_at heap word)
     else false
 
 -- a slot and its word, which refers into another region
-abbrev pub IsCrossing : Shape → ℕ → ℕ → Type 0
+abbrev pub IsCrossing : RaceShape → ℕ → ℕ → Type 0
 IsCrossing heap slot word =
     (slot < heap.slots) × (word ≤ heap.slots) × (crosses heap slot word ≡ true)
 
@@ -68,7 +68,7 @@ Held part views value =
     (seat : ℕ) × (v : View) × (get_elem? views seat ≡ some v) × In (part v) value
 
 -- each slot's word is null, one more than a slot, or data
-abbrev pub Bounded : Shape → List ℕ → Type 0
+abbrev pub Bounded : RaceShape → List ℕ → Type 0
 Bounded heap words = (p n : ℕ) → p < heap.slots → get_elem? words p ≡ some n → IsWord heap n
 
 -- a racer's number, and its stores, the newest first
@@ -99,39 +99,39 @@ last_to slot [] = None
 last_to slot (store ∷ stores) = if store.0 == slot then Some store.1 else last_to slot stores
 
 -- how many words there are: of slots, of marks, of the pairs' bits and of the cards' flags
-abbrev pub word_count : Shape → ℕ
+abbrev pub word_count : RaceShape → ℕ
 word_count heap = heap.slots + heap.cards + heap.bits + heap.row
 
 -- a card's flag, which eight cards have together: the first one's bit in the row behind that of the
 -- last region
-abbrev pub flag : Shape → ℕ → ℕ × ℕ
+abbrev pub flag : RaceShape → ℕ → ℕ × ℕ
 flag heap card = (card / 8 * 8, heap.regions)
 
-abbrev pub IsFlagged : Shape → List ℕ → ℕ → Type 0
+abbrev pub IsFlagged : RaceShape → List ℕ → ℕ → Type 0
 IsFlagged heap words card = HasBit heap words (flag heap card)
 
 -- each card whose mark is 1 has its flag set
-abbrev pub AreFlagged : Shape → List ℕ → Type 0
+abbrev pub AreFlagged : RaceShape → List ℕ → Type 0
 AreFlagged heap words =
     (c : ℕ) → c < heap.cards → get_elem? words (mark_word heap c) ≡ some 1 → IsFlagged heap words c
 
 -- the seat answers for the slot with this word: it owes the card, still has the slot to read, or
 -- has read the pair
-abbrev pub AnswersFor : Shape → View → ℕ → ℕ → Type 0
+abbrev pub AnswersFor : RaceShape → View → ℕ → ℕ → Type 0
 AnswersFor heap view slot word =
     (view.owed ≡ Some (slot_card heap slot)) ⊎ ((view.next ≤ slot) × (slot < view.end))
     ⊎ In view.pairs (slot_card heap slot, region_at heap word)
 
-abbrev pub IsMarked : Shape → List ℕ → ℕ → Type 0
+abbrev pub IsMarked : RaceShape → List ℕ → ℕ → Type 0
 IsMarked heap words slot = get_elem? words (mark_word heap (slot_card heap slot)) ≡ some 1
 
-abbrev pub Someone : Shape → List View → ℕ → ℕ → Type 0
+abbrev pub Someone : RaceShape → List View → ℕ → ℕ → Type 0
 Someone heap views slot word =
     (seat : ℕ) × (v : View) × (get_elem? views seat ≡ some v) × AnswersFor heap v slot word
 
 -- each slot that refers into another region has its pair among those known from the beginning, its
 -- card marked, or some seat answers for it
-abbrev pub Covered : Shape → List (ℕ × ℕ) → List ℕ → List View → Type 0
+abbrev pub Covered : RaceShape → List (ℕ × ℕ) → List ℕ → List View → Type 0
 Covered heap known words views =
     (p n : ℕ) → p < heap.slots → get_elem? words p ≡ some n → crosses heap p n ≡ true
     → In known (slot_card heap p, region_at heap n) ⊎ IsMarked heap words p ⊎ Someone heap views p n
@@ -154,7 +154,7 @@ abbrev pub weigh : List View → ℕ
 weigh views = total (λ v. v.weight) views
 
 -- the views have as much weight as there are members, and one with none answers for nothing
-abbrev pub Weighed : Shape → List View → Type 0
+abbrev pub Weighed : RaceShape → List View → Type 0
 Weighed heap views =
     (weigh views ≡ heap.members) × ((seat : ℕ) (v : View) → get_elem? views seat ≡ some v
     → v.weight ≡ 0 → IsBlank v)
@@ -177,13 +177,13 @@ numbers number view = as_number (nat_lt number view.spare) + history_count numbe
 
 -- each number below that of the members stands once at most: in one history of one view, or with
 -- one that can still give it; and no other number stands anywhere
-abbrev pub Numbered : Shape → List View → Type 0
+abbrev pub Numbered : RaceShape → List View → Type 0
 Numbered heap views = (m : ℕ) → total (numbers m) views ≤ as_number (nat_lt m heap.members)
 
 -- each slot has the word that some racer stored to it last, or the one that it began with, and no
 -- racer has stored to it
-abbrev pub Stored : Shape → List ℕ → List ℕ → List View → Type 0
-Stored heap began words views = (p n : ℕ) → p < heap.slots → get_elem? words p ≡ some n →
+abbrev pub SlotsStored : RaceShape → List ℕ → List ℕ → List View → Type 0
+SlotsStored heap began words views = (p n : ℕ) → p < heap.slots → get_elem? words p ≡ some n →
     ((h : StoreHistory) × Held histories_of views h × (last_to p h.1 ≡ Some n))
     ⊎ ((get_elem? began p ≡ some n)
     × ((h : StoreHistory) → Held histories_of views h → last_to p h.1 ≡ None))
@@ -203,26 +203,26 @@ overwritten_sum f slot view = sum_at f slot view.overwritten
 -- that it has now: whatever is added up of them gives the same. With an f that is 1 of one word and
 -- 0 of any other, that word was written, or there at first, once for each time that it was
 -- overwritten or is there now. With the words themselves, their sums are equal.
-abbrev pub Balanced : Shape → List ℕ → List ℕ → List View → Type 0
+abbrev pub Balanced : RaceShape → List ℕ → List ℕ → List View → Type 0
 Balanced heap began words views = (f : ℕ → ℕ) (p first now : ℕ) → p < heap.slots
     → get_elem? began p ≡ some first → get_elem? words p ≡ some now
     → total (stored_sum f p) views + f first ≡ total (overwritten_sum f p) views + f now
 
 -- some racer stored a reference into the pair's region to its card, which lies outside
-abbrev pub StoredInto : Shape → List View → ℕ × ℕ → Type 0
+abbrev pub StoredInto : RaceShape → List View → ℕ × ℕ → Type 0
 StoredInto heap views pair =
     (h : StoreHistory) × (p : ℕ) × (n : ℕ) × Held histories_of views h × In h.1 (p, n)
     × IsCrossing heap p n × ((slot_card heap p, region_at heap n) ≡ pair)
 
 -- at the beginning some slot of the pair's card referred into its region, outside of which it lies
-abbrev pub BeganInto : Shape → List ℕ → ℕ × ℕ → Type 0
+abbrev pub BeganInto : RaceShape → List ℕ → ℕ × ℕ → Type 0
 BeganInto heap began pair =
     (p : ℕ) × (n : ℕ) × (get_elem? began p ≡ some n) × IsCrossing heap p n
     × ((slot_card heap p, region_at heap n) ≡ pair)
 
 -- each pair that a seat has is of a reference that some racer stored, or that was there at the
 -- beginning
-abbrev pub Recorded : Shape → List ℕ → List View → Type 0
+abbrev pub Recorded : RaceShape → List ℕ → List View → Type 0
 Recorded heap began views =
     (x : ℕ × ℕ) → Held pairs_found views x → StoredInto heap views x ⊎ BeganInto heap began x
 
@@ -233,28 +233,28 @@ IsNoted known views pair = In known pair ⊎ Held pairs_found views pair
 -- each pair that the race began with or that some seat has read has its bit set, or a seat holds
 -- it, which is about to set the bit; no other bit is set, and no seat holds a pair that none has
 -- read
-pub record Kept (heap : Shape) (known : List (ℕ × ℕ)) (words : List ℕ)
+pub record PairsKept (heap : RaceShape) (known : List (ℕ × ℕ)) (words : List ℕ)
     (views : List View) : Type 0 where
   pub has : (x : ℕ × ℕ) → IsNoted known views x → HasBit heap words x ⊎ Held held_of views x
   pub only : (x : ℕ × ℕ) → IsPair heap x → HasBit heap words x → IsNoted known views x
   pub read : (x : ℕ × ℕ) → Held held_of views x → Held pairs_found views x
 
 -- each marked card has its flag set, and each card of which some seat knows it
-pub record Flagged (heap : Shape) (words : List ℕ) (views : List View) : Type 0 where
+pub record Flagged (heap : RaceShape) (words : List ℕ) (views : List View) : Type 0 where
   pub marked : AreFlagged heap words
   pub known : (c : ℕ) → Held flagged_of views c → IsFlagged heap words c
 
 -- the card was marked at the beginning
-abbrev pub BeganMarked : Shape → List ℕ → ℕ → Type 0
+abbrev pub BeganMarked : RaceShape → List ℕ → ℕ → Type 0
 BeganMarked heap began card = get_elem? began (mark_word heap card) ≡ some 1
 
 -- some racer claimed the card, or it was marked at the beginning
-abbrev pub MadeDirty : Shape → List ℕ → List View → ℕ → Type 0
+abbrev pub MadeDirty : RaceShape → List ℕ → List View → ℕ → Type 0
 MadeDirty heap began views card = Held claims_of views card ⊎ BeganMarked heap began card
 
 -- a marked card is claimed by some racer, or began marked. Of a card that isn't marked neither is
 -- so, or a sweeper cleaned it
-abbrev pub Claimed : Shape → List ℕ → List ℕ → List View → Type 0
+abbrev pub Claimed : RaceShape → List ℕ → List ℕ → List View → Type 0
 Claimed heap began words views = (c : ℕ) → c < heap.cards →
     ((get_elem? words (mark_word heap c) ≡ some 1) × MadeDirty heap began views c)
     ⊎ ((get_elem? words (mark_word heap c) ≡ some 0)
@@ -273,8 +273,8 @@ cleanings_at card view = times card view.cleanings
 
 -- the claims of a card and its mark at the beginning count up to its cleanings and its mark: each
 -- mark is 0 or 1, so a card that began clean is dirty where it was claimed once more than cleaned
-abbrev pub Counted : Shape → List ℕ → List ℕ → List View → Type 0
-Counted heap began words views = (c first now : ℕ) → c < heap.cards
+abbrev pub MarksCounted : RaceShape → List ℕ → List ℕ → List View → Type 0
+MarksCounted heap began words views = (c first now : ℕ) → c < heap.cards
     → get_elem? began (mark_word heap c) ≡ some first
     → get_elem? words (mark_word heap c) ≡ some now
     → total (claims_at c) views + first ≡ total (cleanings_at c) views + now
@@ -285,22 +285,22 @@ pub record Raced (begun : Begun) (words : List ℕ) (views : List View) : Type 0
   pub covered : Covered begun.shape begun.pairs words views
   pub weighed : Weighed begun.shape views
   pub numbered : Numbered begun.shape views
-  pub stored : Stored begun.shape begun.words words views
+  pub stored : SlotsStored begun.shape begun.words words views
   pub balanced : Balanced begun.shape begun.words words views
   pub recorded : Recorded begun.shape begun.words views
-  pub kept : Kept begun.shape begun.pairs words views
+  pub kept : PairsKept begun.shape begun.pairs words views
   pub claimed : Claimed begun.shape begun.words words views
-  pub counted : Counted begun.shape begun.words words views
+  pub counted : MarksCounted begun.shape begun.words words views
   pub flagged : Flagged begun.shape words views
 
 -- the pair is that of some reference that crosses regions
-abbrev pub IsOfCrossing : Shape → ℕ × ℕ → Type 0
+abbrev pub IsOfCrossing : RaceShape → ℕ × ℕ → Type 0
 IsOfCrossing heap pair =
     (p : ℕ) × (n : ℕ) × IsCrossing heap p n × ((slot_card heap p, region_at heap n) ≡ pair)
 
 -- the shape of a heap: whole cards, whole regions, a row of bits for each region with one for each
 -- card, and as many words as can be counted
-abbrev pub IsWholeShape : Shape → Type 0
+abbrev pub IsWholeShape : RaceShape → Type 0
 IsWholeShape heap =
     (heap.slots ≡ heap.cards * heap.size) × (0 < heap.size) × (0 < heap.span)
     × (heap.slots < 2 ^ 32) × (heap.members < 2 ^ 32) × (0 < heap.cards)
@@ -325,24 +325,24 @@ pub record IsBegun (begin : Start) : Type 0 where
   pub flagged : AreFlagged begin.shape begin.words
 
 -- the words of the slots and of the marks among those of a table
-abbrev pub front : Shape → List ℕ → List ℕ
+abbrev pub front : RaceShape → List ℕ → List ℕ
 front heap words = take (heap.slots + heap.cards) words
 
 -- the pairs of a card with the first regions, as many as this, whose bit is set; and those of the
 -- first cards, as many as this
-abbrev pub pairs_of_card : Shape → List ℕ → ℕ → ℕ → List (ℕ × ℕ)
+abbrev pub pairs_of_card : RaceShape → List ℕ → ℕ → ℕ → List (ℕ × ℕ)
 pairs_of_card heap words card zero = []
 pairs_of_card heap words card (suc region) =
     pairs_of_card heap words card region
     ++ (if bit_at (slice_index words (bit_word heap (card, region)))
     (bit_place heap (card, region)) == 1 then (card, region) ∷ [] else [])
 
-abbrev pub pairs_up_to : Shape → List ℕ → ℕ → List (ℕ × ℕ)
+abbrev pub pairs_up_to : RaceShape → List ℕ → ℕ → List (ℕ × ℕ)
 pairs_up_to heap words zero = []
 pairs_up_to heap words (suc card) =
     pairs_up_to heap words card ++ pairs_of_card heap words card heap.regions
 
-abbrev pub started : Shape → List ℕ → Start
+abbrev pub started : RaceShape → List ℕ → Start
 started heap words = record { shape = heap; words = words }
 
 -- what a race that starts so begins with
@@ -355,7 +355,7 @@ beginning begin =
     }
 
 -- all null, all clean, and no pair recorded
-abbrev pub null_of : Shape → Start
+abbrev pub null_of : RaceShape → Start
 null_of heap = started heap (replicate (word_count heap) 0)
 
 -- what a view says of the last pause
@@ -364,7 +364,7 @@ start_of view = started view.shape view.began_words
 
 -- the rule: a race since some pause, on which the seats that have weight agree; and where they are
 -- frozen, no word has changed since
-pub record Going (heap : Shape) (words : List ℕ) (views : List View) : Type 0 where
+pub record Going (heap : RaceShape) (words : List ℕ) (views : List View) : Type 0 where
   pub first : List ℕ
   pub frozen : Bool
   pub raced : Raced (beginning (started heap first)) words views

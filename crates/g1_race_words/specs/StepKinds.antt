@@ -2,7 +2,7 @@
 use Rattle.std.specs.Prelude.{◌≡◌, ◌<◌, ◌^◌, ◌==◌, if◌then◌else◌, ◌∷◌, ◌++◌, ◌⊎◌}
 use Rattle.g1_race_words.specs.Prelude.{ℕ, bit_or, List, [], map, slice_set, Some, None, some}
 use Rattle.g1_race_words.specs.Prelude.{get_elem?}
-use Rattle.g1_race_words.specs.declared.view.Shape.{Shape}
+use Rattle.g1_race_words.specs.declared.view.RaceShape.{RaceShape}
 use Rattle.g1_race_words.specs.declared.view.View.{View}
 use Rattle.g1_race_words.specs.Rule.{StoreHistory, IsWord, bit_place, bit_word, flag, front}
 use Rattle.g1_race_words.specs.Rule.{mark_word}
@@ -10,25 +10,25 @@ use Rattle.g1_race_words.specs.Steps.{wrote, exchanged, looked, spotted, raised,
 use Rattle.g1_race_words.specs.Steps.{read, sought, recorded}
 
 -- a step, with the word that it finds
-pub data Step : Type 0 where
+pub data WordStep : Type 0 where
   -- a racer writes a word to a slot, or does so if it finds the word that it expects
-  Write : (slot word found : ℕ) → Step
-  Exchange : (slot expected word found : ℕ) → Step
+  Write : (slot word found : ℕ) → WordStep
+  Exchange : (slot expected word found : ℕ) → WordStep
   -- a racer loads the mark of the card that it owes, and swaps it to dirty
-  Look : (card found : ℕ) → Step
-  Dirty : (card found : ℕ) → Step
+  Look : (card found : ℕ) → WordStep
+  Dirty : (card found : ℕ) → WordStep
   -- a racer loads the word with that card's flag, and sets the flag
-  Spot : (card found : ℕ) → Step
-  Raise : (card found : ℕ) → Step
+  Spot : (card found : ℕ) → WordStep
+  Raise : (card found : ℕ) → WordStep
   -- a sweeper swaps a card's mark to clean, and loads the card's slots
-  Clean : (card found : ℕ) → Step
-  Read : (slot found : ℕ) → Step
+  Clean : (card found : ℕ) → WordStep
+  Read : (slot found : ℕ) → WordStep
   -- a sweeper loads the word with the bit of the pair that it holds, and sets the bit
-  Seek : (pair : ℕ × ℕ) (found : ℕ) → Step
-  Record : (pair : ℕ × ℕ) (found : ℕ) → Step
+  Seek : (pair : ℕ × ℕ) (found : ℕ) → WordStep
+  Record : (pair : ℕ × ℕ) (found : ℕ) → WordStep
 
 -- the word that it is made on
-abbrev pub place_of : Shape → Step → ℕ
+abbrev pub place_of : RaceShape → WordStep → ℕ
 place_of heap (Write slot word found) = slot
 place_of heap (Exchange slot expected word found) = slot
 place_of heap (Look card found) = mark_word heap card
@@ -40,7 +40,7 @@ place_of heap (Read slot found) = slot
 place_of heap (Seek pair found) = bit_word heap pair
 place_of heap (Record pair found) = bit_word heap pair
 
-abbrev pub found_by : Step → ℕ
+abbrev pub found_by : WordStep → ℕ
 found_by (Write slot word found) = found
 found_by (Exchange slot expected word found) = found
 found_by (Look card found) = found
@@ -53,7 +53,7 @@ found_by (Seek pair found) = found
 found_by (Record pair found) = found
 
 -- the word that it leaves there
-abbrev pub left_by : Shape → Step → ℕ
+abbrev pub left_by : RaceShape → WordStep → ℕ
 left_by heap (Write slot word found) = word
 left_by heap (Exchange slot expected word found) = if found == expected then word else found
 left_by heap (Look card found) = found
@@ -66,7 +66,7 @@ left_by heap (Seek pair found) = found
 left_by heap (Record pair found) = bit_or found (2 ^ bit_place heap pair)
 
 -- what the seat knows after it
-abbrev pub after : Step → View → View
+abbrev pub after : WordStep → View → View
 after (Write slot word found) view = wrote view slot word found
 after (Exchange slot expected word found) view = exchanged view slot expected word found
 after (Look card found) view = looked view found
@@ -79,15 +79,15 @@ after (Seek pair found) view = sought view found
 after (Record pair found) view = recorded view
 
 -- a racer that owes nothing stores the word
-abbrev pub MayStore : Shape → View → ℕ → ℕ → Type 0
+abbrev pub MayStore : RaceShape → View → ℕ → ℕ → Type 0
 MayStore heap view slot word = ((h : StoreHistory) × (view.histories ≡ h ∷ []))
     × (view.owed ≡ None) × (slot < heap.slots) × IsWord heap word
 
-abbrev pub Owes : Shape → View → ℕ → Type 0
+abbrev pub Owes : RaceShape → View → ℕ → Type 0
 Owes heap view card = (view.owed ≡ Some card) × (card < heap.cards)
 
 -- the seat may make it
-abbrev pub May : Shape → Step → View → Type 0
+abbrev pub May : RaceShape → WordStep → View → Type 0
 May heap (Write slot word found) view = MayStore heap view slot word
 May heap (Exchange slot expected word found) view = MayStore heap view slot word
 May heap (Look card found) view = Owes heap view card
@@ -101,12 +101,13 @@ May heap (Seek pair found) view = view.held ≡ pair ∷ []
 May heap (Record pair found) view = view.held ≡ pair ∷ []
 
 -- the words of a race, and what its seats know
-pub record Status : Type 0 where
+pub record TableState : Type 0 where
   pub words : List ℕ
   pub views : List View
 
 -- the seat makes the step
-pub record Makes (heap : Shape) (seat : ℕ) (step : Step) (before next : Status) : Type 0 where
+pub record Makes (heap : RaceShape) (seat : ℕ) (step : WordStep) (before next : TableState)
+    : Type 0 where
   pub view : View
   pub mine : get_elem? before.views seat ≡ some view
   pub may : May heap step view
@@ -119,26 +120,26 @@ pub record Makes (heap : Shape) (seat : ℕ) (step : Step) (before next : Status
 abbrev pub seen_view : View → View
 seen_view view = record view { held = []; flagged = [] }
 
-abbrev pub seen : Shape → Status → Status
+abbrev pub seen : RaceShape → TableState → TableState
 seen heap status =
     record { words = front heap status.words; views = map seen_view status.views }
 
 -- steps of seats, each with the seat's place, made one after the other
-abbrev pub Run : Shape → Status → List (ℕ × Step) → Status → Type 0
+abbrev pub Run : RaceShape → TableState → List (ℕ × WordStep) → TableState → Type 0
 Run heap before [] last = before ≡ last
 Run heap before (move ∷ moves) last =
-    (next : Status) × Makes heap move.0 move.1 before next × Run heap next moves last
+    (next : TableState) × Makes heap move.0 move.1 before next × Run heap next moves last
 
 -- what is seen of such a run
-abbrev pub SeenRun : Shape → Status → List (ℕ × Step) → Status → Type 0
+abbrev pub SeenRun : RaceShape → TableState → List (ℕ × WordStep) → TableState → Type 0
 SeenRun heap before [] last = before ≡ last
 SeenRun heap before (move ∷ moves) last =
-    (next : Status) × Makes heap move.0 move.1 before next
+    (next : TableState) × Makes heap move.0 move.1 before next
     × SeenRun heap (seen heap next) moves last
 
 -- the step as one of the five kinds: write, look, dirty, clean, read. An exchange that stores is a
 -- write, and each other step is none
-abbrev pub five_of : ℕ → Step → List (ℕ × Step)
+abbrev pub five_of : ℕ → WordStep → List (ℕ × WordStep)
 five_of seat (Write slot word found) = (seat, Write slot word found) ∷ []
 five_of seat (Exchange slot expected word found) =
     if found == expected then (seat, Write slot word found) ∷ [] else []
@@ -151,20 +152,21 @@ five_of seat (Read slot found) = (seat, Read slot found) ∷ []
 five_of seat (Seek pair found) = []
 five_of seat (Record pair found) = []
 
-abbrev pub fives_of : List (ℕ × Step) → List (ℕ × Step)
+abbrev pub fives_of : List (ℕ × WordStep) → List (ℕ × WordStep)
 fives_of [] = []
 fives_of (move ∷ moves) = five_of move.0 move.1 ++ fives_of moves
 
 -- a run of a race without its other steps is a run of the five kinds, for all that is seen
 abbrev pub RunsAreOfFive : Type 0
 RunsAreOfFive =
-    (heap : Shape) (first last : Status) (moves : List (ℕ × Step)) → Run heap first moves last
-    → SeenRun heap (seen heap first) (fives_of moves) (seen heap last)
+    (heap : RaceShape) (first last : TableState) (moves : List (ℕ × WordStep))
+    → Run heap first moves last → SeenRun heap (seen heap first) (fives_of moves) (seen heap last)
 
 -- a step is one of the five kinds, or nothing that is seen changes
 abbrev pub StepsAreOfFive : Type 0
 StepsAreOfFive =
-    (heap : Shape) (seat : ℕ) (step : Step) (before next : Status)
+    (heap : RaceShape) (seat : ℕ) (step : WordStep) (before next : TableState)
     → Makes heap seat step before next
-    → ((five : Step) × (five_of seat step ≡ (seat, five) ∷ []) × Makes heap seat five before next)
+    → ((five : WordStep) × (five_of seat step ≡ (seat, five) ∷ [])
+    × Makes heap seat five before next)
     ⊎ ((five_of seat step ≡ []) × (seen heap next ≡ seen heap before))

@@ -2,7 +2,7 @@
 use Rattle.std.specs.Prelude.{◌+◌, ◌-◌, ◌*◌, ◌∷◌, ◌++◌, ◌==◌, if◌then◌else◌}
 use Rattle.g1_race_words.specs.Prelude.{ℕ, slice_set, List, [], true, false, Option, Some, None}
 use Rattle.g1_race_words.specs.Prelude.{bit_at}
-use Rattle.g1_race_words.specs.declared.view.Shape.{Shape}
+use Rattle.g1_race_words.specs.declared.view.RaceShape.{RaceShape}
 use Rattle.g1_race_words.specs.declared.view.View.{View}
 use Rattle.g1_race_words.specs.Begin.{Start}
 use Rattle.g1_race_words.specs.Rule.{slot_card, region_at, bit_place, crosses, flag, StoreHistory}
@@ -35,13 +35,13 @@ blank begin weight histories =
 abbrev pub whole_seat : Start → ℕ → View
 whole_seat begin weight = record (blank begin weight []) { spare = weight }
 
--- the seat of a pause, which has all the weight and knows all the words
+-- a seat of a pause, which has some of the weight and knows all the words
 abbrev pub frozen_seat : Start → ℕ → View
-frozen_seat begin weight = record (whole_seat begin weight) { frozen = true }
+frozen_seat begin weight = record (blank begin weight []) { frozen = true }
 
--- the words may change again
+-- the words may change again, and the seat has the numbers of all that are to come
 abbrev pub thawed : View → View
-thawed view = record view { frozen = false }
+thawed view = record view { frozen = false; spare = view.weight }
 
 -- one word changes at a pause
 abbrev pub put : View → ℕ → ℕ → View
@@ -76,7 +76,7 @@ owed_card None = []
 owed_card (Some card) = card ∷ []
 
 -- those of the cards whose flag is set in the word
-abbrev pub set_flags : Shape → ℕ → List ℕ → List ℕ
+abbrev pub set_flags : RaceShape → ℕ → List ℕ → List ℕ
 set_flags heap word [] = []
 set_flags heap word (card ∷ cards) =
     if bit_at word (bit_place heap (flag heap card)) == 1 then card ∷ set_flags heap word cards
@@ -110,7 +110,7 @@ cleaned view card word =
     }
 
 -- the pair of a slot's word, where it refers into another region
-abbrev pub pair_at : Shape → ℕ → ℕ → List (ℕ × ℕ)
+abbrev pub pair_at : RaceShape → ℕ → ℕ → List (ℕ × ℕ)
 pair_at heap slot word =
     if crosses heap slot word then (slot_card heap slot, region_at heap word) ∷ [] else []
 
@@ -124,7 +124,7 @@ read view slot word =
     }
 
 -- those of the pairs whose bit isn't set in the word
-abbrev pub unset : Shape → ℕ → List (ℕ × ℕ) → List (ℕ × ℕ)
+abbrev pub unset : RaceShape → ℕ → List (ℕ × ℕ) → List (ℕ × ℕ)
 unset heap word [] = []
 unset heap word (pair ∷ pairs) =
     if bit_at word (bit_place heap pair) == 1 then unset heap word pairs
@@ -148,6 +148,10 @@ new_racer view = blank (start_of view) 1 ((view.spare - 1, []) ∷ [])
 
 abbrev pub new_sweeper : View → View
 new_sweeper view = blank (start_of view) 1 []
+
+-- a reader of a pause, which shares what the pause's own seat knows
+abbrev pub new_reader : View → View
+new_reader view = frozen_seat (start_of view) 1
 
 -- what two seats at rest know, together; the second one has weight, so its beginning is the race's
 abbrev pub both : View → View → View

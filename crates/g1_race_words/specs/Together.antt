@@ -4,8 +4,8 @@ use Rattle.std.specs.Prelude.{◌≡◌, ◌≢◌, ◌⊎◌, ◌↔◌, ◌<�
 use Rattle.g1_race_words.specs.Prelude.{ℕ, List, [], slice_set, Some, some, get_elem?}
 use Rattle.g1_race_words.specs.declared.view.View.{View}
 use Rattle.g1_race_words.specs.Rule.{AtRest, In, IsBlank}
-use Rattle.g1_race_words.specs.Steps.{both, after_split, new_racer, new_sweeper, no_seat}
-use Rattle.g1_race_words.specs.Readers.{new_reader}
+use Rattle.g1_race_words.specs.Steps.{both, after_split, new_racer, new_reader, new_sweeper}
+use Rattle.g1_race_words.specs.Steps.{no_seat}
 
 -- a seat comes, which answers for nothing
 abbrev pub Comes : List View → List View → Type 0

@@ -39,4 +39,4 @@ mod table;
 mod view;
 
 pub use table::{RaceSeat, RaceTable};
-pub use view::{Shape, View};
+pub use view::{RaceShape, View};

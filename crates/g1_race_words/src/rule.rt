@@ -1,11 +1,11 @@
 //! The rule of the race.
-use crate::view::{Shape, View};
+use crate::view::{RaceShape, View};
 use atomic_table::TableRule;
 
 /// The rule that the words and the views keep (`Going` in `specs/Rule.antt`).
 pub struct RaceRule;
 
-impl TableRule<(), View, Shape> for RaceRule {
+impl TableRule<(), View, RaceShape> for RaceRule {
     ghost use Rattle.g1_race_words.specs.Rule.{Going, null_of};
     ghost use Rattle.g1_race_words.specs.Steps.{frozen_seat};
 

@@ -2,8 +2,8 @@
 ghost use Rattle.std.specs.Prelude.{◌≡◌, ◌<◌};
 ghost use Rattle.g1_race_words.specs.Prelude.{[], some, get_elem?};
 ghost use Rattle.g1_race_words.specs.Rule.{word_count};
-ghost use Rattle.g1_race_words.specs.Steps.{after_split};
-ghost use Rattle.g1_race_words.specs.Readers.{IsLent, IsReading, new_reader};
+ghost use Rattle.g1_race_words.specs.Seats.{IsAtPause};
+ghost use Rattle.g1_race_words.specs.Steps.{after_split, new_reader};
 
 use crate::table::{RaceSeat, RaceTable};
 use crate::view::View;
@@ -12,8 +12,7 @@ use atomic_table::{Play, Split};
 pub(crate) struct NewReader;
 
 impl Split<View> for NewReader {
-    ghost use Rattle.g1_race_words.specs.Steps.{after_split};
-    ghost use Rattle.g1_race_words.specs.Readers.{new_reader};
+    ghost use Rattle.g1_race_words.specs.Steps.{after_split, new_reader};
 
     ghost left = { after_split };
 
@@ -34,7 +33,7 @@ impl RaceTable {
     /// Splits a reader's seat off the seat of a pause. No word can change until all readers have
     /// joined that seat again.
     pub fn split_reader(&self, pause_seat: &mut RaceSeat) -> RaceSeat
-        requires whole { IsLent self.now.table_id self.now.shape pause_seat.old }
+        requires whole { IsAtPause self.now.table_id self.now.shape pause_seat.old }
         requires weight { 0 < pause_seat.old.me.0.weight }
         ensures table { pause_seat.new.table_id ≡ pause_seat.old.table_id }
         ensures left { pause_seat.new.me ≡ (after_split pause_seat.old.me.0, pause_seat.old.me.1) }
@@ -51,7 +50,8 @@ impl RaceTable {
 
     /// Reads a word at a pause, and returns it. It is the word that the seat knows.
     pub fn see(&self, seat: &mut RaceSeat, word: usize) -> u64
-        requires seat { IsReading self.now.table_id self.now.shape seat.old }
+        requires seat { IsAtPause self.now.table_id self.now.shape seat.old }
+        requires weight { 0 < seat.old.me.0.weight }
         requires word { word < word_count self.now.shape }
         ensures word { get_elem? seat.old.me.0.began_words word ≡ some result }
         ensures seat { (seat.new.table_id ≡ seat.old.table_id) × (seat.new.me ≡ seat.old.me) }

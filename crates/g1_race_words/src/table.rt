@@ -8,7 +8,7 @@ ghost use Rattle.g1_race_words.specs.Seats.{IsPaused};
 
 use crate::address::words_of;
 use crate::rule::RaceRule;
-use crate::view::{Shape, View};
+use crate::view::{RaceShape, View};
 use atomic_table::{Closed, Seat, Table};
 use std::alloc::{AllocError, Global};
 use std::marker::Model;
@@ -19,7 +19,7 @@ use std::marker::Model;
 /// Its model has the identity of the table, the shape of its heap, and the address of the words.
 #[derive(Drop)]
 pub struct RaceTable {
-    pub(crate) table: Table<(), View, Shape, RaceRule, Global>,
+    pub(crate) table: Table<(), View, RaceShape, RaceRule, Global>,
 }
 
 impl Model for RaceTable {
@@ -66,7 +66,7 @@ impl RaceTable {
     /// Takes 8 bytes a word, twice while it begins. Returns `AllocError` if memory was refused:
     /// nothing is left of the table.
     #[tactic(auto, using(crate::proofs::going_first, crate::proofs::null_begun))]
-    pub fn open(alloc: Global, shape: Shape) -> Result<(RaceTable, RaceSeat), AllocError>
+    pub fn open(alloc: Global, shape: RaceShape) -> Result<(RaceTable, RaceSeat), AllocError>
         requires shape { IsWholeShape shape }
         requires members { 0 < shape.members }
         ensures shape { IfOk result (λ r. r.0.shape ≡ shape) }

@@ -1,6 +1,6 @@
 -- The calls of a command, and the line of what they answer.
 use Rattle.std.specs.Prelude.{◌||◌, if◌then◌else◌, ◌∷◌, ◌≡◌, ◌≢◌, ◌≤◌, ◌⊎◌}
-use Rattle.g1_replay.specs.{ap, sum_by, ◌∙◌, flat_map, All-head, All-tail, Kind, Logged, Fill, No, Entry, IsOwnFill, IsRefinementBy, counts_in, is_any_short, ℕ, List, [], Option, Some, None, true, false, inl, inr, refl, subst, sym, length, map, arith, Bool, Result, Ok, Err, IsSome, All, All-nil, All-cons, length-map, Appends, Full, Helped, StoreReply, RefineReply, Reply, store_entry, refine_entry, State, FlushReply, Refusal, History, CallMade, Stored, Refined, AreCalls, Grows, IsBookCall, Help, IsStored, help_calls, store_answer, flush_answer, nothing_flushed, filled, called, IsRound, Turn, round_calls, replies_of, round_size, Command, AppendsFront, store_text, refine_text, work_text, call_line, Stop, WriteFailed, played_one, HasPlayed, IsCallRefused, IsDone, IsBookFull, Does, stop_of, flush_text, plain_piece, IsOfBuffer, IsOfNone, IsLineOf}
+use Rattle.g1_replay.specs.{ap, sum_by, ◌∙◌, flat_map, All-head, All-tail, Kind, Logged, Fill, No, Entry, IsOwnFill, IsRefinementBy, counts_in, is_any_short, ℕ, List, [], Option, Some, None, true, false, inl, inr, refl, subst, sym, length, map, arith, Bool, Result, Ok, Err, IsSome, All, All-nil, All-cons, length-map, Appends, Full, Helped, StoreReply, RefineReply, Reply, store_entry, refine_entry, State, FlushReply, Refusal, History, CallMade, Stored, Refined, AreCalls, Grows, IsBookCall, Help, IsStored, help_calls, store_answer, flush_answer, nothing_flushed, filled, called, IsRound, Turn, round_calls, replies_of, round_size, Command, AppendsFront, store_text, refine_text, work_text, call_line, Stop, WriteFailed, played_one, HasPlayed, IsPlayRefused, IsDone, IsBookFull, Does, stop_of, flush_text, plain_piece, IsOfBuffer, IsOfNone, IsLineOf, IsErrAnd, err_from_is_err_and, more_may_come}
 use Rattle.g1_core.specs.declared.entry.Call.{Call}
 use Rattle.g1_core.specs.Refinement.{IsRefined}
 use Rattle.g1_log.specs.declared.parcel.Parcel.{Parcel}
@@ -140,7 +140,7 @@ pub call_says : (old new : History) (call : Call) (reply : Reply) → MadeAsked 
 call_says old new call reply p = let e = asked_entry 0 call reply p.0 in (plain_piece (e ∷ []), grows_entered old e new p.1.entered, record { piece = (refl, refl); line = refl }, tt)
 
 -- a call that was refused left the book, and its history was full if that is why
-pub call_refused : (old new : History) (refusal : Refusal) → new ≡ old → (refusal ≡ BookFull → length old.entries ≡ old.limit) → IsCallRefused old new refusal
+pub call_refused : (old new : History) (refusal : Refusal) → new ≡ old → (refusal ≡ BookFull → length old.entries ≡ old.limit) → IsPlayRefused old new refusal
 call_refused old new NoMemory same full = subst (λ (b : History). Grows old [] b) (sym same) (grows_none old)
 call_refused old new BookFull same full = subst (λ (b : History). Grows old [] b × IsBookFull b) (sym same) (grows_none old, full refl)
 
@@ -159,10 +159,16 @@ module _ {S : Type 0} (book_of : S → History) where
   pub does_answer : (old new : S) (c : Command) (text : List ℕ) (out out' : Option (List ℕ)) → IsDone (λ (t : List ℕ). t) (book_of old) (book_of new) c text → Appends out out' text → PlaysBook c old new out out' (Ok true)
   does_answer old new c text out out' p w = one_done _ _ old new c text out out' (Ok true) (played_by (book_of old) (book_of new) c text p) refl (λ e. cc) w
 
-  pub does_front : (old new : S) (c : Command) (text : List ℕ) (out out' : Option (List ℕ)) → IsDone (λ (t : List ℕ). t) (book_of old) (book_of new) c text → AppendsFront out out' text → PlaysBook c old new out out' (Err WriteFailed)
-  does_front old new c text out out' p w = one_done _ _ old new c text out out' (Err WriteFailed) (played_by (book_of old) (book_of new) c text p) refl (λ e. cc) w
+  pub does_front : (old new : S) (c : Command) (text : List ℕ) (out out' : Option (List ℕ)) (r : Result (Unit {0}) Stop) → IsErrAnd r (λ stop. stop ≡ WriteFailed) → IsDone (λ (t : List ℕ). t) (book_of old) (book_of new) c text → AppendsFront out out' text
+      → PlaysBook c old new out out' (more_may_come r)
+  does_front old new c text out out' r failed p w =
+      let e = err_from_is_err_and r failed in
+      rw (e.1, e.2) (one_done _ _ old new c text out out' (Err WriteFailed) (played_by (book_of old) (book_of new) c text p) refl (λ e. cc) w)
 
   -- a command that was refused
-  pub does_refused : (old new : S) (c : Command) (refusal : Refusal) (out : Option (List ℕ)) → IsCallRefused (book_of old) (book_of new) refusal → PlaysBook c old new out out (Err (stop_of refusal))
-  does_refused old new c NoMemory out p = one_undone _ _ old new c out (Err (stop_of NoMemory)) (nothing_played (book_of old) (book_of new) p) (omega arith) (λ e. cc)
-  does_refused old new c BookFull out p = one_undone _ _ old new c out (Err (stop_of BookFull)) (nothing_played (book_of old) (book_of new) p.0) (c, refl) (λ e. p.1)
+  stops_at : (old new : S) (c : Command) (refusal : Refusal) (out : Option (List ℕ)) → IsPlayRefused (book_of old) (book_of new) refusal → PlaysBook c old new out out (Err (stop_of refusal))
+  stops_at old new c NoMemory out p = one_undone _ _ old new c out (Err (stop_of NoMemory)) (nothing_played (book_of old) (book_of new) p) (omega arith) (λ e. cc)
+  stops_at old new c BookFull out p = one_undone _ _ old new c out (Err (stop_of BookFull)) (nothing_played (book_of old) (book_of new) p.0) (c, refl) (λ e. p.1)
+
+  pub does_refused : (old new : S) (c : Command) (refusal : Refusal) (out : Option (List ℕ)) (r : Result (Unit {0}) Stop) → IsErrAnd r (λ stop. stop ≡ stop_of refusal) → IsPlayRefused (book_of old) (book_of new) refusal → PlaysBook c old new out out (more_may_come r)
+  does_refused old new c refusal out r refused p = let e = err_from_is_err_and r refused in rw (e.1, e.2) (stops_at old new c refusal out p)

@@ -1,14 +1,11 @@
 -- What the jobs of a crew came to, by their outcomes and by the callers that are left.
 use Rattle.std.specs.Prelude.{◌≡◌, ◌+◌, ◌<◌, ◌∷◌}
-use Rattle.g1_replay.specs.{ℕ, zero, suc, List, [], length, map, get_or, refl, sym, subst, ap, ◌∙◌, arith, Option, Some, None, Result, Ok, Err, count_by, sum_by, All, AllZip, get_or-map, length-map, length_all_zip, sum_by-cons, Refusal, Ask, asks_in, is_store_ask, Ran, Script, Step, Job, CallerCounts, CallerState, IsScriptAt, first_refusal, JobEnd, asked_by, stored_by, HasCome}
+use Rattle.g1_replay.specs.{ℕ, zero, suc, List, [], length, map, get_or, refl, sym, subst, ap, ◌∙◌, arith, Option, Some, None, Result, Ok, Err, count_by, sum_by, All, AllZip, get_or-map, length-map, length_all_zip, sum_by-cons, Refusal, Ask, asks_in, is_store_ask, JobRan, Ran, Script, Step, Job, CallerCounts, CallerState, IsScriptAt, first_refusal, JobEnd, asked_by, stored_by, HasCome}
 use Rattle.g1_shared.specs.Did.{DeskDid}
 
 -- calls at a desk of a shared book
 abbrev DidAt : {X : Type 0} → (X → ℕ) → (X → CallerState) → X → List Ask → X → Type 0
 DidAt limit stood s asks t = DeskDid (limit s) (stood s) asks (limit t) (stood t)
-
-abbrev HasRun : {X : Type 0} → (X → ℕ) → (X → CallerState) → Job X → Job X → Type 0
-HasRun limit stood a b = (b.script ≡ a.script) × Ran (DidAt limit stood) (asks_in a.script) a.desk b.outcome b.desk
 
 abbrev end_of : {X : Type 0} → Job X → JobEnd
 end_of job = record { script = job.script; outcome = job.outcome }
@@ -20,7 +17,7 @@ one_stores limit stood script (Some (Err refused)) d e h = h.1.1.stored
 one_stores limit stood script None d e h = absurd h
 
 -- each caller has as many stores more as its job asked for
-all_store : {X : Type 0} (limit : X → ℕ) (stood : X → CallerState) (begun done : List (Job X)) → AllZip (HasRun limit stood) begun done
+all_store : {X : Type 0} (limit : X → ℕ) (stood : X → CallerState) (begun done : List (Job X)) → AllZip (JobRan (DidAt limit stood)) begun done
     → sum_by (λ (c : CallerState). c.counts.stored) (map (λ (j : Job X). stood j.desk) done) ≡ sum_by (λ (c : CallerState). c.counts.stored) (map (λ (j : Job X). stood j.desk) begun) + sum_by stored_by (map end_of done)
 all_store limit stood [] [] h = refl
 all_store {X} limit stood (a ∷ begun) (b ∷ done) h =
@@ -40,7 +37,7 @@ none_stored (c ∷ callers) none =
     omega (arith, first, rest, sum_by-cons (λ (c : CallerState). c.counts.stored) c callers)
 
 -- what holds of the scripts that were begun holds of those that came back
-each_script : {X : Type 0} (limit : X → ℕ) (stood : X → CallerState) (P : ℕ → Script → Type 0) (begun done : List (Job X)) → AllZip (HasRun limit stood) begun done
+each_script : {X : Type 0} (limit : X → ℕ) (stood : X → CallerState) (P : ℕ → Script → Type 0) (begun done : List (Job X)) → AllZip (JobRan (DidAt limit stood)) begun done
     → ((k : ℕ) (d : Job X) → k < length begun → P k (get_or begun k d).script) → (k : ℕ) (d : JobEnd) → k < length (map end_of done) → P k (get_or (map end_of done) k d).script
 each_script limit stood P [] [] h all k d lt = absurd (omega (arith, lt))
 each_script limit stood P [] (b ∷ done) h all k d lt = absurd h
@@ -55,7 +52,7 @@ outcomes_of (b ∷ done) = ap (λ os. b.outcome ∷ os) (outcomes_of done)
 
 -- The jobs of callers that have made no call came back.
 pub has_come : {X E : Type 0} (limit : X → ℕ) (stood : X → CallerState) (steps : E → List Step) (rounds count : ℕ) (asked : List E) (refused : Option Refusal) (stored : ℕ) (callers after : List CallerState) (begun done : List (Job X))
-    → AllZip (HasRun limit stood) begun done → All (λ (j : Job X). IsScriptAt steps rounds asked (stood j.desk).counts.number j.script) begun
+    → AllZip (JobRan (DidAt limit stood)) begun done → All (λ (j : Job X). IsScriptAt steps rounds asked (stood j.desk).counts.number j.script) begun
     → map (λ (j : Job X). stood j.desk) begun ≡ callers → length callers ≡ count
     → ((k : ℕ) (d : CallerState) → k < length callers → (get_or callers k d).counts ≡ record { number = k; made = 0; stored = 0 })
     → refused ≡ first_refusal (map (λ (j : Job X). j.outcome) done) → after ≡ map (λ (j : Job X). stood j.desk) done
@@ -63,7 +60,7 @@ pub has_come : {X E : Type 0} (limit : X → ℕ) (stood : X → CallerState) (s
 has_come {X} {E} limit stood steps rounds count asked refused stored callers after begun done ran scripts at many new first left are =
     let stand : Job X → CallerState = λ j. stood j.desk in
     let n = length-map begun stand in
-    let zip = length_all_zip (HasRun limit stood) begun done ran in
+    let zip = length_all_zip (JobRan (DidAt limit stood)) begun done ran in
     let called = ap (λ (l : List CallerState). length l) at in
     let number : (k : ℕ) (d : Job X) → k < length begun → (stand (get_or begun k d)).counts.number ≡ k =
     λ k d lt. ap (λ (c : CallerState). c.counts.number) (sym (get_or-map stand begun k d (stand d) lt) ∙ ap (λ (l : List CallerState). get_or l k (stand d)) at) ∙ ap (λ (t : CallerCounts). t.number) (new k (stand d) (omega (arith, lt, n, called))) in

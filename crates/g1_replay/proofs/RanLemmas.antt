@@ -1,14 +1,14 @@
 -- What the jobs of a crew come to, by its book.
 use Rattle.std.specs.Prelude.{◌≡◌, ◌≢◌, ◌≤◌, ◌++◌}
-use Rattle.g1_replay.specs.{ℕ, List, [], length, refl, sym, subst, ap, ◌∙◌, append-nil, Option, inl, inr, arith, Result, Ok, Err, IfErr, count_by, Shape, opening, Entry, IsPermitted, is_store, History, IsHistory, Terms, layout_in, AppendsFront, stores_text, front_more, puts_none, puts_then, Stop, BookFull, NoThread, WriteFailed, CrewRan, drains, HasDrained, played_none, entries_of, HasPlayed, IsBookFull, MayStop, Writes, written_by, IsRunEnd, IsUnstarted, Appends}
+use Rattle.g1_replay.specs.{ℕ, List, [], length, refl, sym, subst, ap, ◌∙◌, append-nil, Option, inl, inr, arith, Result, Ok, Err, IfErr, count_by, Shape, opening, Entry, IsPermitted, is_store, History, IsHistory, BookTerms, layout_in, AppendsFront, stores_text, front_more, puts_none, puts_then, Stop, BookFull, NoThread, WriteFailed, CrewRan, drains, HasDrained, played_none, entries_of, HasPlayed, IsBookFull, MayStop, Writes, written_by, IsRunEnd, IsUnstarted, Appends}
 
 -- a book with drains behind it is a run, and its text counts the stores in front of them
 ran_book : (old new : History) (k : ℕ) (r : Result (Unit {0}) Stop) (text : List ℕ) → HasPlayed old (drains k) text new → IsHistory new → IsRunEnd r → r ≢ Err NoThread → (r ≡ Err BookFull → IsBookFull new) → (r ≡ Ok tt → k ≡ (layout_in old).regions)
     → CrewRan (layout_in old) old.limit r (stores_text (count_by is_store old.entries) ++ text)
 ran_book old new k r text p h ends alone full all =
     let es : new.entries ≡ old.entries ++ entries_of p.pieces = p.grows.entries in
-    let most : new.limit ≡ old.limit = ap (λ (t : Terms). t.limit) p.grows.terms in
-    let shape : layout_in new ≡ layout_in old = ap (λ (t : Terms). t.layout) p.grows.terms in
+    let most : new.limit ≡ old.limit = ap (λ (t : BookTerms). t.limit) p.grows.terms in
+    let shape : layout_in new ≡ layout_in old = ap (λ (t : BookTerms). t.layout) p.grows.terms in
     record {
       entries = old.entries;
       drained = k;

@@ -1,6 +1,6 @@
 -- What the members of a race have stored once its jobs were run.
 use Rattle.std.specs.Prelude.{◌≡◌, ◌<◌, ◌≤◌, ◌+◌, ◌∷◌}
-use Rattle.g1_replay.specs.{ℕ, suc, List, [], length, map, ap, sym, subst, ◌∙◌, refl, arith, nat_lt, true, false, append-nil, Option, Some, None, inl, inr, Bool, Result, Ok, Err, All, sum_by, filter_map, AllZip, option_or, true≢false, false≢true, le-ltb, lt-ltb, All-nil, All-cons, All-push, sum_by-cons, Shape, slot_count, Line, View, StoreHistory, In, histories_of, Among, racer_view, Job, Script, Mutate, Refine, Refusal, Step, Ask, ScriptFits, StepFits, asks_in, asks_of, Ran, Command, IsCommandOf, Member, Racing, Sweeping, IsMemberOf, MemberDid, histories_after, is_racer, member_rights, AllFrom, IsRaceJob, IsRaceScript, racer_in, first_refusal, refusal_in}
+use Rattle.g1_replay.specs.{ℕ, suc, List, [], length, map, ap, sym, subst, ◌∙◌, refl, arith, nat_lt, true, false, append-nil, Option, Some, None, inl, inr, Bool, Result, Ok, Err, All, sum_by, filter_map, AllZip, option_or, true≢false, false≢true, le-ltb, lt-ltb, All-nil, All-cons, All-push, sum_by-cons, Shape, slot_count, Line, View, StoreHistory, In, histories_of, Among, racer_view, Job, Script, Mutate, Refine, Refusal, Step, Ask, ScriptFits, StepFits, asks_in, asks_of, JobRan, Ran, Command, IsCommandOf, Member, Racing, Sweeping, IsMemberOf, MemberDid, histories_after, is_racer, member_rights, AllFrom, IsRaceJob, IsRaceScript, racer_in, first_refusal, refusal_in}
 use native.Mathlib.Decide.{ℕ_discrete}
 use Rattle.std.proofs.lemmas.List.{nil_from_length}
 use Rattle.g1_race.specs.declared.race.Race.{Race}
@@ -56,9 +56,6 @@ module _ {D : Type 0} (member : D → Member) where
   abbrev pub Did : D → List Ask → D → Type 0
   Did d asks e = MemberDid (member d) asks (member e)
 
-  abbrev pub RanJob : Job D → Job D → Type 0
-  RanJob a b = (b.script ≡ a.script) × Ran Did (asks_in a.script) a.desk b.outcome b.desk
-
   -- a job that was not refused made all its calls
   did_all : (asks : List Ask) (d e : D) (o : Option (Result ℕ (ℕ × Refusal))) → refusal_in o ≡ None → Ran Did asks d o e → Did d asks e
   did_all asks d e (Some (Ok made)) n h = h.1
@@ -73,7 +70,7 @@ module _ {D : Type 0} (member : D → Member) where
     pub len : length (map (λ job. member job.desk) ds) ≡ length (map (λ job. member job.desk) js)
 
   module _ (race : Race) (line : Line) (mutators rounds : ℕ) (commands : List Command) where
-    pub are_run : (k : ℕ) (js ds : List (Job D)) → AllFrom (λ i job. IsRaceJob race line mutators rounds commands i (member job.desk) job.script) k js → AllZip RanJob js ds → first_refusal (map (λ job. job.outcome) ds) ≡ None → AreRun race line mutators commands k js ds
+    pub are_run : (k : ℕ) (js ds : List (Job D)) → AllFrom (λ i job. IsRaceJob race line mutators rounds commands i (member job.desk) job.script) k js → AllZip (JobRan Did) js ds → first_refusal (map (λ job. job.outcome) ds) ≡ None → AreRun race line mutators commands k js ds
     are_run k [] [] all r none = record { run = tt; of = All-nil (IsMemberOf race line); rights = refl; len = refl }
     are_run k (x ∷ xs) (y ∷ ys) all r none =
         let first = none_first (refusal_in y.outcome) (first_refusal (map (λ job. job.outcome) ys)) none in

@@ -1,6 +1,6 @@
 -- From what was read and played to the text of a permitted run.
 use Rattle.std.specs.Prelude.{◌≡◌, ◌≢◌, ◌≤◌, ◌++◌, ◌⊎◌}
-use Rattle.g1_replay.specs.{Bool, ℕ, List, [], refl, length, sym, ap, ◌∙◌, subst, arith, Option, Some, None, true, Result, Ok, Err, IfErr, IfSome, IfNone, Shape, Settings, opening, Entry, IsPermitted, History, IsHistory, Terms, layout_in, Command, Dialect, Options, Stop, Fault, NoMemory, BookFull, NoThread, Told, WritesSome, written_by, puts_none, ⊎_elim, end_met, AreSetBy, entries_of, IsOpened, IsBookFull, HasPlayed, Follows, MayStop, Writes, IsReadStop, Reads}
+use Rattle.g1_replay.specs.{Bool, ℕ, List, [], refl, length, sym, ap, ◌∙◌, subst, arith, Option, Some, None, true, Result, Ok, Err, IfErr, IfSome, IfNone, Shape, Settings, opening, Entry, IsPermitted, History, IsHistory, BookTerms, layout_in, Command, Dialect, Options, Stop, Fault, NoMemory, BookFull, NoThread, Told, WritesSome, written_by, puts_none, ⊎_elim, end_met, AreSetBy, entries_of, IsOpened, IsBookFull, HasPlayed, Follows, MayStop, Writes, IsReadStop, Reads}
 use Rattle.g1_replay.proofs.PlayingLemmas.{none_undone}
 use Rattle.g1_replay.proofs.ReadingLemmas.{reads_then}
 
@@ -62,8 +62,8 @@ pub played_told : {S : Type 0} (book_of : S → History) (d : Dialect) (o : Opti
 played_told book_of d o n n1 n' l old new rd rd1 rd' out out' r is head f stops h =
     let p = f.done.made in
     let es : (book_of new).entries ≡ entries_of p.pieces = p.grows.entries ∙ ap (λ (h : History). h.entries ++ entries_of p.pieces) is in
-    let most : (book_of new).limit ≡ o.history = ap (λ (t : Terms). t.limit) p.grows.terms ∙ ap (λ (h : History). h.limit) is in
-    let shape : layout_in (book_of new) ≡ l = ap (λ (t : Terms). t.layout) p.grows.terms ∙ ap layout_in is in (
+    let most : (book_of new).limit ≡ o.history = ap (λ (t : BookTerms). t.limit) p.grows.terms ∙ ap (λ (h : History). h.limit) is in
+    let shape : layout_in (book_of new) ≡ l = ap (λ (t : BookTerms). t.layout) p.grows.terms ∙ ap layout_in is in (
       f.done.text,
       record {
         heap = Some l;

@@ -41,8 +41,3 @@ core_drained_then a b c cs ds xs ys p q = record {
       ∙ sym (flat_map-append drain_text p.answers q.answers);
   heap = q.heap ∙ p.heap;
 }
-
--- the heap stays
-pub core_drained_in : (a b : Machine) (cs : List Command) (xs : List ℕ) → CoreDrained a cs xs b
-    → b.state.table.layout ≡ a.state.table.layout
-core_drained_in a b cs xs p = p.heap

@@ -6,7 +6,7 @@ use Rattle.g1_replay.specs.declared.stop.Stop.{Stop}
 use Rattle.g1_replay.specs.declared.stop.Stop.TheVariants.{BookFull, NoThread}
 use Rattle.g1_replay.specs.Drains.{drains}
 use Rattle.g1_replay.specs.Pieces.{Piece, Walks, lines_of, entries_of}
-use Rattle.g1_replay.specs.Scripted.{IsRunEnd, Outcome}
+use Rattle.g1_replay.specs.Scripted.{IsRunEnd, ScriptEnd}
 
 -- Nothing was drained or written, since something stopped the crew; or how many stores a run has
 -- was, and the lines of the drains behind it.
@@ -34,5 +34,5 @@ pub record CrewRan (l : Shape) (history : ℕ) (r : Result (Unit {0}) Stop)
   pub said : IsCrewText entries (drains drained) pieces r text
 
 -- what the scripts of a crew come to
-abbrev pub CrewRuns : ℕ → Outcome
+abbrev pub CrewRuns : ℕ → ScriptEnd
 CrewRuns history l commands r text = CrewRan l history r text

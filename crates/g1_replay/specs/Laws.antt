@@ -1,8 +1,8 @@
 -- Pieces behind pieces, and plays that follow each other.
 use Rattle.std.specs.Prelude.{◌≡◌, ◌∷◌, ◌++◌}
 use Rattle.g1_replay.specs.Prelude.{ℕ, List, [], refl, sym, ◌∙◌, ap, subst, append_assoc}
-use Rattle.g1_replay.specs.Prelude.{append-nil, flat_map-append, Settings, Entry, History, Terms}
-use Rattle.g1_replay.specs.Prelude.{layout_in, Grows, grows_none, grows_then, Command}
+use Rattle.g1_replay.specs.Prelude.{append-nil, flat_map-append, Settings, Entry, History}
+use Rattle.g1_replay.specs.Prelude.{BookTerms, layout_in, Grows, grows_none, grows_then, Command}
 use Rattle.g1_replay.specs.Playing.{HasPlayed}
 use Rattle.g1_replay.specs.Pieces.{Piece, IsPieceOf, IsSetBy, AreSetBy, Walks, line_of, lines_of}
 use Rattle.g1_replay.specs.Pieces.{entries_of}
@@ -36,7 +36,7 @@ played_then a b c cs ds xs ys p q = record {
   pieces = p.pieces ++ q.pieces;
   walked = walks_then cs ds p.pieces q.pieces p.walked q.walked;
   set = set_then a.machine.settings cs ds p.pieces q.pieces p.walked p.set
-      (subst (λ (t : Terms). AreSetBy t.settings ds q.pieces) p.grows.terms q.set);
+      (subst (λ (t : BookTerms). AreSetBy t.settings ds q.pieces) p.grows.terms q.set);
   grows = subst (λ (es : List Entry). Grows a es c)
       (sym (flat_map-append (λ (x : Piece). x.entries) p.pieces q.pieces))
       (grows_then a b c (entries_of p.pieces) (entries_of q.pieces) p.grows q.grows);
@@ -59,4 +59,4 @@ played_one a b c p w s g = record {
 -- the heap stays
 pub played_in : (a b : History) (cs : List Command) (xs : List ℕ) → HasPlayed a cs xs b
     → layout_in b ≡ layout_in a
-played_in a b cs xs p = ap (λ (t : Terms). t.layout) p.grows.terms
+played_in a b cs xs p = ap (λ (t : BookTerms). t.layout) p.grows.terms

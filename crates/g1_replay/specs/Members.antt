@@ -7,12 +7,12 @@ use Rattle.g1_replay.specs.Prelude.{gains_store, word_of, race_id, race_shape, r
 use Rattle.g1_replay.specs.Prelude.{racer_start, racer_view, sweeper_race, sweeper_start, Ask}
 use Rattle.g1_replay.specs.Prelude.{AskStore, AskFlush, AskWork}
 use Rattle.atomic_table.specs.Seated.{TableId}
-use Rattle.g1_race_words.specs.declared.view.Shape.{Shape}
+use Rattle.g1_race_words.specs.declared.view.RaceShape.{RaceShape}
 use Rattle.g1_replay.specs.declared.races.desk.Member.{Member}
 use Rattle.g1_replay.specs.declared.races.desk.Member.TheVariants.{Racing, Sweeping}
 
 -- the race that a member is of
-abbrev pub member_race : Member → TableId × Shape
+abbrev pub member_race : Member → TableId × RaceShape
 member_race (Racing r s) = racer_race r
 member_race (Sweeping w t) = sweeper_race w
 

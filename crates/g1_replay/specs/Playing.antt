@@ -32,9 +32,9 @@ stop_of refusal.NoMemory = NoMemory
 stop_of refusal.BookFull = BookFull
 
 -- A call was refused, and nothing was entered.
-abbrev pub IsCallRefused : History → History → Refusal → Type 0
-IsCallRefused old new refusal.NoMemory = Grows old [] new
-IsCallRefused old new refusal.BookFull = Grows old [] new × IsBookFull new
+abbrev pub IsPlayRefused : History → History → Refusal → Type 0
+IsPlayRefused old new refusal.NoMemory = Grows old [] new
+IsPlayRefused old new refusal.BookFull = Grows old [] new × IsBookFull new
 
 -- The calls of a command were made and entered, and the answer has their text.
 abbrev pub IsDone : {V : Type 0} → (V → List ℕ) → History → History → Command → V → Type 0
@@ -46,7 +46,7 @@ IsDone text old new c answer =
 abbrev pub IsAnswered : {V : Type 0} → (V → List ℕ) → History → History → Command → Result V Refusal
     → Type 0
 IsAnswered text old new c (Ok answer) = IsDone text old new c answer
-IsAnswered text old new c (Err refusal) = IsCallRefused old new refusal
+IsAnswered text old new c (Err refusal) = IsPlayRefused old new refusal
 
 -- The calls of these commands were made and entered, as the settings of the book allow, and this is
 -- their text.

@@ -43,7 +43,8 @@ pub use Rattle.g1_core.specs.declared.reply.Fill.{Fill}
 pub use Rattle.g1_core.specs.declared.reply.Fill.TheVariants.{Full, Helped, No}
 pub use Rattle.g1_core.specs.declared.reply.RefineReply.{RefineReply}
 pub use Rattle.g1_core.specs.declared.reply.StoreReply.{StoreReply}
-pub use Rattle.g1_history.specs.History.{History, IsHistory, layout_in, opened, Terms, terms_of}
+pub use Rattle.g1_history.specs.History.{BookTerms, History, IsHistory, is_store, layout_in, opened}
+pub use Rattle.g1_history.specs.History.{terms_of}
 pub use Rattle.g1_history.specs.declared.refusal.Refusal.{Refusal}
 pub use Rattle.g1_layout.specs.Shape.{card_count, card_of, region_of, region_of_card, Shape}
 pub use Rattle.g1_layout.specs.Shape.{slot_count}
@@ -73,13 +74,12 @@ pub use Rattle.g1_race_words.specs.Rule.{StoreHistory}
 pub use Rattle.g1_race_words.specs.Steps.{gains_store}
 pub use Rattle.g1_race_words.specs.declared.view.View.{View}
 pub use Rattle.g1_shared.specs.Callers.{CallerState, IsCallerOf}
-pub use Rattle.g1_shared.specs.Counts.{CallerCounts, is_store, kept_terms, shared_terms}
+pub use Rattle.g1_shared.specs.Counts.{CallerCounts, kept_terms, shared_terms}
 pub use Rattle.g1_steps.proofs.StepLemmas.{grows_none, grows_then}
 pub use Rattle.g1_steps.specs.Ask.{Ask, AskFlush, asks_in, asks_of, AskStore, AskWork, is_store_ask}
-pub use Rattle.g1_steps.specs.Ask.{ScriptFits, StepFits}
+pub use Rattle.g1_steps.specs.Ask.{JobRan, Ran, ScriptFits, StepFits}
 pub use Rattle.g1_steps.specs.Lent.{Grows, IsBookCall}
 pub use Rattle.g1_steps.specs.Made.{AreCalls, CallMade, Refined, Stored}
-pub use Rattle.g1_steps.specs.Ran.{Ran}
 pub use Rattle.g1_steps.specs.Rounds.{IsRound, replies_of, round_calls, round_size, Turn}
 pub use Rattle.g1_steps.specs.Steps.{called, Empties, filled, flush_answer, Help, help_calls}
 pub use Rattle.g1_steps.specs.Steps.{IsStored, nothing_flushed, PutsBy, store_answer}

@@ -10,7 +10,7 @@ use Rattle.std.specs.FinSet as set
 use Rattle.g1_replay.specs.declared.stop.Stop.{Stop}
 use Rattle.g1_replay.specs.declared.stop.Stop.TheVariants.{BookFull, NoThread}
 use Rattle.g1_replay.specs.Drains.{drains}
-use Rattle.g1_replay.specs.Scripted.{IsRunEnd, Outcome}
+use Rattle.g1_replay.specs.Scripted.{IsRunEnd, ScriptEnd}
 
 abbrev pub is_store_command : Command → Bool
 is_store_command (Store mutator slot target) = true
@@ -90,6 +90,6 @@ IsRaceText l mutators commands r text = ((stop : Stop) × (r ≡ Err stop) × (t
     × (text ≡ stores_text (count_by is_store_command commands) ++ drained_text answers))
 
 -- what racing the scripts of these commands comes to: a race has no book
-abbrev pub RaceRan : ℕ → Outcome
+abbrev pub RaceRan : ℕ → ScriptEnd
 RaceRan mutators l commands r text =
     IsRunEnd r × (r ≢ Err BookFull) × IsRaceText l mutators commands r text

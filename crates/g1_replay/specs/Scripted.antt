@@ -30,11 +30,11 @@ pub record WasUnread (d : Dialect) (n n' : ℕ) (rd rd' : Option (List ℕ))
   pub silent : text ≡ []
 
 -- what the scripts of these commands come to over this heap: how they ended, and what was written
-abbrev pub Outcome : Type 1
-Outcome = Shape → List Command → Result (Unit {0}) Stop → List ℕ → Type 0
+abbrev pub ScriptEnd : Type 1
+ScriptEnd = Shape → List Command → Result (Unit {0}) Stop → List ℕ → Type 0
 
 -- The trace was read to its end, and its scripts were run.
-pub record WasRun (Ran : Outcome) (d : Dialect) (n n' : ℕ) (rd rd' : Option (List ℕ))
+pub record WasRun (Ran : ScriptEnd) (d : Dialect) (n n' : ℕ) (rd rd' : Option (List ℕ))
     (r : Result (Unit {0}) Stop) (text : List ℕ) : Type 0 where
   pub layout : Shape
   pub commands : List Command
@@ -42,13 +42,14 @@ pub record WasRun (Ran : Outcome) (d : Dialect) (n n' : ℕ) (rd rd' : Option (L
   pub ran : Ran layout commands r text
 
 -- what is read and written of such a trace, but for the line of its end
-abbrev pub Scripted : Outcome → Dialect → ℕ → ℕ → Option (List ℕ) → Option (List ℕ)
+abbrev pub Scripted : ScriptEnd → Dialect → ℕ → ℕ → Option (List ℕ) → Option (List ℕ)
     → Result (Unit {0}) Stop → List ℕ → Type 0
 Scripted Ran d n n' rd rd' r text = WasUnread d n n' rd rd' r text ⊎ WasRun Ran d n n' rd rd' r text
 
 -- Such a trace was replayed. The whole output is the text of its scripts that were run, or the line
 -- of the trace's first fault.
-abbrev pub IsScriptReplayed : Outcome → Dialect → (rd rd' out out' : Option (List ℕ)) → End → Type 0
+abbrev pub IsScriptReplayed : ScriptEnd → Dialect → (rd rd' out out' : Option (List ℕ)) → End
+    → Type 0
 IsScriptReplayed Ran d = IsReplayed d (Scripted Ran)
     (λ heap commands text. IfSome heap (λ l. Ran l commands (Ok tt) text)) (λ _ _ text. text ≡ [])
 

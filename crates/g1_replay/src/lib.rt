@@ -14,7 +14,6 @@ mod lines;
 mod races;
 mod runs;
 mod scripts;
-mod status;
 mod stop;
 
 pub use crews::play::crew;

@@ -1,6 +1,6 @@
 -- One call more of a counted book, by one of its callers.
 use Rattle.std.specs.Prelude.{◌≡◌, ◌<◌, ◌≤◌, ◌^◌, ◌↔◌, ◌+◌, ◌∷◌, ◌++◌}
-use Rattle.g1_shared.specs.{ℕ, Bool, true, [], Option, Result, Ok, Err, false, length, count_by, cond, IfOk, OnOk, OnErr, IsSome, sym, ap, ◌∙◌, subst, arith, refl, length-append, Taker, Entry, Shape, IsAsked, Refusal, stores_by, History, Totals, IsKept, IsEnteredBy, IsFull, made_of, stored_of, Mutator, CallerCounts, SharedTerms, AreCounted, AreNone, LeadsTo, kept_terms, shared_terms, one_call, is_store, one_store, CallerState, called_once, count_by-le-length, fold-append, Table, IsStep, IsAllowed, table_after}
+use Rattle.g1_shared.specs.{ℕ, Bool, true, [], Option, Result, Ok, Err, false, length, count_by, cond, IfOk, OnOk, OnErr, IsSome, sym, ap, ◌∙◌, subst, arith, refl, length-append, Taker, Entry, Shape, IsAsked, Refusal, stores_by, History, CallTotals, IsKept, IsEnteredBy, IsFull, made_of, stored_of, Mutator, CallerCounts, SharedTerms, AreCounted, AreNone, LeadsTo, kept_terms, shared_terms, one_call, is_store, one_store, CallerState, called_once, count_by-le-length, fold-append, Table, IsStep, IsAllowed, table_after}
 use Rattle.std.specs.Result.{IsErr}
 use Rattle.g1_core.specs.declared.entry.Call.{Call}
 use Rattle.g1_core.specs.declared.entry.Call.TheVariants.{Store, Refine, Target, Pending, Members, Status, Drain, Clear, Redirect}
@@ -13,11 +13,11 @@ same_counted keeps terms made stored old new was is = subst (AreCounted keeps te
 
 made_more : (keeps : Bool) (old : History) (e : Entry) (new : History) → IsEnteredBy keeps old e new → made_of keeps new.entries new.totals ≡ made_of keeps old.entries old.totals + 1
 made_more true old e new h = ap (length {A = Entry}) h.entries ∙ length-append old.entries (e ∷ [])
-made_more false old e new h = ap (λ (t : Totals). t.made) h.totals
+made_more false old e new h = ap (λ (t : CallTotals). t.made) h.totals
 
 stored_more : (keeps : Bool) (old : History) (e : Entry) (new : History) → IsEnteredBy keeps old e new → stored_of keeps old.entries old.totals + cond (is_store e) 1 0 ≡ stored_of keeps new.entries new.totals
 stored_more true old e new h = stores_more old.entries new.entries e (count_by is_store old.entries) refl h.entries
-stored_more false old e new h = sym (ap (λ (t : Totals). t.stored) h.totals)
+stored_more false old e new h = sym (ap (λ (t : CallTotals). t.stored) h.totals)
 
 -- one call more leads on
 leads_on : (old now new : Table) (made more stored all : ℕ) (e : Entry) → LeadsTo old made stored now → IsStep now e new → more ≡ made + 1 → all ≡ stored + cond (is_store e) 1 0 → LeadsTo old more all new
@@ -33,12 +33,8 @@ plain_none : (n : ℕ) (b : Bool) → b ≡ false → n ≡ n + cond b 1 0
 plain_none n true plain = absurd (cc plain)
 plain_none n false plain = omega arith
 
-store_one : (n : ℕ) (b : Bool) → b ≡ true → n + 1 ≡ n + cond b 1 0
-store_one n true store = refl
-store_one n false store = absurd (cc store)
-
 -- an entered call counts in the total of all, and a store in that of the stores
-entry_counted : (keeps : Bool) (terms : SharedTerms) (made now stored all : ℕ) (old : History) (e : Entry) (new : History) → AreCounted keeps terms made stored old → IsEnteredBy keeps old e new → now ≡ made + 1 → all ≡ stored + cond (is_store e) 1 0 → AreCounted keeps terms now all new
+pub entry_counted : (keeps : Bool) (terms : SharedTerms) (made now stored all : ℕ) (old : History) (e : Entry) (new : History) → AreCounted keeps terms made stored old → IsEnteredBy keeps old e new → now ≡ made + 1 → all ≡ stored + cond (is_store e) 1 0 → AreCounted keeps terms now all new
 entry_counted keeps terms made now stored all old e new was h one count = record {
   calls = one ∙ ap (λ (n : ℕ). n + 1) was.calls ∙ sym (made_more keeps old e new h);
   stores = count ∙ ap (λ (n : ℕ). n + cond (is_store e) 1 0) was.stores ∙ stored_more keeps old e new h;
@@ -61,13 +57,10 @@ asked_plain l (Drain region) asked = refl
 asked_plain l (Clear region) asked = refl
 asked_plain l (Redirect from to) asked = refl
 
-pub store_counted : (keeps : Bool) (terms : SharedTerms) (made now stored all : ℕ) (old : History) (e : Entry) (new : History) → AreCounted keeps terms made stored old → IsEnteredBy keeps old e new → is_store e ≡ true → now ≡ made + 1 → all ≡ stored + 1 → AreCounted keeps terms now all new
-store_counted keeps terms made now stored all old e new was h store one more = entry_counted keeps terms made now stored all old e new was h one (more ∙ store_one stored (is_store e) store)
-
 -- a book without calls is counted by new ledgers
 none_made : (keeps : Bool) (h : History) → AreNone keeps h → (made_of keeps h.entries h.totals ≡ 0) × (stored_of keeps h.entries h.totals ≡ 0)
 none_made true h none = (ap (length {A = Entry}) none, ap (count_by is_store) none)
-none_made false h none = (ap (λ (t : Totals). t.made) none, ap (λ (t : Totals). t.stored) none)
+none_made false h none = (ap (λ (t : CallTotals). t.made) none, ap (λ (t : CallTotals). t.stored) none)
 
 pub none_counted : (keeps : Bool) (terms : SharedTerms) (made stored : ℕ) (h : History) → AreNone keeps h → shared_terms h ≡ terms → made ≡ 0 → stored ≡ 0 → AreCounted keeps terms made stored h
 none_counted keeps terms made stored h none is no_call no_store = record {
@@ -132,4 +125,4 @@ store_of_caller number made stored now all t view one more =
     ap (λ (n : ℕ). record { number = number; made = n; stored = all }) one ∙ ap (λ (n : ℕ). record { number = number; made = made + 1; stored = n }) more ∙ ap one_store view
 
 -- what each counted call needs
-pub ruleset counted_call = (if_refused, on_refused, err_refused, full_as, still_some, same_counted, called, call_counted, total_fits, stored_fits, call_of_caller, store_of_caller, store_counted)
+pub ruleset counted_call = (if_refused, on_refused, err_refused, full_as, still_some, same_counted, called, call_counted, total_fits, stored_fits, call_of_caller, store_of_caller)

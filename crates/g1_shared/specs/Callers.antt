@@ -1,10 +1,11 @@
 -- A caller of a shared book as contracts see it, and what the steps do to it.
-use Rattle.std.specs.Prelude.{◌≡◌, ◌+◌, ◌<◌, ◌≤◌, ◌⊎◌, ◌∷◌, ◌++◌}
+use Rattle.std.specs.Prelude.{◌≡◌, ◌+◌, ◌<◌, ◌≤◌, ◌⊎◌, ◌↔◌, ◌∷◌, ◌++◌}
 use Rattle.g1_shared.specs.Prelude.{ℕ, Bool, true, false, List, [], length, Option, Some, None}
-use Rattle.g1_shared.specs.Prelude.{IfSome, IsSome, Result, OnOk, OnErr, Shape, Line, Taker, Parcel}
-use Rattle.g1_shared.specs.Prelude.{line_home, capacity_of, put_of, taken_of, StoreReply, IsLent}
-use Rattle.g1_shared.specs.Prelude.{RefineReply, No, Full, Helped, Mutator, Refusal, IsRefinement}
-use Rattle.g1_shared.specs.Prelude.{IsRound, round_size, IsNewMutator}
+use Rattle.g1_shared.specs.Prelude.{IfSome, IsSome, IsNone, Result, OnOk, OnErr, Shape, Line, Taker}
+use Rattle.g1_shared.specs.Prelude.{Parcel, line_home, capacity_of, put_of, taken_of, StoreReply}
+use Rattle.g1_shared.specs.Prelude.{IsLent, logged, buffer_of, MayRefuse, RefineReply, No, Full}
+use Rattle.g1_shared.specs.Prelude.{Helped, Mutator, Refusal, IsRefinement, IsRound, round_size}
+use Rattle.g1_shared.specs.Prelude.{IsNewMutator}
 use Rattle.g1_log.specs.declared.buffer.Buffer.{Buffer}
 use Rattle.g1_log.specs.Log.{Cards}
 use Rattle.g1_core.specs.declared.reply.Fill.{Fill}
@@ -30,20 +31,20 @@ abbrev pub puts_in : Option Mutator → List Buffer
 puts_in None = []
 puts_in (Some m) = put_of m.sender
 
-abbrev pub put_list : CallerState → List Buffer
-put_list c = puts_in c.mutator
+abbrev pub puts_by : CallerState → List Buffer
+puts_by c = puts_in c.mutator
 
 -- the list of the parcels that its taker has taken
 abbrev pub taken_list : CallerState → List Parcel
 taken_list c = taken_of c.taker
 
 -- who a caller is, which no call changes
-pub record Mark : Type 0 where
+pub record CallerMark : Type 0 where
   pub number : ℕ
   pub mutator : Option MutatorMark
   pub taker : TakerMark
 
-abbrev pub caller_mark : CallerState → Mark
+abbrev pub caller_mark : CallerState → CallerMark
 caller_mark c = record {
   number = c.counts.number;
   mutator = mutator_mark c.mutator;
@@ -51,7 +52,7 @@ caller_mark c = record {
 }
 
 -- The caller's ends are those of the line.
-abbrev pub IsMarkOf : Line → Mark → Type 0
+abbrev pub IsMarkOf : Line → CallerMark → Type 0
 IsMarkOf line m = IfSome m.mutator (λ s. s.line ≡ line_home line) × (m.taker.line ≡ line_home line)
 
 abbrev pub IsCallerOf : Line → CallerState → Type 0
@@ -65,26 +66,37 @@ IsHelped made refined short now =
 -- What a store of a card does to its caller, by what became of the log.
 abbrev pub IsStoreAt : CallerState → ℕ → Fill → List ℕ → Bool → CallerState → Type 0
 IsStoreAt c card No refined short d =
-    (d.counts.made ≡ c.counts.made + 1) × (put_list d ≡ put_list c) × (refined ≡ [])
+    (d.counts.made ≡ c.counts.made + 1) × (puts_by d ≡ puts_by c) × (refined ≡ [])
     × (short ≡ false)
 IsStoreAt c card Full refined short d =
     (d.counts.made ≡ c.counts.made + 1)
-    × (put_list d ≡ put_list c ++ ((caller_log c).cards ++ card ∷ []) ∷ [])
+    × (puts_by d ≡ puts_by c ++ ((caller_log c).cards ++ card ∷ []) ∷ [])
     × ((caller_log d).cards ≡ []) × (refined ≡ []) × (short ≡ false)
 IsStoreAt c card Helped refined short d =
-    IsHelped (c.counts.made + 1) refined short d.counts.made × (put_list d ≡ put_list c)
+    IsHelped (c.counts.made + 1) refined short d.counts.made × (puts_by d ≡ puts_by c)
     × ((caller_log d).cards ≡ [])
+
+-- A store of this card counts once, and its log goes into the queue where the card fills it, or the
+-- caller refines it where the queue hands it back.
+pub record StoresBy (line : Line) (c : CallerState) (card : ℕ) (reply : StoreReply)
+    (d : CallerState) : Type 0 where
+  pub stored : d.counts.stored ≡ c.counts.stored + 1
+  pub taker : d.taker ≡ c.taker
+  pub log : caller_log d ≡ logged reply.kind (caller_log c) card
+  pub fill : (reply.fill ≡ No) ↔ IsNone (buffer_of reply.kind (caller_log c) card)
+  pub helped : reply.fill ≡ Helped → IfSome c.mutator (λ m. MayRefuse line m.sender)
+  pub made : IsStoreAt c card reply.fill reply.refined reply.short d
 
 -- What a flush does to its caller, by what became of the log.
 abbrev pub IsFlushAt : CallerState → Fill → List ℕ → Bool → CallerState → Type 0
 IsFlushAt c No refined short d =
-    (d.counts ≡ c.counts) × (put_list d ≡ put_list c) × ((caller_log c).cards ≡ []) × (refined ≡ [])
+    (d.counts ≡ c.counts) × (puts_by d ≡ puts_by c) × ((caller_log c).cards ≡ []) × (refined ≡ [])
     × (short ≡ false)
 IsFlushAt c Full refined short d =
-    (d.counts ≡ c.counts) × (put_list d ≡ put_list c ++ (caller_log c).cards ∷ []) × (refined ≡ [])
+    (d.counts ≡ c.counts) × (puts_by d ≡ puts_by c ++ (caller_log c).cards ∷ []) × (refined ≡ [])
     × (short ≡ false)
 IsFlushAt c Helped refined short d =
-    IsHelped c.counts.made refined short d.counts.made × (put_list d ≡ put_list c)
+    IsHelped c.counts.made refined short d.counts.made × (puts_by d ≡ puts_by c)
 
 -- A refinement of a caller: its counts tell of the call, and the reply is one of that buffer.
 abbrev pub IsRefinementAt : Shape → CallerState → RefineReply → CallerState → Type 0
@@ -110,7 +122,7 @@ pub record IsCallerAtPause (c d : CallerState) : Type 0 where
   pub mark : caller_mark d ≡ caller_mark c
   pub counts : d.counts ≡ c.counts
   pub empty : (caller_log d).cards ≡ []
-  pub put : put_list d ≡ put_list c
+  pub put : puts_by d ≡ puts_by c
 
 -- Caller k as it begins, where the first `mutators` callers are mutators.
 pub record IsNewCaller (line : Line) (log mutators k : ℕ) (c : CallerState) : Type 0 where

@@ -2,16 +2,12 @@
 use Rattle.std.specs.Prelude.{◌≡◌, ◌+◌, ◌∷◌, ◌++◌}
 use Rattle.g1_shared.specs.Prelude.{ℕ, Bool, true, false, List, [], refl, sym, length, count_by}
 use Rattle.g1_shared.specs.Prelude.{Shape, Entry, Machine, IsPermitted, table_after, Table, History}
-use Rattle.g1_shared.specs.Prelude.{Terms, made_of, stored_of, terms_of, table_in, layout_in}
+use Rattle.g1_shared.specs.Prelude.{BookTerms, is_store, made_of, stored_of, terms_of, table_in}
+use Rattle.g1_shared.specs.Prelude.{layout_in}
 use Rattle.g1_shared.specs.Prelude.{CallMade, Stored, Refined, Refused, fold, fold-append}
 use Rattle.std.specs.Coded.{Coded, code_by, coded×, coded_ℕ}
 use Rattle.g1_core.specs.declared.config.Settings.{Settings}
-use Rattle.g1_history.specs.History as book
 use Rattle.g1_shared.specs.Answers.{AreAnswersAt}
-
--- whether an entry is that of a store
-abbrev pub is_store : Entry → Bool
-is_store e = book.is_store e
 
 -- On what terms a book is shared: those that it keeps, and the machine that it begins with.
 pub record SharedTerms : Type 0 where
@@ -30,7 +26,7 @@ shared_terms h = record {
   began = h.machine;
 }
 
-abbrev pub kept_terms : SharedTerms → Terms
+abbrev pub kept_terms : SharedTerms → BookTerms
 kept_terms t = record {
   layout = t.layout;
   settings = t.settings;

@@ -4,10 +4,8 @@ pub mod Answers
 pub mod Callers
 pub mod Counts
 pub mod Did
-pub mod Stores
 pub use Prelude.*
 pub use Answers.*
 pub use Callers.*
 pub use Counts.*
 pub use Did.*
-pub use Stores.*

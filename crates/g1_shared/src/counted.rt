@@ -2,7 +2,7 @@
 //! Its calls are in [`calls`](crate::calls).
 ghost use Rattle.std.specs.Prelude.{◌≡◌};
 ghost use Rattle.g1_shared.specs.Prelude.{made_of, stored_of, terms_of, table_in};
-ghost use Rattle.g1_shared.specs.Counts.{AreCounted, LeadsTo, kept_terms};
+ghost use Rattle.g1_shared.specs.Counts.{LeadsTo, kept_terms};
 
 use crate::ledgers::Terms;
 use g1_history::{Book, Keeps, Kept};
@@ -37,17 +37,6 @@ impl<M: Terms, S: Ledger, H: Keeps> Model for Counted<M, S, H> {
 }
 
 impl<M: Terms, S: Ledger, H: Keeps> Counted<M, S, H> {
-    pub(crate) fn new(
-        book: Book<H>,
-        made: ledger::Book<M>,
-        stored: ledger::Book<S>,
-    ) -> Counted<M, S, H>
-        requires counted { AreCounted H.KEEPS M.terms made.total stored.total book }
-        ensures { result ≡ book }
-    {
-        Counted { book, made, stored }
-    }
-
     /// The book, on the terms that the callers know. As many calls as it has made, with as many
     /// stores, led from the machine that it was shared with to its own. Constant time.
     pub fn book(&self) -> &Book<H>

@@ -14,7 +14,7 @@ use crate::lock::Lock;
 use g1_history::{Keeps, Kept, Tallied};
 use g1_log::Line;
 use std::alloc::Global;
-use std::marker::{Model, PhantomData};
+use std::marker::Model;
 use std::sync::ledger::Ledger;
 use std::sync::{MutexGuard, Wait};
 
@@ -30,7 +30,6 @@ pub struct Shared<M: Terms, S: Ledger, H: Keeps = Kept> {
     line: Line,
     alloc: Global,
     start: usize,
-    of: PhantomData<(M, S)>,
 }
 
 /// A core with the totals of its calls under a lock, without a history, and the queue beside it

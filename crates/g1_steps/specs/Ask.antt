@@ -1,6 +1,8 @@
--- What a worker asks of its desk.
+-- What a worker asks of its desk, and what comes of it.
 use Rattle.std.specs.Prelude.{◌≡◌, ◌<◌}
-use Rattle.g1_steps.specs.Prelude.{ℕ, Bool, true, false, List, map, replicate, All, Option, IfSome}
+use Rattle.g1_steps.specs.Prelude.{ℕ, Bool, true, false, List, length, map, replicate, take, All}
+use Rattle.g1_steps.specs.Prelude.{Option, Some, None, IfSome, Result, Ok, Err, Refusal}
+use Rattle.g1_steps.specs.declared.crew.job.Job.{Job}
 use Rattle.g1_steps.specs.declared.crew.desk.Step.{Step}
 use Rattle.g1_steps.specs.declared.crew.desk.Step.TheVariants.{Store, Flush}
 use Rattle.g1_steps.specs.declared.crew.desk.Script.{Script}
@@ -38,3 +40,25 @@ StepFits slots may Flush = may ≡ true
 abbrev pub ScriptFits : ℕ → Bool → Script → Type 0
 ScriptFits slots may (Mutate steps) = All (StepFits slots may) steps.items
 ScriptFits slots may (Refine rounds) = Unit {0}
+
+-- All calls were made; or just those before the one that was refused, of which there are as many as
+-- are told.
+abbrev pub HasAsked : {X : Type 0} → (X → List Ask → X → Type 0) → List Ask → X
+    → Result ℕ (ℕ × Refusal) → X → Type 0
+HasAsked did asks d (Ok made) e = (made ≡ length asks) × did d asks e
+HasAsked did asks d (Err refused) e = (refused.0 < length asks) × did d (take refused.0 asks) e
+
+-- The same of an outcome, which is there.
+abbrev pub Ran : {X : Type 0} → (X → List Ask → X → Type 0) → List Ask → X
+    → Option (Result ℕ (ℕ × Refusal)) → X → Type 0
+Ran did asks d (Some outcome) e = HasAsked did asks d outcome e
+Ran did asks d None e = ⊥
+
+-- A job fits its desk, by how many slots the heap has and whether the caller may store.
+abbrev pub JobFits : {X : Type 0} → (X → ℕ) → (X → Bool) → Job X → Type 0
+JobFits slots may job = ScriptFits (slots job.desk) (may job.desk) job.script
+
+-- A job came back with its script, its outcome, and the desk at which just these calls were made.
+abbrev pub JobRan : {X : Type 0} → (X → List Ask → X → Type 0) → Job X → Job X → Type 0
+JobRan did begun done =
+    (done.script ≡ begun.script) × Ran did (asks_in begun.script) begun.desk done.outcome done.desk

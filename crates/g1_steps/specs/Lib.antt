@@ -5,7 +5,6 @@ pub mod Lent
 pub mod Made
 pub mod Marks
 pub mod Opening
-pub mod Ran
 pub mod Rounds
 pub mod Served
 pub mod Steps
@@ -15,7 +14,6 @@ pub use Lent.*
 pub use Made.*
 pub use Marks.*
 pub use Opening.*
-pub use Ran.*
 pub use Rounds.*
 pub use Served.*
 pub use Steps.*

@@ -1,6 +1,6 @@
 //! The calls of one caller at a borrowed book.
 ghost use Rattle.std.specs.Prelude.{◌≡◌};
-ghost use Rattle.g1_steps.specs.Prelude.{refl, nat_lt, ◌∙◌, ap, subst, Terms, layout_in};
+ghost use Rattle.g1_steps.specs.Prelude.{refl, nat_lt, ◌∙◌, ap, subst, BookTerms, layout_in};
 ghost use Rattle.g1_steps.specs.Made.{AreCalls, calls_then};
 ghost use Rattle.g1_steps.specs.Lent.{IsBookCallBy, book_calls_stay};
 
@@ -73,5 +73,5 @@ impl<H: Keeps> Calls for LentBook<'_, H> {
 
     ghost stays = { λ s t ms h.
         let same = book_calls_stay H.KEEPS s.caller s.book.now t.book.now ms h.2 in
-        (ap (λ (k : Terms). k.layout) same, λ i. nat_lt (h.1 i) (same i).mutators) };
+        (ap (λ (k : BookTerms). k.layout) same, λ i. nat_lt (h.1 i) (same i).mutators) };
 }

@@ -3,8 +3,7 @@
 //! The steps of a caller are written once, over the [`Calls`] that they make: at a borrowed book
 //! ([`LentBook`]), which keeps a history or only counts. A [`Mutator`] stores and flushes.
 //! Completed buffers go through a queue ([`Line`](g1_log::Line)), from which [`refine`] and
-//! [`work`] take them (docs/rules.md, The steps of a caller). [`Ends`] joins a mutator and a
-//! taker with their queue.
+//! [`work`] take them (docs/rules.md, The steps of a caller).
 //!
 //! [`crew`] has workers that run scripts in threads of their own, for the replay of a trace.
 #![tactic(auto)]
@@ -21,4 +20,4 @@ pub use crew::{
 };
 pub use lent_book::LentBook;
 pub use opening::open_line;
-pub use steps::{Ends, FlushReply, Mutator, empty_line, refine, stand_still, work};
+pub use steps::{FlushReply, Mutator, empty_line, refine, stand_still, work};

@@ -3,15 +3,12 @@
 //!
 //! A mutator stores and flushes ([`mutator`]), a refinement thread takes completed buffers
 //! ([`refiner`]), and a pause empties logs and queue ([`standstill`]). A step makes any number of
-//! calls, or none (docs/rules.md, The steps of a caller). The ends of one caller join them
-//! ([`ends`]).
+//! calls, or none (docs/rules.md, The steps of a caller).
 
-mod ends;
 mod mutator;
 mod refiner;
 mod standstill;
 
-pub use ends::Ends;
 pub use mutator::{FlushReply, Mutator};
 pub use refiner::{refine, work};
 pub use standstill::{empty_line, stand_still};

@@ -12,7 +12,7 @@ ghost use Rattle.g1_trace.specs.{read_three, mutator_place, slot_place, card_pla
 ghost use Rattle.g1_trace.specs.{target_place, number_place};
 
 use crate::fault::TraceFault;
-use crate::words::{is, is_blank, one_word, three_words, two_words};
+use crate::words::{is, is_blank, single_word, three_words, two_words};
 use g1_layout::{Card, Layout, Region, Slot};
 
 /// Returns the number, or the largest of 32 bits if it is larger. That is past every limit too.
@@ -112,7 +112,7 @@ pub fn nothing(words: &[u8]) -> Result<(), TraceFault>
 fn one_number(words: &[u8]) -> Result<u64, TraceFault>
     ensures { result ≡ read_one number_place (words_from [] words.now) }
 {
-    match one_word(words) {
+    match single_word(words) {
         Some((_, number)) => number,
         None => Err(TraceFault::Words),
     }

@@ -131,7 +131,7 @@ pub fn split_number(line: &[u8]) -> Option<((&[u8], Result<u64, TraceFault>), &[
 /// Returns the one word of a line with the number that it is, or `None` if the line has another
 /// number of words.
 #[inline(always)]
-pub fn one_word(line: &[u8]) -> Option<(&[u8], Result<u64, TraceFault>)>
+pub fn single_word(line: &[u8]) -> Option<(&[u8], Result<u64, TraceFault>)>
     ensures some { IfSome result (λ w. words_from [] line.now ≡ w.0.now ∷ []) }
     ensures number { IfSome result (λ w. w.1 ≡ read_number w.0.now) }
     ensures none { IsNone result → length (words_from [] line.now) ≢ 1 }
@@ -156,7 +156,7 @@ pub fn two_words(
     ensures none { IsNone result → length (words_from [] line.now) ≢ 2 }
 {
     let (first, rest) = split_number(line)?;
-    let second = one_word(rest)?;
+    let second = single_word(rest)?;
     Some((first, second))
 }
 
@@ -181,7 +181,7 @@ pub fn three_words(
 {
     let (first, rest) = split_number(line)?;
     let (second, rest) = split_number(rest)?;
-    let third = one_word(rest)?;
+    let third = single_word(rest)?;
     Some((first, second, third))
 }
 

@@ -2,25 +2,22 @@
 ghost use Rattle.std.specs.Prelude.{◌≡◌, ◌<◌, ◌≤◌, IsNone};
 ghost use Rattle.g1_history.specs.History.{layout_in};
 
-use crate::list::list_of;
-use crate::meter::{Meter, now};
-use crate::timed::Timed;
+use crate::meter::now;
+use crate::rounds::Rounds;
 use g1_book::Book;
 use g1_core::{Config, Core};
 use g1_layout::{Kind, Layout, NoMemory};
 use g1_log::{Buffer, Log};
-use std::alloc::Global;
 use std::rt::Clock;
 
 /// Goes over the list and stores nothing.
-pub fn walk<R: Clock>(rt: &R, alloc: Global, timed: Timed, meter: &Meter) -> Result<(), NoMemory> {
-    let list = list_of(alloc, timed.layout, timed.target, 0, timed.stores)?;
-    for _ in 0..timed.rounds {
+pub fn walk<R: Clock>(rt: &R, rounds: &Rounds) {
+    let list = rounds.list(0);
+    for _ in 0..rounds.timed.rounds {
         let began = now(rt);
-        let checksum = walk_list(timed.layout, list.as_slice());
-        meter.add(rt, began, Some(checksum));
+        let checksum = walk_list(rounds.timed.layout, list);
+        rounds.meter.add(rt, began, Some(checksum));
     }
-    Ok(())
 }
 
 // The sum of the slots that a place is stored to.
@@ -38,15 +35,15 @@ fn walk_list(layout: Layout, list: &[(u32, u32)]) -> u64 {
 }
 
 /// Makes the stores at a core.
-pub fn core<R: Clock>(rt: &R, alloc: Global, timed: Timed, meter: &Meter) -> Result<(), NoMemory> {
-    let list = list_of(alloc, timed.layout, timed.target, 0, timed.stores)?;
+pub fn core<R: Clock>(rt: &R, rounds: &Rounds) -> Result<(), NoMemory> {
     let config = Config::default();
-    let mut core = Core::new(alloc, timed.layout, config)?;
+    let mut core = Core::new(rounds.alloc, rounds.timed.layout, config)?;
     let mut log = config.new_log();
-    for _ in 0..timed.rounds {
+    let list = rounds.list(0);
+    for _ in 0..rounds.timed.rounds {
         let began = now(rt);
-        let checksum = store_at_core(&mut core, &mut log, list.as_slice());
-        meter.add(rt, began, Some(checksum));
+        let checksum = store_at_core(&mut core, &mut log, list);
+        rounds.meter.add(rt, began, Some(checksum));
     }
     Ok(())
 }
@@ -71,15 +68,15 @@ fn store_at_core(core: &mut Core, log: &mut Log, list: &[(u32, u32)]) -> u64 {
 }
 
 /// Makes the stores at a book, by its one mutator.
-pub fn book<R: Clock>(rt: &R, alloc: Global, timed: Timed, meter: &Meter) -> Result<(), NoMemory> {
-    let list = list_of(alloc, timed.layout, timed.target, 0, timed.stores)?;
+pub fn book<R: Clock>(rt: &R, rounds: &Rounds) -> Result<(), NoMemory> {
     let config = Config::default();
-    let mut book = Book::open(alloc, timed.layout, config, 1, 1_000_000)?;
+    let mut book = Book::open(rounds.alloc, rounds.timed.layout, config, 1, 1_000_000)?;
     let mut log = config.new_log();
-    for _i in 0..timed.rounds {
+    let list = rounds.list(0);
+    for _i in 0..rounds.timed.rounds {
         let began = now(rt);
-        let checksum = store_at_book(&mut book, &mut log, list.as_slice());
-        meter.add(rt, began, checksum);
+        let checksum = store_at_book(&mut book, &mut log, list);
+        rounds.meter.add(rt, began, checksum);
     }
     Ok(())
 }

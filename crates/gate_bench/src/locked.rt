@@ -1,103 +1,79 @@
 //! Stores at a book or a core under a lock, by callers that have each a thread and cards of their
 //! own.
-ghost use Rattle.std.specs.Prelude.{◌≡◌, ℕ, ◌<◌, ◌≤◌, length, slice_index_or};
-ghost use Rattle.g1_shared.specs.Callers.{CallerState, IsCallerOf, IsNewCaller, caller_mark};
+ghost use Rattle.std.specs.Prelude.{◌≡◌, ◌<◌};
+ghost use Rattle.g1_history.specs.History.{layout_in};
+ghost use Rattle.g1_shared.specs.Callers.{IsCallerOf, caller_mark};
 ghost use Rattle.g1_shared.specs.Counts.{AreNone, shared_terms};
 
-use crate::list::{List, lists_of};
-use crate::meter::{Meter, now};
-use crate::timed::{Barrier, Timed};
+use crate::meter::now;
+use crate::rounds::Rounds;
 use g1_book::{Book, Caller, Keeps, Kept, Shared, Tallied, Terms};
 use g1_core::{Config, Core};
 use g1_layout::{Kind, Layout, NoMemory};
-use std::alloc::Global;
 use std::marker::Brand;
 use std::rt::Clock;
 use std::sync::Wait;
 use std::sync::ledger::{Blank, Ledger};
 use std::thread::{self, Threads};
 
-/// Makes the stores by `timed.threads` callers: of a core if unrecorded, or else of a book.
-pub fn lock<R: Threads + Wait + Sync + Clock>(
-    rt: &R,
-    alloc: Global,
-    timed: Timed,
-    meter: &Meter,
-) -> Result<(), NoMemory>
-    requires { (1 ≤ timed.threads) × (timed.threads ≤ 4) }
-{
-    let lists = lists_of(alloc, timed.layout, timed.target, timed.stores)?;
-    let threads = timed.threads;
-    let (made, stored) = (
-        Blank::new(u64::from(threads)),
-        Blank::new(u64::from(threads)),
-    );
-    if timed.barrier == Barrier::Unrecorded {
-        let core = Core::new(alloc, timed.layout, Config::default())?;
-        let book = Book::over(alloc, core, threads, u64::MAX);
-        return share::<Brand, Brand, Tallied, R>(rt, made, stored, book, &lists, timed, meter);
-    }
-    let book = Book::open(alloc, timed.layout, Config::default(), threads, 1_000_000)?;
-    share::<Brand, Brand, Kept, R>(rt, made, stored, book, &lists, timed, meter)
+/// Makes the stores at a book.
+pub fn book<R: Threads + Wait + Sync + Clock>(rt: &R, rounds: &Rounds) -> Result<(), NoMemory> {
+    let (alloc, timed) = (rounds.alloc, rounds.timed);
+    let book = Book::open(
+        alloc,
+        timed.layout,
+        Config::default(),
+        timed.threads,
+        1_000_000,
+    )?;
+    lock(rt, book, rounds)
 }
 
-// The callers of the book, in their threads.
+/// Makes the stores at a core, of which no history is kept.
+pub fn core<R: Threads + Wait + Sync + Clock>(rt: &R, rounds: &Rounds) -> Result<(), NoMemory> {
+    let (alloc, timed) = (rounds.alloc, rounds.timed);
+    let core = Core::new(alloc, timed.layout, Config::default())?;
+    lock(rt, Book::over(alloc, core, timed.threads, u64::MAX), rounds)
+}
+
+// Makes the stores at the book, by as many callers as it has mutators.
+fn lock<H: Keeps + Send, R: Threads + Wait + Sync + Clock>(
+    rt: &R,
+    book: Book<H>,
+    rounds: &Rounds,
+) -> Result<(), NoMemory>
+    requires empty { AreNone H.KEEPS book }
+    requires layout { layout_in book ≡ rounds.now.timed.layout }
+    requires mutators { book.mutators ≡ rounds.now.timed.threads }
+{
+    let parts = u64::from(rounds.timed.threads);
+    let (made, stored) = (Blank::new(parts), Blank::new(parts));
+    share::<Brand, Brand, H, R>(rt, made, stored, book, rounds)
+}
+
+// The callers of the book, each in a thread of its own.
 fn share<
     M: Terms + Send + Sync,
     S: Ledger + Send + Sync,
     H: Keeps + Send,
     R: Threads + Wait + Sync + Clock,
->(
-    rt: &R,
-    made: Blank,
-    stored: Blank,
-    book: Book<H>,
-    lists: &Vec<List>,
-    timed: Timed,
-    meter: &Meter,
-) -> Result<(), NoMemory>
-    requires made { (made.name ≡ M.name) × (made.parts ≡ M.parts) × (made.parts ≡ timed.threads) }
+>(rt: &R, made: Blank, stored: Blank, book: Book<H>, rounds: &Rounds) -> Result<(), NoMemory>
+    requires made { (made.name ≡ M.name) × (made.parts ≡ M.parts)
+        × (made.parts ≡ rounds.now.timed.threads) }
     requires stored { (stored.name ≡ S.name) × (stored.parts ≡ S.parts)
-        × (stored.parts ≡ timed.threads) }
+        × (stored.parts ≡ rounds.now.timed.threads) }
     requires terms { shared_terms book ≡ M.terms }
-    requires layout { timed.layout ≡ M.terms.layout }
+    requires layout { rounds.now.timed.layout ≡ M.terms.layout }
     requires empty { AreNone H.KEEPS book }
-    requires threads { (M.terms.mutators ≡ timed.threads) × (timed.threads ≤ 4) }
+    requires mutators { M.terms.mutators ≡ rounds.now.timed.threads }
 {
-    let Ok((shared, mut callers)) = Shared::<M, S, H>::open(made, stored, book, timed.threads)
-    else {
+    let threads = rounds.timed.threads;
+    let Ok((shared, mut callers)) = Shared::<M, S, H>::open(made, stored, book, threads) else {
         return Err(NoMemory);
     };
-    run_all(rt, &shared, callers.as_mut_slice(), lists, timed, meter);
+    let make = |k: usize, caller: &mut Caller<M, S>| run(rt, &shared, caller, k, rounds);
+    thread::for_each_mut(rt, callers.as_mut_slice(), 4, &make);
     Ok(())
-}
-
-// The rounds of all callers, each in a thread of its own.
-fn run_all<
-    M: Terms + Send + Sync,
-    S: Ledger + Send + Sync,
-    H: Keeps + Send,
-    R: Threads + Wait + Sync + Clock,
->(
-    rt: &R,
-    shared: &Shared<M, S, H>,
-    callers: &mut [Caller<M, S>],
-    lists: &Vec<List>,
-    timed: Timed,
-    meter: &Meter,
-)
-    requires each { (k : ℕ) (d : CallerState) → k < length callers.old
-        → IsNewCaller shared.now M.terms.settings.log M.terms.mutators k
-        (slice_index_or callers.old k d) }
-    requires mutators { length callers.old ≡ M.terms.mutators }
-    requires layout { timed.layout ≡ M.terms.layout }
-{
-    thread::for_each_mut(
-        rt,
-        callers,
-        4,
-        &|k, caller| run(rt, shared, caller, k, lists, timed, meter),
-    );
 }
 
 // The rounds of one caller.
@@ -106,21 +82,17 @@ fn run<M: Terms, S: Ledger, H: Keeps, R: Wait + Clock>(
     shared: &Shared<M, S, H>,
     caller: &mut Caller<M, S>,
     k: usize,
-    lists: &Vec<List>,
-    timed: Timed,
-    meter: &Meter,
+    rounds: &Rounds,
 )
     requires mine { IsCallerOf shared.now caller.old }
     requires mutator { caller.old.counts.number < M.terms.mutators }
-    requires layout { timed.layout ≡ M.terms.layout }
+    requires layout { rounds.now.timed.layout ≡ M.terms.layout }
 {
-    let Some(list) = lists.get(k) else {
-        return;
-    };
-    for _i in 0..timed.rounds {
+    let list = rounds.list(k);
+    for _i in 0..rounds.timed.rounds {
         let began = now(rt);
-        let checksum = store(rt, shared, caller, timed.layout, list.as_slice());
-        meter.add(rt, began, checksum);
+        let checksum = store(rt, shared, caller, rounds.timed.layout, list);
+        rounds.meter.add(rt, began, checksum);
     }
 }
 

@@ -16,6 +16,7 @@
 //! - [`workload`]: the heap whose calls are measured.
 //! - [`timed`]: the five words.
 //! - [`list`]: the stores of a round.
+//! - [`rounds`]: the rounds of a thread.
 //! - [`meter`]: the sums over the threads.
 //! - [`alone`], [`locked`], [`raced`]: where the stores are made.
 //! - [`paused`]: the pauses of a race.
@@ -28,6 +29,7 @@ mod meter;
 mod paused;
 mod plan;
 mod raced;
+mod rounds;
 mod timed;
 mod workload;
 

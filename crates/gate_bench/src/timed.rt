@@ -1,8 +1,8 @@
 //! Rounds of stores, or of refinements, by the clock, in one thread or several.
-ghost use Rattle.std.specs.Prelude.{◌≡◌, ◌<◌, ◌≤◌, IfSome};
+ghost use Rattle.std.specs.Prelude.{◌≤◌};
 
 use crate::list::Target;
-use crate::meter::Meter;
+use crate::rounds::Rounds;
 use crate::{alone, locked, raced};
 use g1_layout::{Layout, NoMemory};
 use std::alloc::Global;
@@ -26,7 +26,7 @@ pub enum Barrier {
     Unrecorded,
     /// In a race.
     Raced,
-    /// In a race too, each once, and no time counts them. Then sweepers refine their cards, in
+    /// In a race too, by one racer, and no time counts them. Then sweepers refine their cards, in
     /// rounds.
     Swept,
 }
@@ -46,6 +46,7 @@ pub struct Timed {
     pub stores: u32,
     /// The heap.
     pub layout: Layout,
+    ghost few: { (1 ≤ threads) × (threads ≤ 4) },
 }
 
 impl Timed {
@@ -58,24 +59,23 @@ impl Timed {
 /// The run of these words: where, what, and the numbers of threads, rounds and stores a round.
 /// `None` where one of them is missing or is none, for other numbers of threads than 1 to 4, and
 /// for a run that no barrier of that kind can make.
-pub fn read_timed(words: &[String]) -> Option<Timed>
-    ensures { IfSome result (λ t. (1 ≤ t.threads) × (t.threads ≤ 4)) }
-{
+pub fn read_timed(words: &[String]) -> Option<Timed> {
     let [barrier, target, threads, rounds, stores] = words else {
         return None;
     };
+    let threads = threads.as_str().parse::<u32>().ok()?;
+    if threads < 1 || threads > 4 {
+        return None;
+    }
     let timed = Timed {
         barrier: barrier_of(barrier.as_str())?,
         target: target_of(target.as_str())?,
-        threads: threads.as_str().parse::<u32>().ok()?,
+        threads,
         rounds: rounds.as_str().parse::<u32>().ok()?,
         stores: stores.as_str().parse::<u32>().ok()?,
         layout: Layout::new(256, 256, 16)?,
     };
-    if timed.threads < 1 || timed.threads > 4 || !is_possible(&timed) {
-        return None;
-    }
-    Some(timed)
+    is_possible(&timed).then_some(timed)
 }
 
 // A card that is dirty is not logged again: so a run whose stores are logged has one round, but for
@@ -119,15 +119,12 @@ pub fn print_time<R: Threads + Wait + Sync + Clock + Print + Eprint>(
     rt: &R,
     alloc: Global,
     timed: Timed,
-) -> ExitCode
-    requires { (1 ≤ timed.threads) × (timed.threads ≤ 4) }
-{
-    let meter = Meter::new();
-    let Ok(()) = run(rt, alloc, timed, &meter) else {
+) -> ExitCode {
+    let Ok(rounds) = run(rt, alloc, timed) else {
         let _ = rt.eprint("no memory\n");
         return ExitCode::from(3);
     };
-    let Some((nanoseconds, checksum)) = meter.sums() else {
+    let Some((nanoseconds, checksum)) = rounds.meter.sums() else {
         let _ = rt.eprint("a store was refused, or there is no clock\n");
         return ExitCode::from(4);
     };
@@ -142,16 +139,21 @@ fn run<R: Threads + Wait + Sync + Clock>(
     rt: &R,
     alloc: Global,
     timed: Timed,
-    meter: &Meter,
-) -> Result<(), NoMemory>
-    requires { (1 ≤ timed.threads) × (timed.threads ≤ 4) }
-{
-    match timed.barrier {
-        Barrier::Walk => alone::walk(rt, alloc, timed, meter),
-        Barrier::Core => alone::core(rt, alloc, timed, meter),
-        Barrier::Book => alone::book(rt, alloc, timed, meter),
-        Barrier::Locked | Barrier::Unrecorded => locked::lock(rt, alloc, timed, meter),
-        Barrier::Raced => raced::race(rt, alloc, timed, meter),
-        Barrier::Swept => raced::sweep(rt, alloc, timed, meter),
+) -> Result<Rounds, NoMemory> {
+    let barrier = timed.barrier;
+    let quarters = match barrier {
+        Barrier::Walk | Barrier::Core | Barrier::Book => 1,
+        Barrier::Locked | Barrier::Unrecorded | Barrier::Raced | Barrier::Swept => 4,
+    };
+    let rounds = Rounds::of(alloc, timed, quarters)?;
+    match barrier {
+        Barrier::Walk => alone::walk(rt, &rounds),
+        Barrier::Core => alone::core(rt, &rounds)?,
+        Barrier::Book => alone::book(rt, &rounds)?,
+        Barrier::Locked => locked::book(rt, &rounds)?,
+        Barrier::Unrecorded => locked::core(rt, &rounds)?,
+        Barrier::Raced => raced::race(rt, &rounds)?,
+        Barrier::Swept => raced::sweep(rt, &rounds)?,
     }
+    Ok(rounds)
 }

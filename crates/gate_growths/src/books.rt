@@ -7,10 +7,10 @@ ghost use Rattle.g1_history.specs.History.{opened};
 use crate::numbers::{
     Numbers, are_numbered, buffer, card, number_of, numbers_of, place_of, region, slot, small,
 };
-use crate::outcome::{Failure, check, refused, short};
+use crate::outcome::{Failure, check, refused, retried, short};
 use g1_book::{Book, Entry, Reply};
 use g1_core::{Call, ClearReply, Config, Settings};
-use g1_layout::{Layout, NoMemory};
+use g1_layout::Layout;
 use g1_log::Log;
 
 /// The settings of the books: logs of `log` cards, and a line of `limit` buffers. No card is found
@@ -29,14 +29,12 @@ pub(crate) fn settings(log: usize, limit: usize) -> Result<Config, Failure> {
 pub(crate) fn new_book<R: Eprint + AllocGlobal>(rt: &R, config: Config) -> Result<Book, Failure>
     ensures { IfOk result (λ book. (book.entries ≡ []) × (book.mutators ≡ 1)) }
 {
-    let layout = small()?;
-    match Book::open(rt.alloc(), layout, config, 1, 1_000) {
-        Ok(book) => Ok(book),
-        Err(NoMemory) => {
-            refused(rt, "Book::open");
-            Ok(Book::open(rt.alloc(), layout, config, 1, 1_000)?)
-        }
-    }
+    let (alloc, layout) = (rt.alloc(), small()?);
+    retried(
+        rt,
+        "Book::open",
+        || Book::open(alloc, layout, config, 1, 1_000),
+    )
 }
 
 /// A call of a book.

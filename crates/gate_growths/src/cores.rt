@@ -3,10 +3,10 @@
 pub(crate) mod steps;
 
 use crate::numbers::{Numbers, buffer, card, number_of, numbers_of, place_of, region, slot, small};
-use crate::outcome::{Failure, check, refused};
+use crate::outcome::{Failure, check, retried};
 use arrayvec::ArrayVec;
 use g1_core::{Config, Core, Drained, Redirected, RefineReply, Settings};
-use g1_layout::{Layout, NoMemory};
+use g1_layout::Layout;
 use g1_log::Log;
 
 /// A core whose cards are hot after `hot` refinements, with a ring of `ring` cards.
@@ -30,13 +30,8 @@ pub(crate) fn core_of<R: Eprint + AllocGlobal>(
     layout: Layout,
     config: Config,
 ) -> Result<Core, Failure> {
-    match Core::new(rt.alloc(), layout, config) {
-        Ok(core) => Ok(core),
-        Err(NoMemory) => {
-            refused(rt, "Core::new");
-            Ok(Core::new(rt.alloc(), layout, config)?)
-        }
-    }
+    let alloc = rt.alloc();
+    retried(rt, "Core::new", || Core::new(alloc, layout, config))
 }
 
 /// Stores the references: each slot with the place that it refers to.

@@ -15,11 +15,11 @@ type Call = (
     Before<'static>,
 );
 
-/// Calls on new books, each of which is first stored to, `stores` times.
+/// Calls in turn on new books, each of which is first stored to, `stores` times.
 struct Scenario {
     name: &'static str,
     stores: usize,
-    books: &'static [&'static [Call]],
+    books: &'static [&'static [&'static [Call]]],
 }
 
 // Cards 0, 1, 2, 7 and 4 hold into regions 3, 2, 3, 0 and 1.
@@ -59,14 +59,22 @@ const MOVED: Before<'static> = Before {
     recorded: 4,
 };
 
+// The set of each region once the cards of the four stores are refined.
+const DRAINS: &[Call] = &[
+    (Ask::Drain(0), &[], Answer::Cards(&[7]), REFINED),
+    (Ask::Drain(1), &[], Answer::Cards(&[]), REFINED),
+    (Ask::Drain(2), &[], Answer::Cards(&[1]), REFINED),
+    (Ask::Drain(3), &[], Answer::Cards(&[0, 2]), REFINED),
+];
+
 static SCENARIOS: [Scenario; 8] = [
     Scenario {
         name: "a book",
         stores: 0,
-        books: &[&[
+        books: &[&[&[
             (Ask::Status, &[], Answer::Status(0, 0), NEW),
             (Ask::Drain(0), &[], Answer::Cards(&[]), NEW),
-        ]],
+        ]]],
     },
     Scenario {
         name: "the entries of stores",
@@ -77,11 +85,8 @@ static SCENARIOS: [Scenario; 8] = [
         name: "a refinement of a book",
         stores: FOUR,
         books: &[&[
-            (Ask::Refine(PENDING), PENDING, Answer::Refined(4), STORED),
-            (Ask::Drain(0), &[], Answer::Cards(&[7]), REFINED),
-            (Ask::Drain(1), &[], Answer::Cards(&[]), REFINED),
-            (Ask::Drain(2), &[], Answer::Cards(&[1]), REFINED),
-            (Ask::Drain(3), &[], Answer::Cards(&[0, 2]), REFINED),
+            &[(Ask::Refine(PENDING), PENDING, Answer::Refined(4), STORED)],
+            DRAINS,
         ]],
     },
     // Each question is the fifth entry of a book of its own.
@@ -89,51 +94,48 @@ static SCENARIOS: [Scenario; 8] = [
         name: "the questions of a book",
         stores: FOUR,
         books: &[
-            &[(Ask::Target(4), &[], Answer::Target(Some(16)), STORED)],
-            &[(Ask::Pending(2), &[], Answer::Pending(true), STORED)],
-            &[(Ask::Status, &[], Answer::Status(4, 0), STORED)],
+            &[&[(Ask::Target(4), &[], Answer::Target(Some(16)), STORED)]],
+            &[&[(Ask::Pending(2), &[], Answer::Pending(true), STORED)]],
+            &[&[(Ask::Status, &[], Answer::Status(4, 0), STORED)]],
         ],
     },
     Scenario {
         name: "the members of a book's region",
         stores: FOUR,
-        books: &[&[
+        books: &[&[&[
             (Ask::Drain(3), PENDING, Answer::Cards(&[0, 2]), STORED),
             (Ask::Members(3), &[], Answer::Cards(&[0, 2]), REFINED),
-        ]],
+        ]]],
     },
     Scenario {
         name: "a drain of a book",
         stores: FOUR,
         books: &[&[
-            (Ask::Drain(3), PENDING, Answer::Cards(&[0, 2]), STORED),
-            (Ask::Drain(0), &[], Answer::Cards(&[7]), REFINED),
-            (Ask::Drain(1), &[], Answer::Cards(&[]), REFINED),
-            (Ask::Drain(2), &[], Answer::Cards(&[1]), REFINED),
-            (Ask::Drain(3), &[], Answer::Cards(&[0, 2]), REFINED),
+            &[(Ask::Drain(3), PENDING, Answer::Cards(&[0, 2]), STORED)],
+            DRAINS,
         ]],
     },
     // The set of a region that nothing refers into. The clear is the ninth entry.
     Scenario {
         name: "a clear of a book",
         stores: FOUR,
-        books: &[&[
+        books: &[&[&[
             (Ask::Refine(PENDING), PENDING, Answer::Refined(4), STORED),
             (Ask::Status, &[], Answer::Status(0, 4), REFINED),
             (Ask::Status, &[], Answer::Status(0, 4), REFINED),
             (Ask::Status, &[], Answer::Status(0, 4), REFINED),
             (Ask::Clear(1), &[], Answer::Cleared, REFINED),
-        ]],
+        ]]],
     },
     // The set of region 2 has the cards of the references that move to it.
     Scenario {
         name: "a redirect of a book",
         stores: FOUR,
-        books: &[&[
+        books: &[&[&[
             (Ask::Redirect(3, 2), PENDING, Answer::Moved(2), STORED),
             (Ask::Drain(3), &[], Answer::Cards(&[]), MOVED),
             (Ask::Drain(2), &[], Answer::Cards(&[0, 1, 2]), MOVED),
-        ]],
+        ]]],
     },
 ];
 
@@ -150,7 +152,7 @@ fn on_books<R: Eprint + AllocGlobal>(rt: &R, scenario: &Scenario) -> Result<(), 
         let log = Log::new(8);
         let mut kept = Kept { book, log };
         stored(rt, &mut kept, scenario.stores)?;
-        for (ask, order, answer, before) in *calls {
+        for (ask, order, answer, before) in calls.iter().copied().flatten() {
             kept.made(rt, *ask, order, *answer, *before)?;
         }
     }

@@ -3,9 +3,9 @@ ghost use Rattle.std.specs.Prelude.{◌≡◌, length, IfOk};
 ghost use Rattle.g1_layout.specs.Shape.{card_count};
 
 use crate::numbers::{card, small};
-use crate::outcome::{Failure, check, refused};
+use crate::outcome::{Failure, check, retried};
 use g1_hot::{Hot, Offer};
-use g1_layout::{Layout, NoMemory};
+use g1_layout::Layout;
 
 /// A ring beside the layout whose cards it counts.
 #[derive(Drop)]
@@ -42,13 +42,8 @@ impl Counted {
 fn new_hot<R: Eprint + AllocGlobal>(rt: &R, layout: Layout) -> Result<Hot, Failure>
     ensures { IfOk result (λ hot. length hot.counts ≡ card_count layout) }
 {
-    match Hot::new(rt.alloc(), layout, 1, 2) {
-        Ok(hot) => Ok(hot),
-        Err(NoMemory) => {
-            refused(rt, "Hot::new");
-            Ok(Hot::new(rt.alloc(), layout, 1, 2)?)
-        }
-    }
+    let alloc = rt.alloc();
+    retried(rt, "Hot::new", || Hot::new(alloc, layout, 1, 2))
 }
 
 /// A refused ring is made again, with each count 0 and no card in the ring.

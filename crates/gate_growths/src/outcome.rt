@@ -1,4 +1,5 @@
 //! How a scenario ends, and how it says which call was refused.
+ghost use Rattle.std.specs.Prelude.{IfOk};
 
 use arrayvec::CapacityError;
 use g1_book::Refusal;
@@ -48,6 +49,24 @@ pub(crate) fn check(rt: &impl Eprint, holds: bool, what: &str) -> Result<(), Fai
 /// Says that a call was refused.
 pub(crate) fn refused(rt: &impl Eprint, call: &str) {
     let _ = eprintln!(rt; "refused: {call}");
+}
+
+/// Makes a call, and makes it again where it is refused.
+pub(crate) fn retried<T, F: Fn() -> Result<T, NoMemory>>(
+    rt: &impl Eprint,
+    name: &str,
+    call: F,
+) -> Result<T, Failure>
+    requires { F.pre call }
+    ensures { IfOk result (λ answer. F.post call (Ok answer)) }
+{
+    match call() {
+        Ok(answer) => Ok(answer),
+        Err(NoMemory) => {
+            refused(rt, name);
+            Ok(call()?)
+        }
+    }
 }
 
 /// Says that a call answered shortly, with `cards` cards refined.

@@ -4,27 +4,16 @@
 //! those from `8 * r` on.
 
 use crate::numbers::{are_numbered, card, number_of, region, slot, small};
-use crate::outcome::{Failure, check, refused};
+use crate::outcome::{Failure, check, refused, retried};
 use crate::race::REFERENCES;
 use g1_core::{Drained, Redirected};
-use g1_layout::NoMemory;
 use g1_race::Paused;
-
-// A heap at a pause, made again where it is refused.
-fn opened<R: Eprint + AllocGlobal>(rt: &R) -> Result<Paused, Failure> {
-    let layout = small()?;
-    match Paused::open(rt.alloc(), layout, 1, 1) {
-        Ok(paused) => Ok(paused),
-        Err(NoMemory) => {
-            refused(rt, "Paused::open");
-            Ok(Paused::open(rt.alloc(), layout, 1, 1)?)
-        }
-    }
-}
+use std::alloc::Global;
 
 // A heap at a pause in which the references were stored: cards 0, 1 and 2 are dirty.
 fn stored<R: Eprint + AllocGlobal>(rt: &R) -> Result<Paused, Failure> {
-    let mut paused = opened(rt)?;
+    let (alloc, layout) = (rt.alloc(), small()?);
+    let mut paused = retried(rt, "Paused::open", || Paused::open(alloc, layout, 1, 1))?;
     for (from, to) in REFERENCES {
         store(&mut paused, from, to)?;
     }
@@ -42,7 +31,7 @@ fn store(paused: &mut Paused, from: u32, to: u32) -> Result<(), Failure> {
 /// A drain lists the cards that hold into region 3.
 pub(crate) fn drained<R: Eprint + AllocGlobal>(rt: &R) -> Result<(), Failure> {
     let mut paused = stored(rt)?;
-    let Drained::Cards { cards, refined } = drain(rt, &mut paused)? else {
+    let Drained::Cards { cards, refined } = made(rt, &mut paused, "Paused::drain", drain)? else {
         return Err(Failure::Wrong);
     };
     let (cards, refined) = (cards.as_slice(), refined.as_slice());
@@ -50,27 +39,35 @@ pub(crate) fn drained<R: Eprint + AllocGlobal>(rt: &R) -> Result<(), Failure> {
     check(rt, is, "a drain at a pause")
 }
 
-// Drains region 3. A refused drain changes nothing, and is made again.
-fn drain<R: Eprint + AllocGlobal>(rt: &R, paused: &mut Paused) -> Result<Drained, Failure> {
-    match drain_once(rt, paused) {
+// Makes a call, again where it is refused, which changes nothing.
+fn made<R: Eprint + AllocGlobal, T, F: Fn(Global, &mut Paused) -> Result<T, Failure>>(
+    rt: &R,
+    paused: &mut Paused,
+    name: &str,
+    call: F,
+) -> Result<T, Failure>
+    requires { F.IsAlwaysCallable call }
+{
+    match call(rt.alloc(), paused) {
         Err(Failure::NoMemory) => {
-            refused(rt, "Paused::drain");
+            refused(rt, name);
             are_as_stored(rt, paused)?;
-            drain_once(rt, paused)
+            call(rt.alloc(), paused)
         }
         answer => answer,
     }
 }
 
-fn drain_once<R: AllocGlobal>(rt: &R, paused: &mut Paused) -> Result<Drained, Failure> {
+fn drain(alloc: Global, paused: &mut Paused) -> Result<Drained, Failure> {
     let of = region(&paused.layout(), 3)?;
-    Ok(paused.drain(rt.alloc(), of)?)
+    Ok(paused.drain(alloc, of)?)
 }
 
 /// The references into region 3 move to region 1, where slot 8 lies.
 pub(crate) fn redirected<R: Eprint + AllocGlobal>(rt: &R) -> Result<(), Failure> {
     let mut paused = stored(rt)?;
-    let Redirected::Moved { slots, refined } = redirect(rt, &mut paused)? else {
+    let answer = made(rt, &mut paused, "Paused::redirect", redirect)?;
+    let Redirected::Moved { slots, refined } = answer else {
         return Err(Failure::Wrong);
     };
     let is = slots == 2 && are_numbered(refined.as_slice(), &[0, 1, 2]);
@@ -78,23 +75,11 @@ pub(crate) fn redirected<R: Eprint + AllocGlobal>(rt: &R) -> Result<(), Failure>
     are_moved(rt, &mut paused)
 }
 
-// Redirects region 3. A refused redirect changes nothing, and is made again.
-fn redirect<R: Eprint + AllocGlobal>(rt: &R, paused: &mut Paused) -> Result<Redirected, Failure> {
-    match redirect_once(rt, paused) {
-        Err(Failure::NoMemory) => {
-            refused(rt, "Paused::redirect");
-            are_as_stored(rt, paused)?;
-            redirect_once(rt, paused)
-        }
-        answer => answer,
-    }
-}
-
-fn redirect_once<R: AllocGlobal>(rt: &R, paused: &mut Paused) -> Result<Redirected, Failure> {
+fn redirect(alloc: Global, paused: &mut Paused) -> Result<Redirected, Failure> {
     let layout = paused.layout();
     let from = region(&layout, 3)?;
     let to = region(&layout, 1)?;
-    Ok(paused.redirect(rt.alloc(), from, to)?)
+    Ok(paused.redirect(alloc, from, to)?)
 }
 
 // Whether the references into region 3 refer into region 1, and the cards outside it are recorded.

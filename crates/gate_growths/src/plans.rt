@@ -5,8 +5,8 @@ use g1_core::Fill;
 
 /// A step of a caller.
 pub(crate) enum Step {
-    /// A store of a reference, what becomes of the log, and the cards that its help refines.
-    Store((u32, u32), Fill, &'static [u32]),
+    /// Stores of references, what becomes of the log at each, and the cards that its help refines.
+    Store(&'static [(u32, u32)], Fill, &'static [u32]),
     /// A flush of these cards into a full line, which refines them.
     Flush(&'static [u32]),
     /// A refinement of the oldest buffer, which has these cards, and how many buffers are left.
@@ -20,58 +20,60 @@ pub(crate) enum Step {
 pub(crate) struct Plan {
     pub(crate) log: usize,
     pub(crate) limit: usize,
-    pub(crate) steps: &'static [Step],
+    pub(crate) first: &'static [Step],
+    pub(crate) then: &'static [Step],
     pub(crate) sets: [&'static [u32]; 4],
 }
 
-pub(crate) const OPEN: Plan = Plan {
+/// As many entries as a history has room for at first, so that the call behind them makes it grow.
+pub(crate) const FOUR_STORES: Plan = Plan {
     log: 8,
     limit: 4,
-    steps: &[Store((0, 24), Fill::No, &[])],
+    first: &[Store(&[(0, 24)], Fill::No, &[])],
+    then: &[Store(&[(4, 16), (8, 24), (31, 0)], Fill::No, &[])],
+    sets: [&[7], &[], &[1], &[0, 2]],
+};
+
+/// The references into region 3 move to region 2 then.
+pub(crate) const FOUR_TO_MOVE: Plan = Plan {
+    sets: [&[7], &[], &[0, 1, 2], &[]],
+    ..FOUR_STORES
+};
+
+pub(crate) const OPEN: Plan = Plan {
+    then: &[],
     sets: [&[], &[], &[], &[0]],
+    ..FOUR_STORES
 };
 
 /// The second full log finds the line full, and its mutator refines it.
 pub(crate) const HELP: Plan = Plan {
     log: 2,
     limit: 1,
-    steps: &[
-        Store((0, 24), Fill::No, &[]),
-        Store((4, 16), Fill::Full, &[]),
-        Store((8, 24), Fill::No, &[]),
-        Store((31, 0), Fill::Helped, &[2, 7]),
+    first: &[
+        Store(&[(0, 24)], Fill::No, &[]),
+        Store(&[(4, 16)], Fill::Full, &[]),
+        Store(&[(8, 24)], Fill::No, &[]),
     ],
-    sets: [&[7], &[], &[1], &[0, 2]],
+    then: &[Store(&[(31, 0)], Fill::Helped, &[2, 7])],
+    ..FOUR_STORES
 };
 
 /// A flush is never refused; its help is short where the history cannot grow.
 pub(crate) const FLUSH: Plan = Plan {
-    log: 2,
-    limit: 1,
-    steps: &[
-        Store((0, 24), Fill::No, &[]),
-        Store((4, 16), Fill::Full, &[]),
-        Store((8, 24), Fill::No, &[]),
-        Flush(&[2]),
-        Store((31, 0), Fill::No, &[]),
-        Flush(&[7]),
-    ],
-    sets: [&[7], &[], &[1], &[0, 2]],
+    then: &[Flush(&[2]), Store(&[(31, 0)], Fill::No, &[]), Flush(&[7])],
+    ..HELP
 };
 
 /// A refused refinement gives up the buffer that it took, and a drain finds its cards.
 pub(crate) const TAKE: Plan = Plan {
-    log: 2,
     limit: 4,
-    steps: &[
-        Store((0, 24), Fill::No, &[]),
-        Store((4, 16), Fill::Full, &[]),
-        Store((8, 24), Fill::No, &[]),
-        Store((31, 0), Fill::Full, &[]),
+    then: &[
+        Store(&[(31, 0)], Fill::Full, &[]),
         Refine(&[0, 1], 1),
         Refine(&[2, 7], 0),
     ],
-    sets: [&[7], &[], &[1], &[0, 2]],
+    ..HELP
 };
 
 /// Six buffers, of which a round leaves one. A refused round gives up one buffer at most, whose
@@ -79,37 +81,11 @@ pub(crate) const TAKE: Plan = Plan {
 pub(crate) const ROUND: Plan = Plan {
     log: 1,
     limit: 10,
-    steps: &[
-        Store((0, 24), Fill::Full, &[]),
-        Store((4, 24), Fill::Full, &[]),
-        Store((8, 24), Fill::Full, &[]),
-        Store((12, 24), Fill::Full, &[]),
-        Store((16, 24), Fill::Full, &[]),
-        Store((20, 24), Fill::Full, &[]),
-        Work(&[0, 1, 2, 3, 4]),
-    ],
+    first: &[Store(
+        &[(0, 24), (4, 24), (8, 24), (12, 24), (16, 24), (20, 24)],
+        Fill::Full,
+        &[],
+    )],
+    then: &[Work(&[0, 1, 2, 3, 4])],
     sets: [&[], &[], &[], &[0, 1, 2, 3, 4, 5]],
-};
-
-// As many entries as a history has room for at first, so that the call behind them makes it grow.
-const STORES: &[Step] = &[
-    Store((0, 24), Fill::No, &[]),
-    Store((4, 16), Fill::No, &[]),
-    Store((8, 24), Fill::No, &[]),
-    Store((31, 0), Fill::No, &[]),
-];
-
-pub(crate) const FOUR_STORES: Plan = Plan {
-    log: 8,
-    limit: 4,
-    steps: STORES,
-    sets: [&[7], &[], &[1], &[0, 2]],
-};
-
-/// The references into region 3 move to region 2 then.
-pub(crate) const FOUR_TO_MOVE: Plan = Plan {
-    log: 8,
-    limit: 4,
-    steps: STORES,
-    sets: [&[7], &[], &[0, 1, 2], &[]],
 };

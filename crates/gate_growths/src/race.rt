@@ -2,13 +2,13 @@
 //!
 //! The heap has 4 regions of 2 cards of 4 slots: card `c` has the slots from `4 * c` on, region `r`
 //! those from `8 * r` on.
-ghost use Rattle.std.specs.Prelude.{◌≡◌, ◌<◌, [], IfOk, vec_len, vec_capacity};
+ghost use Rattle.std.specs.Prelude.{◌≡◌, IfOk};
 ghost use Rattle.g1_race.specs.Members.{race_id, race_shape, racer_race, sweeper_race};
 ghost use Rattle.g1_race.specs.Members.{AreFreshRacers, AreFreshSweepers};
 
 use crate::numbers::{card, number_of, region, slot, small};
-use crate::outcome::{Failure, check, refused};
-use g1_layout::{Kind, Layout, NoMemory};
+use crate::outcome::{Failure, check, retried};
+use g1_layout::{Kind, Layout};
 use g1_race::{Closed, Race, Racer, Sweeper};
 
 // A race of one racer and one sweeper.
@@ -20,13 +20,8 @@ fn new_race<R: Eprint + AllocGlobal>(
     ensures racers { IfOk result (λ r. AreFreshRacers r.0 1 r.1) }
     ensures sweepers { IfOk result (λ r. AreFreshSweepers r.0 1 r.2) }
 {
-    match Race::open(rt.alloc(), layout, 1, 1) {
-        Ok(made) => Ok(made),
-        Err(NoMemory) => {
-            refused(rt, "Race::open");
-            Ok(Race::open(rt.alloc(), layout, 1, 1)?)
-        }
-    }
+    let alloc = rt.alloc();
+    retried(rt, "Race::open", || Race::open(alloc, layout, 1, 1))
 }
 
 /// A race with no store has nulls and clean cards, and nothing recorded.
@@ -70,50 +65,9 @@ pub(crate) fn raced(
     requires racers { AreFreshRacers race 1 racers }
     requires sweepers { AreFreshSweepers race 1 sweepers }
 {
-    let mut racer = racers.take_last();
-    racers.clear();
-    let mut sweeper = sweepers.take_last();
-    sweepers.clear();
-    stored_and_refined(rt, &race, &mut racer, &mut sweeper, references, cards)?;
-    Ok(closed(race, racers, racer, sweepers, sweeper))
-}
-
-// Closes the race, in the room of the racers and sweepers that it began with.
-fn closed(
-    race: Race,
-    mut racers: Vec<Racer>,
-    racer: Racer,
-    mut sweepers: Vec<Sweeper>,
-    sweeper: Sweeper,
-) -> Closed
-    requires members { (race_shape race).members ≡ 2 }
-    requires racers { (racers.items ≡ []) × (vec_len racers ≡ 0) × (0 < vec_capacity racers) }
-    requires racer { racer_race racer ≡ race_id race }
-    requires sweepers { (sweepers.items ≡ []) × (vec_len sweepers ≡ 0)
-        × (0 < vec_capacity sweepers) }
-    requires sweeper { sweeper_race sweeper ≡ race_id race }
-{
-    racers.push_reserved(racer);
-    sweepers.push_reserved(sweeper);
-    race.close(racers, sweepers)
-}
-
-// Stores the references, and refines the first cards then.
-fn stored_and_refined(
-    rt: &impl Eprint,
-    race: &Race,
-    racer: &mut Racer,
-    sweeper: &mut Sweeper,
-    references: &[(u32, u32)],
-    cards: u32,
-) -> Result<(), Failure>
-    requires racer { racer_race racer.old ≡ race_id race.now }
-    requires sweeper { sweeper_race sweeper.old ≡ race_id race.now }
-    ensures racer { racer_race racer.new ≡ racer_race racer.old }
-    ensures sweeper { sweeper_race sweeper.new ≡ sweeper_race sweeper.old }
-{
-    stored(rt, race, racer, references)?;
-    refined(race, sweeper, cards)
+    stored(rt, &race, &mut racers[0], references)?;
+    refined(&race, &mut sweepers[0], cards)?;
+    Ok(race.close(racers, sweepers))
 }
 
 // Stores references into other regions, whose cards are logged.

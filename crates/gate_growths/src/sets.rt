@@ -2,8 +2,8 @@
 ghost use Rattle.std.specs.Prelude.{◌≡◌, IfOk};
 
 use crate::numbers;
-use crate::outcome::{Failure, check, refused, told};
-use g1_layout::{Card, Layout, NoMemory};
+use crate::outcome::{Failure, check, refused, retried, told};
+use g1_layout::{Card, Layout};
 use g1_sets::Sets;
 
 // How many regions of how many cards the heap of a list has, and how many cards the list. The bits
@@ -26,13 +26,8 @@ pub(crate) fn play<R: Print + Eprint + AllocGlobal>(rt: &R) -> Result<(), Failur
 fn new_sets<R: Eprint + AllocGlobal>(rt: &R, layout: Layout) -> Result<Sets, Failure>
     ensures { IfOk result (λ sets. sets.layout ≡ layout) }
 {
-    match Sets::new(rt.alloc(), layout) {
-        Ok(sets) => Ok(sets),
-        Err(NoMemory) => {
-            refused(rt, "Sets::new");
-            Ok(Sets::new(rt.alloc(), layout)?)
-        }
-    }
+    let alloc = rt.alloc();
+    retried(rt, "Sets::new", || Sets::new(alloc, layout))
 }
 
 /// Sets whose cards and regions are named by number.

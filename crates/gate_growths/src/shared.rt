@@ -19,7 +19,16 @@ use std::marker::Brand;
 use std::sync::Wait;
 use std::sync::ledger::{Blank, Ledger};
 
-/// What the caller of a shared book does first, and its calls then, at one book or at several.
+// What the caller of a shared book does at its line.
+static PLANS: [(&str, Plan); 5] = [
+    ("a shared book", OPEN),
+    ("a shared mutator that helps", HELP),
+    ("a shared flush that helps", FLUSH),
+    ("a shared buffer of the line", TAKE),
+    ("a shared round of refinement", ROUND),
+];
+
+/// What the caller does first, and its calls then, at one book or at several.
 struct Scenario {
     name: &'static str,
     plan: Plan,
@@ -29,32 +38,7 @@ struct Scenario {
 // The cards of the four stores.
 const PENDING: &[u32] = &[0, 1, 2, 7];
 
-static SCENARIOS: [Scenario; 10] = [
-    Scenario {
-        name: "a shared book",
-        plan: OPEN,
-        books: &[&[]],
-    },
-    Scenario {
-        name: "a shared mutator that helps",
-        plan: HELP,
-        books: &[&[]],
-    },
-    Scenario {
-        name: "a shared flush that helps",
-        plan: FLUSH,
-        books: &[&[]],
-    },
-    Scenario {
-        name: "a shared buffer of the line",
-        plan: TAKE,
-        books: &[&[]],
-    },
-    Scenario {
-        name: "a shared round of refinement",
-        plan: ROUND,
-        books: &[&[]],
-    },
+static SCENARIOS: [Scenario; 5] = [
     // Each question is the fifth entry of a book of its own.
     Scenario {
         name: "the questions of a shared book",
@@ -98,23 +82,33 @@ static SCENARIOS: [Scenario; 10] = [
 ];
 
 pub(crate) fn play<R: Wait + Print + Eprint + AllocGlobal>(rt: &R) -> Result<(), Failure> {
+    for (name, plan) in &PLANS {
+        told(rt, name, at_book(rt, plan, &[]))?;
+    }
     for scenario in &SCENARIOS {
         told(rt, scenario.name, at_books(rt, scenario))?;
     }
     Ok(())
 }
 
-// Plays at new books, and drains each region of a book that comes back.
 fn at_books<R: Wait + Eprint + AllocGlobal>(rt: &R, scenario: &Scenario) -> Result<(), Failure> {
-    let plan = &scenario.plan;
     for calls in scenario.books {
-        let book = new_book(rt, settings(plan.log, plan.limit)?)?;
-        let book = played(rt, book, plan, calls)?;
-        let log = Log::new(8);
-        let mut kept = Kept { book, log };
-        kept.has_sets(rt, &plan.sets)?;
+        at_book(rt, &scenario.plan, calls)?;
     }
     Ok(())
+}
+
+// Plays at a new book, and drains each of its regions when it comes back.
+fn at_book<R: Wait + Eprint + AllocGlobal>(
+    rt: &R,
+    plan: &Plan,
+    calls: &[Call],
+) -> Result<(), Failure> {
+    let book = new_book(rt, settings(plan.log, plan.limit)?)?;
+    let book = played(rt, book, plan, calls)?;
+    let log = Log::new(8);
+    let mut kept = Kept { book, log };
+    kept.has_sets(rt, &plan.sets)
 }
 
 // Shares the book for a plan, again where that is refused, which gives the book back as it was.

@@ -21,7 +21,7 @@ use g1_layout::{Layout, Region};
 use g1_race::Paused;
 pub use plan::plan_of;
 use plan::{Plan, Way};
-use race::{race, race_alone};
+use race::race;
 use std::alloc::Global;
 use std::thread::Threads;
 
@@ -31,7 +31,7 @@ pub fn play<R: Print + AllocGlobal + Threads + Sync>(rt: &R, plan: Plan) -> Resu
     let mut paused = Paused::open(rt.alloc(), layout, 8, 4)?;
     let mut listed = 0u64;
     for number in 0..plan.cycles {
-        paused = raced(rt, paused, plan, number);
+        paused = race(rt, paused, plan, number);
         let region = paused
             .layout()
             .region(number % 16)
@@ -48,14 +48,6 @@ fn said(plan: Plan, listed: u64) -> &'static str {
         (Way::Drains, true) => "each drain lists what a scan finds",
         (Way::Drains, false) => "no drain had a card to list",
         (Way::Threads | Way::Alone, _) => "nothing was listed",
-    }
-}
-
-// One race, up to its pause.
-fn raced<R: Threads + Sync>(rt: &R, paused: Paused, plan: Plan, number: u32) -> Paused {
-    match plan.way {
-        Way::Drains | Way::Threads => race(rt, paused, plan.stores, number),
-        Way::Alone => race_alone(rt, paused, plan.stores, number),
     }
 }
 

@@ -1,7 +1,7 @@
 //! A range of slots of a heap at a pause is copied to another one.
 ghost use Rattle.std.specs.Prelude.{◌≡◌, ◌⊎◌, ◌+◌, ◌≤◌};
-ghost use Rattle.g1_c.specs.{slot_count, TellsRefusal, Copies, IsHeapRefused, IsSameHeap, OfPaused};
-ghost use Rattle.g1_c.specs.{LacksSlots};
+ghost use Rattle.g1_c.specs.{slot_count, Copies, IsHeapRefused, IsSameHeap};
+ghost use Rattle.g1_c.specs.{OfPaused, LacksSlots, TellsRefusal};
 
 use crate::calling::on_heap;
 use g1_handles::code::DONE;
@@ -10,7 +10,6 @@ use g1_handles::heap::handle::HeapHandle;
 use std::alloc::Global;
 
 /// As in `g1.h`.
-#[tactic(auto, using(crate::proofs::heap_made, crate::proofs::tells_none))]
 #[unsafe(no_mangle)]
 pub extern "C" fn g1_heap_copy(
     alloc: Global,

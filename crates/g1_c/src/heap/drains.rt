@@ -1,18 +1,17 @@
 //! Refinement and drains of a heap at a pause.
 ghost use Rattle.std.specs.Prelude.{◌≡◌, ◌≢◌, ◌<◌};
-ghost use Rattle.g1_c.specs.{take, TellsRefusal, DrainsAtPause, Refines, IsWritten, IsRefusal};
-ghost use Rattle.g1_c.specs.{IsHeapRefused, IsSameHeap, HasFirst, LacksRegion};
+ghost use Rattle.g1_c.specs.{take, DrainsAtPause, Refines, IsWritten, IsRefusal};
+ghost use Rattle.g1_c.specs.{IsHeapRefused, IsSameHeap, HasFirst, LacksRegion, TellsRefusal};
 
 use crate::calling::on_heap;
-use g1_handles::code::{DONE, Refusal};
+use g1_handles::code::{DONE, Reason};
 use g1_handles::heap::drains::refine_at;
 use g1_handles::heap::handle::HeapHandle;
-use g1_handles::heap::sets::{Told, Which, set_of_heap};
+use g1_handles::heap::sets::{SetTold, Which, set_of_heap};
 use std::alloc::Global;
 
 /// As in `g1.h`.
 #[unsafe(no_mangle)]
-#[tactic(auto, using(crate::specs::called_same))]
 pub extern "C" fn g1_heap_drain(
     alloc: Global,
     heap: &mut HeapHandle,
@@ -34,11 +33,11 @@ pub extern "C" fn g1_heap_drain(
     *count = 0;
     match set_of_heap(alloc, heap, Which::Refined, region, cards) {
         Err(refusal) => refusal.word(),
-        Ok(Told::First(size)) => {
+        Ok(SetTold::First(size)) => {
             *count = size;
-            Refusal::NoRoom.word()
+            Reason::NoRoom.word()
         }
-        Ok(Told::All(size)) => {
+        Ok(SetTold::All(size)) => {
             *count = size;
             DONE
         }
@@ -46,7 +45,6 @@ pub extern "C" fn g1_heap_drain(
 }
 
 /// As in `g1.h`.
-#[tactic(auto, using(crate::proofs::tells_none))]
 #[unsafe(no_mangle)]
 pub extern "C" fn g1_heap_refine(alloc: Global, heap: &mut HeapHandle) -> u32
     ensures refined { result ≡ 0 → IsSameHeap heap.old.value heap.new.value (λ old new.

@@ -1,19 +1,19 @@
 //! What follows an evacuation of a heap at a pause: references are moved or a remembered set is
 //! emptied, and a region is freed.
 ghost use Rattle.std.specs.Prelude.{◌≡◌, ◌≢◌, ◌⊎◌, ◌<◌};
-ghost use Rattle.g1_c.specs.{TellsRefusal, ClearsAt, Redirects, Wipes, Forgets, RefersOut};
+ghost use Rattle.g1_c.specs.{ClearsAt, Redirects, Wipes, Forgets, RefersOut};
 ghost use Rattle.g1_c.specs.{IsRefusal, IsHeapRefused, IsSameHeap, OfPaused, LacksRegion};
+ghost use Rattle.g1_c.specs.{TellsRefusal};
 
 use crate::calling::on_heap;
 use g1_core::ClearReply;
-use g1_handles::code::{DONE, Refusal};
+use g1_handles::code::{DONE, Reason};
 use g1_handles::heap::evacuation::{clear_at, forget_at, redirect_at, wipe_at};
 use g1_handles::heap::handle::HeapHandle;
 use std::alloc::Global;
 
 /// As in `g1.h`.
 #[unsafe(no_mangle)]
-#[tactic(auto, using(crate::specs::called_same))]
 pub extern "C" fn g1_heap_clear(
     alloc: Global,
     heap: &mut HeapHandle,
@@ -44,7 +44,6 @@ pub extern "C" fn g1_heap_clear(
 }
 
 /// As in `g1.h`.
-#[tactic(auto, using(crate::proofs::heap_made, crate::proofs::tells_none))]
 #[unsafe(no_mangle)]
 pub extern "C" fn g1_heap_redirect(
     alloc: Global,
@@ -57,7 +56,7 @@ pub extern "C" fn g1_heap_redirect(
         Redirects old from to moved.new new) }
     ensures told { TellsRefusal 0 result heap.old.value heap.new.value (moved.new ≡ 0)
         (IsHeapRefused heap.old.value (λ old r. LacksRegion old.layout from r
-        ⊎ LacksRegion old.layout to r ⊎ ((r ≡ Refusal.SameRegion) × (from ≡ to)))) }
+        ⊎ LacksRegion old.layout to r ⊎ ((r ≡ Reason.SameRegion) × (from ≡ to)))) }
 {
     match on_heap!(alloc, heap, redirect_at(from, to)) {
         Err(refusal) => {
@@ -72,7 +71,6 @@ pub extern "C" fn g1_heap_redirect(
 }
 
 /// As in `g1.h`.
-#[tactic(auto, using(crate::proofs::heap_made, crate::proofs::tells_none))]
 #[unsafe(no_mangle)]
 pub extern "C" fn g1_heap_wipe(alloc: Global, heap: &mut HeapHandle, region: u32) -> u32
     ensures wiped { result ≡ 0 → IsSameHeap heap.old.value heap.new.value (λ old new.
@@ -88,14 +86,13 @@ pub extern "C" fn g1_heap_wipe(alloc: Global, heap: &mut HeapHandle, region: u32
 }
 
 /// As in `g1.h`.
-#[tactic(auto, using(crate::proofs::heap_made, crate::proofs::tells_none))]
 #[unsafe(no_mangle)]
 pub extern "C" fn g1_heap_forget(alloc: Global, heap: &mut HeapHandle, region: u32) -> u32
     ensures forgotten { result ≡ 0 → IsSameHeap heap.old.value heap.new.value (λ old new.
         Forgets old region new) }
     ensures told { TellsRefusal 0 result heap.old.value heap.new.value (Unit {0})
         (IsHeapRefused heap.old.value (λ old r. LacksRegion old.layout region r ⊎
-        ((r ≡ Refusal.StillReferenced) × RefersOut old region))) }
+        ((r ≡ Reason.StillReferenced) × RefersOut old region))) }
 {
     match on_heap!(alloc, heap, forget_at(region)) {
         Err(refusal) => refusal.word(),

@@ -1,12 +1,12 @@
 //! The life of a heap whose stores race: it begins at a pause, goes on, pauses again, and ends at a
 //! pause.
 ghost use Rattle.std.specs.Prelude.{◌≡◌, ◌<◌};
-ghost use Rattle.g1_c.specs.{None, length, TellsRefusal, layout_of, IsRefusal, OfPaused, IsFor};
+ghost use Rattle.g1_c.specs.{None, length, layout_of, IsRefusal, OfPaused, IsFor};
 ghost use Rattle.g1_c.specs.{IsNewHeap, IsOpeningRefused, IsGoingRefused, IsPauseRefused};
 ghost use Rattle.g1_c.specs.{IsEndRefused, AreLikeOf, AreOfHeap, HasCountedNothing, ComesToPause};
-ghost use Rattle.g1_c.specs.{Resumes, held_racers, held_sweepers};
+ghost use Rattle.g1_c.specs.{Resumes, held_racers, held_sweepers, TellsRefusal};
 
-use g1_handles::code::DONE;
+use crate::tell::word_of;
 use g1_handles::heap::handle::HeapHandle;
 use g1_handles::heap::open::{close_heap, open_heap};
 use g1_handles::heap::pause::pause_heap;
@@ -17,7 +17,6 @@ use g1_handles::one_core::open::Counts;
 use std::alloc::Global;
 
 /// As in `g1.h`.
-#[tactic(auto, using(crate::proofs::tells_none))]
 #[unsafe(no_mangle)]
 pub extern "C" fn g1_heap_open(
     alloc: Global,
@@ -33,10 +32,7 @@ pub extern "C" fn g1_heap_open(
     ensures told { TellsRefusal 0 result heap.old.value heap.new.value (Unit {0})
         (IsOpeningRefused heap.old.value (layout_of counts.now) racers sweepers) }
 {
-    match open_heap(alloc, heap, counts, racers, sweepers) {
-        Ok(()) => DONE,
-        Err(refusal) => refusal.word(),
-    }
+    word_of(open_heap(alloc, heap, counts, racers, sweepers))
 }
 
 /// As in `g1.h`.
@@ -57,10 +53,7 @@ pub extern "C" fn g1_heap_resume(
         × (held_racers racers.new ≡ held_racers racers.old)
         × (held_sweepers sweepers.new ≡ held_sweepers sweepers.old) }
 {
-    match resume_heap(alloc, heap, racers, sweepers) {
-        Ok(()) => DONE,
-        Err(refusal) => refusal.word(),
-    }
+    word_of(resume_heap(alloc, heap, racers, sweepers))
 }
 
 /// As in `g1.h`.
@@ -88,10 +81,7 @@ pub extern "C" fn g1_heap_pause(
         × (held_racers racers.new ≡ held_racers racers.old)
         × (held_sweepers sweepers.new ≡ held_sweepers sweepers.old) }
 {
-    match pause_heap(alloc, heap, racers, sweepers) {
-        Ok(()) => DONE,
-        Err(refusal) => refusal.word(),
-    }
+    word_of(pause_heap(alloc, heap, racers, sweepers))
 }
 
 /// As in `g1.h`.
@@ -102,8 +92,5 @@ pub extern "C" fn g1_heap_close(alloc: Global, heap: &mut HeapHandle) -> u32
     ensures why { 0 < result → IsRefusal result (IsEndRefused heap.old.value) }
     ensures refused { 0 < result → heap.new.value ≡ heap.old.value }
 {
-    match close_heap(alloc, heap) {
-        Ok(()) => DONE,
-        Err(refusal) => refusal.word(),
-    }
+    word_of(close_heap(alloc, heap))
 }

@@ -1,18 +1,18 @@
 //! Queries on a heap at a pause: what a slot refers to, whether a card is pending, how much is
 //! pending and recorded, and what is recorded for a region.
 ghost use Rattle.std.specs.Prelude.{◌≡◌, ◌≢◌, ◌<◌, ◌≤◌, ◌==◌};
-ghost use Rattle.g1_c.specs.{take, table_at, TellsRefusal, SlotRefers, TellsPending, TellsStatus};
-ghost use Rattle.g1_c.specs.{TellsMembers, IsWritten, IsRefusal, reference_of, IsHeapRefused};
-ghost use Rattle.g1_c.specs.{IsSameHeap, HasFirst, LacksCard, LacksRegion, LacksSlot, Answers};
-ghost use Rattle.g1_race.specs.Reading.{IsNextMember};
+ghost use Rattle.g1_c.specs.{take, table_at, SlotRefers, TellsPending};
+ghost use Rattle.g1_c.specs.{TellsStatus, TellsMembers, IsWritten, IsRefusal, reference_of};
+ghost use Rattle.g1_c.specs.{IsHeapRefused, IsSameHeap, HasFirst, LacksCard, LacksRegion};
+ghost use Rattle.g1_c.specs.{LacksSlot, IsNextMember, TellsRefusal, IsTold};
 
 use crate::calling::on_heap;
 use crate::one_core::queries::Totals;
 use crate::tell::{tell, tell_whether};
-use g1_handles::code::{DONE, NULL, Refusal};
+use g1_handles::code::{DONE, NULL, Reason};
 use g1_handles::heap::handle::HeapHandle;
 use g1_handles::heap::queries::{is_pending_at, next_member_at, status_at, target_at};
-use g1_handles::heap::sets::{Told, Which, set_of_heap};
+use g1_handles::heap::sets::{SetTold, Which, set_of_heap};
 use std::alloc::Global;
 
 /// As in `g1.h`.
@@ -23,7 +23,7 @@ pub extern "C" fn g1_heap_target(
     slot: u32,
     target: &mut u32,
 ) -> u32
-    ensures told { Answers result target.new (target.new ≡ 4294967295) heap.old.value heap.new.value
+    ensures told { IsTold result target.new (target.new ≡ 4294967295) heap.old.value heap.new.value
         (λ target. IsSameHeap heap.old.value heap.new.value (λ old new.
         SlotRefers old slot (reference_of target)))
         (IsHeapRefused heap.old.value (λ old. LacksSlot old.layout slot)) }
@@ -40,7 +40,7 @@ pub extern "C" fn g1_heap_is_pending(
     card: u32,
     pending: &mut u32,
 ) -> u32
-    ensures told { Answers result (pending.new == 1) (pending.new ≡ 0) heap.old.value heap.new.value
+    ensures told { IsTold result (pending.new == 1) (pending.new ≡ 0) heap.old.value heap.new.value
         (λ answer. IsSameHeap heap.old.value heap.new.value (λ old new.
         TellsPending (table_at old) card answer))
         (IsHeapRefused heap.old.value (λ old. LacksCard old.layout card)) }
@@ -51,7 +51,6 @@ pub extern "C" fn g1_heap_is_pending(
 }
 
 /// As in `g1.h`.
-#[tactic(auto, using(crate::proofs::tells_none))]
 #[unsafe(no_mangle)]
 pub extern "C" fn g1_heap_status(alloc: Global, heap: &mut HeapHandle, totals: &mut Totals) -> u32
     ensures status { result ≡ 0 → IsSameHeap heap.old.value heap.new.value (λ old new.
@@ -84,7 +83,6 @@ pub extern "C" fn g1_heap_status(alloc: Global, heap: &mut HeapHandle, totals: &
 
 /// As in `g1.h`.
 #[unsafe(no_mangle)]
-#[tactic(auto, using(crate::specs::called_same))]
 pub extern "C" fn g1_heap_members(
     alloc: Global,
     heap: &mut HeapHandle,
@@ -106,11 +104,11 @@ pub extern "C" fn g1_heap_members(
     *count = 0;
     match set_of_heap(alloc, heap, Which::Recorded, region, cards) {
         Err(refusal) => refusal.word(),
-        Ok(Told::First(size)) => {
+        Ok(SetTold::First(size)) => {
             *count = size;
-            Refusal::NoRoom.word()
+            Reason::NoRoom.word()
         }
-        Ok(Told::All(size)) => {
+        Ok(SetTold::All(size)) => {
             *count = size;
             DONE
         }
@@ -126,7 +124,7 @@ pub extern "C" fn g1_heap_next_member(
     from: u32,
     card: &mut u32,
 ) -> u32
-    ensures told { Answers result card.new (card.new ≡ 4294967295) heap.old.value heap.new.value
+    ensures told { IsTold result card.new (card.new ≡ 4294967295) heap.old.value heap.new.value
         (λ card. IsSameHeap heap.old.value heap.new.value (λ old new.
         IsNextMember (table_at old) region from (reference_of card)))
         (IsHeapRefused heap.old.value (λ old. LacksRegion old.layout region)) }

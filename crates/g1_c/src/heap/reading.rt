@@ -4,7 +4,7 @@ ghost use Rattle.g1_c.specs.{length, IsRefusal, BeginsReading, EndsReading, held
 ghost use Rattle.g1_c.specs.{AreReadersOf, AreReadersLike, IsReadBy, IsReadRefused};
 ghost use Rattle.g1_c.specs.{IsReadEndRefused};
 
-use g1_handles::code::DONE;
+use crate::tell::word_of;
 use g1_handles::heap::handle::HeapHandle;
 use g1_handles::heap::reading::read_heap;
 use g1_handles::heap::reading_end::end_read_of_heap;
@@ -25,10 +25,7 @@ pub extern "C" fn g1_heap_read(
     ensures refused { 0 < result → (heap.new.value ≡ heap.old.value)
         × (held_readers readers.new ≡ held_readers readers.old) }
 {
-    match read_heap(alloc, heap, readers) {
-        Ok(()) => DONE,
-        Err(refusal) => refusal.word(),
-    }
+    word_of(read_heap(alloc, heap, readers))
 }
 
 /// As in `g1.h`.
@@ -53,8 +50,5 @@ pub extern "C" fn g1_heap_read_end(
     ensures refused { 0 < result → (heap.new.value ≡ heap.old.value)
         × (held_readers readers.new ≡ held_readers readers.old) }
 {
-    match end_read_of_heap(alloc, heap, readers) {
-        Ok(()) => DONE,
-        Err(refusal) => refusal.word(),
-    }
+    word_of(end_read_of_heap(alloc, heap, readers))
 }

@@ -1,7 +1,8 @@
 //! The collector's own stores into a heap at a pause.
 ghost use Rattle.std.specs.Prelude.{◌≡◌, ◌⊎◌, ◌≤◌};
-ghost use Rattle.g1_c.specs.{length, take, TellsRefusal, StoresAt, StoresAllAt, IsFaultAt, OfKind};
+ghost use Rattle.g1_c.specs.{length, take, StoresAt, StoresAllAt, IsFaultAt, OfKind};
 ghost use Rattle.g1_c.specs.{reference_of, IsHeapRefused, IsSameHeap, OfPaused, LacksPlace};
+ghost use Rattle.g1_c.specs.{TellsRefusal};
 
 use crate::calling::on_heap;
 use g1_handles::code::{DONE, STOPPED, kind_word};
@@ -11,7 +12,6 @@ use g1_handles::one_core::batch::Store;
 use std::alloc::Global;
 
 /// As in `g1.h`.
-#[tactic(auto, using(crate::proofs::heap_made, crate::proofs::tells_none))]
 #[unsafe(no_mangle)]
 pub extern "C" fn g1_heap_store(
     alloc: Global,
@@ -38,7 +38,6 @@ pub extern "C" fn g1_heap_store(
 }
 
 /// As in `g1.h`.
-#[tactic(auto, using(crate::proofs::tells_none))]
 #[unsafe(no_mangle)]
 pub extern "C" fn g1_heap_store_all(
     alloc: Global,

@@ -1,7 +1,7 @@
 //! Checks of a heap at a pause, for a debug build.
 ghost use Rattle.std.specs.Prelude.{◌≡◌, ◌+◌, ◌≤◌};
-ghost use Rattle.g1_c.specs.{length, slot_count, TellsRefusal, IsHeapRefused, IsSameHeap, OfPaused};
-ghost use Rattle.g1_c.specs.{Finds, LacksRanges, table_at};
+ghost use Rattle.g1_c.specs.{length, slot_count, IsHeapRefused, IsSameHeap};
+ghost use Rattle.g1_c.specs.{OfPaused, Finds, LacksRanges, table_at, TellsRefusal};
 
 use crate::calling::on_heap;
 use g1_handles::code::{DONE, NULL};
@@ -10,7 +10,6 @@ use g1_handles::heap::verify::verify_at;
 use std::alloc::Global;
 
 /// As in `g1.h`.
-#[tactic(auto, using(crate::proofs::tells_none))]
 #[unsafe(no_mangle)]
 pub extern "C" fn g1_heap_verify(
     alloc: Global,

@@ -1,20 +1,19 @@
 //! The words of a heap: where they lie, and, at a pause, what a slot's is and a store of data.
 ghost use Rattle.std.specs.Prelude.{◌≡◌, ◌⊎◌, ◌<◌, ◌^◌};
-ghost use Rattle.g1_c.specs.{race_words, TellsRefusal, HasWord, StoresDataAt, IsHeapRefused};
-ghost use Rattle.g1_c.specs.{IsSameHeap, OfHeap, SaysNoHeap, LacksSlot, Answers};
+ghost use Rattle.g1_c.specs.{race_words, HasWord, StoresDataAt, IsHeapRefused};
+ghost use Rattle.g1_c.specs.{IsSameHeap, OfHeap, SaysNoHeap, LacksSlot, TellsRefusal, IsTold};
 ghost use denote.RawPtr.{null_ptr};
 
 use crate::calling::on_heap;
 use crate::tell::tell;
 use core::mem::replace_with;
-use g1_handles::code::{DONE, Refusal};
+use g1_handles::code::{DONE, Reason};
 use g1_handles::heap::handle::HeapHandle;
 use g1_handles::heap::words::{store_data_at, word_at, words_in};
 use std::alloc::Global;
 use std::ptr::null;
 
 /// As in `g1.h`.
-#[tactic(auto, using(crate::proofs::tells_none))]
 #[unsafe(no_mangle)]
 pub extern "C" fn g1_heap_words(alloc: Global, heap: &mut HeapHandle, words: &mut *const u64) -> u32
     ensures words { result ≡ 0 → OfHeap heap.old.value (λ race. words.new ≡ race_words race) }
@@ -22,16 +21,7 @@ pub extern "C" fn g1_heap_words(alloc: Global, heap: &mut HeapHandle, words: &mu
         (SaysNoHeap heap.old.value) }
     ensures same { heap.new.value ≡ heap.old.value }
 {
-    match replace_with(heap, alloc, words_in) {
-        Err(refusal) => {
-            *words = null();
-            refusal.word()
-        }
-        Ok(found) => {
-            *words = found;
-            DONE
-        }
-    }
+    tell(replace_with(heap, alloc, words_in), null(), words)
 }
 
 /// As in `g1.h`.
@@ -42,7 +32,7 @@ pub extern "C" fn g1_heap_word(
     slot: u32,
     word: &mut u64,
 ) -> u32
-    ensures told { Answers result word.new (word.new ≡ 0) heap.old.value heap.new.value
+    ensures told { IsTold result word.new (word.new ≡ 0) heap.old.value heap.new.value
         (λ word. IsSameHeap heap.old.value heap.new.value (λ old new. HasWord old slot word))
         (IsHeapRefused heap.old.value (λ old. LacksSlot old.layout slot)) }
 {
@@ -51,7 +41,6 @@ pub extern "C" fn g1_heap_word(
 }
 
 /// As in `g1.h`.
-#[tactic(auto, using(crate::proofs::heap_made, crate::proofs::tells_none))]
 #[unsafe(no_mangle)]
 pub extern "C" fn g1_heap_store_data(
     alloc: Global,
@@ -62,7 +51,7 @@ pub extern "C" fn g1_heap_store_data(
     ensures stored { result ≡ 0 → IsSameHeap heap.old.value heap.new.value (λ old new.
         StoresDataAt old slot word new) }
     ensures told { TellsRefusal 0 result heap.old.value heap.new.value (Unit {0})
-        (IsHeapRefused heap.old.value (λ old r. LacksSlot old.layout slot r ⊎ ((r ≡ Refusal.BadWord)
+        (IsHeapRefused heap.old.value (λ old r. LacksSlot old.layout slot r ⊎ ((r ≡ Reason.BadWord)
         × (word < 2 ^ 32)))) }
 {
     match on_heap!(alloc, heap, store_data_at(slot, word)) {

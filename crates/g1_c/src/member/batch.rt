@@ -1,7 +1,8 @@
 //! Several stores in a race by one call.
 ghost use Rattle.std.specs.Prelude.{◌≡◌, ◌⊎◌, ◌<◌, ◌≤◌};
-ghost use Rattle.g1_c.specs.{length, take, array_vec_len, race_layout, TellsRefusal, IsFaultAt};
-ghost use Rattle.g1_c.specs.{StoresAll, CanStoreAll, OfRacer, IfRacer, SaysNoMember};
+ghost use Rattle.g1_c.specs.{length, take, array_vec_len, race_layout};
+ghost use Rattle.g1_c.specs.{IsFaultAt, StoresAll, CanStoreAll, OfRacer, IfRacer, SaysNoMember};
+ghost use Rattle.g1_c.specs.{TellsRefusal};
 
 use crate::calling::on_racer;
 use g1_handles::code::{DONE, FULL, STOPPED};
@@ -11,7 +12,6 @@ use g1_handles::one_core::batch::Store;
 use std::alloc::Global;
 
 /// As in `g1.h`.
-#[tactic(auto, using(crate::proofs::tells_none))]
 #[unsafe(no_mangle)]
 pub extern "C" fn g1_race_store_all(
     alloc: Global,

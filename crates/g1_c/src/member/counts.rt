@@ -1,7 +1,6 @@
 //! What a racer and a sweeper have done.
-ghost use Rattle.std.specs.Prelude.{◌≡◌, ◌<◌};
-ghost use Rattle.g1_c.specs.{TellsRefusal, OfRacer, OfSweeper, SaysNoMember};
-ghost use Rattle.g1_handles.specs.Counting.{stored_of};
+ghost use Rattle.std.specs.Prelude.{◌≡◌};
+ghost use Rattle.g1_c.specs.{OfRacer, OfSweeper, SaysNoMember, stored_as, TellsRefusal};
 
 use crate::calling::{on_racer, on_sweeper};
 use g1_handles::code::DONE;
@@ -12,7 +11,6 @@ use g1_layout::Kind;
 use std::alloc::Global;
 
 /// As in `g1.h`.
-#[tactic(auto, using(crate::proofs::tells_none))]
 #[unsafe(no_mangle)]
 pub extern "C" fn g1_racer_counts(
     alloc: Global,
@@ -23,10 +21,10 @@ pub extern "C" fn g1_racer_counts(
     logged: &mut u64,
 ) -> u32
     ensures counts { result ≡ 0 → OfRacer racer.old.value (λ a.
-        (null.new ≡ stored_of a.counts Kind.Null)
-        × (same_region.new ≡ stored_of a.counts Kind.SameRegion)
-        × (already_dirty.new ≡ stored_of a.counts Kind.AlreadyDirty)
-        × (logged.new ≡ stored_of a.counts Kind.Logged)) }
+        (null.new ≡ stored_as a.counts Kind.Null)
+        × (same_region.new ≡ stored_as a.counts Kind.SameRegion)
+        × (already_dirty.new ≡ stored_as a.counts Kind.AlreadyDirty)
+        × (logged.new ≡ stored_as a.counts Kind.Logged)) }
     ensures told { TellsRefusal 0 result racer.old.value racer.new.value
         ((null.new ≡ 0) × (same_region.new ≡ 0) × (already_dirty.new ≡ 0) × (logged.new ≡ 0))
         (SaysNoMember racer.old.value) }
@@ -48,7 +46,6 @@ pub extern "C" fn g1_racer_counts(
 }
 
 /// As in `g1.h`.
-#[tactic(auto, using(crate::proofs::tells_none))]
 #[unsafe(no_mangle)]
 pub extern "C" fn g1_sweeper_counts(
     alloc: Global,

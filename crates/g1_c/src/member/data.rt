@@ -1,7 +1,7 @@
 //! Stores of data in a race.
 ghost use Rattle.std.specs.Prelude.{◌≡◌, ◌<◌, ◌≤◌, ◌^◌};
-ghost use Rattle.g1_c.specs.{slot_count, race_layout, TellsRefusal, OfRacer, IfRacer, StoresData};
-ghost use Rattle.g1_c.specs.{IsRaceDataRefused};
+ghost use Rattle.g1_c.specs.{slot_count, race_layout, OfRacer, IfRacer};
+ghost use Rattle.g1_c.specs.{StoresData, IsRaceDataRefused, TellsRefusal};
 
 use crate::calling::on_racer;
 use g1_handles::code::DONE;
@@ -10,7 +10,6 @@ use g1_handles::member::racer_handle::RacerHandle;
 use std::alloc::Global;
 
 /// As in `g1.h`.
-#[tactic(auto, using(crate::proofs::role_made, crate::proofs::taken_2, crate::proofs::tells_none))]
 #[unsafe(no_mangle)]
 pub extern "C" fn g1_race_store_data(
     alloc: Global,

@@ -1,8 +1,8 @@
 //! Stores in a race that tell what the slot referred to before, or depend on it.
 ghost use Rattle.std.specs.Prelude.{◌≡◌, ◌⊎◌, ◌<◌, ◌≤◌};
-ghost use Rattle.g1_c.specs.{array_vec_len, race_layout, TellsRefusal, IsStoreOf, OfKind};
+ghost use Rattle.g1_c.specs.{array_vec_len, race_layout, IsStoreOf, OfKind};
 ghost use Rattle.g1_c.specs.{reference_of, Swaps, Exchanges, FindsOther, OfRacer, IfRacer};
-ghost use Rattle.g1_c.specs.{IsRaceStoreRefused, IsRaceExchangeRefused};
+ghost use Rattle.g1_c.specs.{IsRaceStoreRefused, IsRaceExchangeRefused, TellsRefusal};
 
 use crate::calling::on_racer;
 use g1_handles::code::{DIFFERS, DONE, NULL, kind_word};
@@ -11,7 +11,6 @@ use g1_handles::member::racer_handle::RacerHandle;
 use std::alloc::Global;
 
 /// As in `g1.h`.
-#[tactic(auto, using(crate::proofs::of_kind, crate::proofs::role_made, crate::proofs::tells_none))]
 #[unsafe(no_mangle)]
 pub extern "C" fn g1_race_swap(
     alloc: Global,
@@ -44,7 +43,6 @@ pub extern "C" fn g1_race_swap(
 }
 
 /// As in `g1.h`.
-#[tactic(auto, using(crate::proofs::of_kind, crate::proofs::role_made, crate::proofs::tells_none))]
 #[unsafe(no_mangle)]
 pub extern "C" fn g1_race_compare_exchange(
     alloc: Global,

@@ -1,15 +1,15 @@
 //! The log of a racer.
 ghost use Rattle.std.specs.Prelude.{◌≡◌, ◌⊎◌, ◌<◌, ◌≤◌};
-ghost use Rattle.g1_c.specs.{length, take, TellsRefusal, OfRacer, IfRacer, TakesLog, IsWritten};
-ghost use Rattle.g1_c.specs.{SaysNoMember};
+ghost use Rattle.g1_c.specs.{length, take, OfRacer, IfRacer, TakesLog};
+ghost use Rattle.g1_c.specs.{IsWritten, SaysNoMember, TellsRefusal};
 
-use g1_handles::code::{DONE, Refusal};
+use crate::tell::tell;
+use g1_handles::code::Reason;
 use g1_handles::member::log::take_log;
 use g1_handles::member::racer_handle::RacerHandle;
 use std::alloc::Global;
 
 /// As in `g1.h`.
-#[tactic(auto, using(crate::proofs::tells_none))]
 #[unsafe(no_mangle)]
 pub extern "C" fn g1_race_take_log(
     alloc: Global,
@@ -21,18 +21,9 @@ pub extern "C" fn g1_race_take_log(
         OfRacer racer.new.value (λ b. TakesLog a (take count.new cards.new) b)) }
     ensures taken { IfRacer racer.old.value (λ a. 256 ≤ length cards.old → result ≡ 0) }
     ensures told { TellsRefusal 0 result racer.old.value racer.new.value (count.new ≡ 0)
-        (λ refusal. SaysNoMember racer.old.value refusal ⊎ ((refusal ≡ Refusal.NoRoom) ×
+        (λ refusal. SaysNoMember racer.old.value refusal ⊎ ((refusal ≡ Reason.NoRoom) ×
         (length cards.old < 256))) }
     ensures written { IsWritten cards.old count.new cards.new }
 {
-    match take_log(alloc, racer, cards) {
-        Err(refusal) => {
-            *count = 0;
-            refusal.word()
-        }
-        Ok(taken) => {
-            *count = taken;
-            DONE
-        }
-    }
+    tell(take_log(alloc, racer, cards), 0, count)
 }

@@ -1,9 +1,9 @@
 //! Queries by a reader: what a slot refers to and its word, whether a card is pending, and what is
 //! recorded for a region.
-ghost use Rattle.std.specs.Prelude.{◌≡◌, ◌<◌, ◌≤◌, ◌==◌};
-ghost use Rattle.g1_c.specs.{reference_of, OfReader, reader_layout, ReadsTarget, ReadsWord};
-ghost use Rattle.g1_c.specs.{ReadsPair, ReadsPending, ReadsNext, IsReaderRefused, LacksCard};
-ghost use Rattle.g1_c.specs.{LacksPair, LacksRegion, LacksSlot, Answers};
+ghost use Rattle.std.specs.Prelude.{◌≡◌, ◌≤◌, ◌==◌};
+ghost use Rattle.g1_c.specs.{reference_of, OfReader, reader_layout, ReadsTarget};
+ghost use Rattle.g1_c.specs.{ReadsWord, ReadsPair, ReadsPending, ReadsNext, IsReaderRefused};
+ghost use Rattle.g1_c.specs.{LacksCard, LacksPair, LacksRegion, LacksSlot, IsTold};
 
 use crate::calling::on_reader;
 use crate::tell::{tell, tell_whether};
@@ -16,14 +16,13 @@ use std::alloc::Global;
 
 /// As in `g1.h`.
 #[unsafe(no_mangle)]
-#[tactic(auto, using(crate::proofs::role_answers))]
 pub extern "C" fn g1_reader_target(
     alloc: Global,
     reader: &mut ReaderHandle,
     slot: u32,
     target: &mut u32,
 ) -> u32
-    ensures told { Answers result target.new (target.new ≡ 4294967295)
+    ensures told { IsTold result target.new (target.new ≡ 4294967295)
         reader.old.value reader.new.value
         (λ target. OfReader reader.old.value (λ a. ReadsTarget a slot (reference_of target)))
         (IsReaderRefused reader.old.value (λ a. LacksSlot (reader_layout a) slot)) }
@@ -34,14 +33,13 @@ pub extern "C" fn g1_reader_target(
 
 /// As in `g1.h`.
 #[unsafe(no_mangle)]
-#[tactic(auto, using(crate::proofs::role_answers))]
 pub extern "C" fn g1_reader_word(
     alloc: Global,
     reader: &mut ReaderHandle,
     slot: u32,
     word: &mut u64,
 ) -> u32
-    ensures told { Answers result word.new (word.new ≡ 0) reader.old.value reader.new.value
+    ensures told { IsTold result word.new (word.new ≡ 0) reader.old.value reader.new.value
         (λ word. OfReader reader.old.value (λ a. ReadsWord a slot word))
         (IsReaderRefused reader.old.value (λ a. LacksSlot (reader_layout a) slot)) }
 {
@@ -51,14 +49,13 @@ pub extern "C" fn g1_reader_word(
 
 /// As in `g1.h`.
 #[unsafe(no_mangle)]
-#[tactic(auto, using(crate::proofs::role_answers))]
 pub extern "C" fn g1_reader_is_pending(
     alloc: Global,
     reader: &mut ReaderHandle,
     card: u32,
     pending: &mut u32,
 ) -> u32
-    ensures told { Answers result (pending.new == 1) (pending.new ≡ 0)
+    ensures told { IsTold result (pending.new == 1) (pending.new ≡ 0)
         reader.old.value reader.new.value
         (λ answer. OfReader reader.old.value (λ a. ReadsPending a card answer))
         (IsReaderRefused reader.old.value (λ a. LacksCard (reader_layout a) card)) }
@@ -77,7 +74,7 @@ pub extern "C" fn g1_reader_has(
     region: u32,
     has: &mut u32,
 ) -> u32
-    ensures told { Answers result (has.new == 1) (has.new ≡ 0) reader.old.value reader.new.value
+    ensures told { IsTold result (has.new == 1) (has.new ≡ 0) reader.old.value reader.new.value
         (λ answer. OfReader reader.old.value (λ a. ReadsPair a card region answer))
         (IsReaderRefused reader.old.value (λ a. LacksPair (reader_layout a) card region)) }
     ensures word { has.new ≤ 1 }
@@ -88,7 +85,6 @@ pub extern "C" fn g1_reader_has(
 
 /// As in `g1.h`.
 #[unsafe(no_mangle)]
-#[tactic(auto, using(crate::proofs::role_answers))]
 pub extern "C" fn g1_reader_next_member(
     alloc: Global,
     reader: &mut ReaderHandle,
@@ -96,7 +92,7 @@ pub extern "C" fn g1_reader_next_member(
     from: u32,
     card: &mut u32,
 ) -> u32
-    ensures told { Answers result card.new (card.new ≡ 4294967295) reader.old.value reader.new.value
+    ensures told { IsTold result card.new (card.new ≡ 4294967295) reader.old.value reader.new.value
         (λ card. OfReader reader.old.value (λ a. ReadsNext a region from (reference_of card)))
         (IsReaderRefused reader.old.value (λ a. LacksRegion (reader_layout a) region)) }
 {

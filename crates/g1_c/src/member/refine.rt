@@ -1,7 +1,7 @@
 //! Concurrent refinement in a race.
 ghost use Rattle.std.specs.Prelude.{◌≡◌, ◌<◌};
-ghost use Rattle.g1_c.specs.{card_count, race_layout, TellsRefusal, OfSweeper, IfSweeper, Sweeps};
-ghost use Rattle.g1_c.specs.{IsSweepRefused};
+ghost use Rattle.g1_c.specs.{card_count, race_layout, OfSweeper, IfSweeper, Sweeps};
+ghost use Rattle.g1_c.specs.{IsSweepRefused, TellsRefusal};
 
 use crate::calling::on_sweeper;
 use g1_handles::code::DONE;
@@ -10,7 +10,6 @@ use g1_handles::member::sweeper_handle::SweeperHandle;
 use std::alloc::Global;
 
 /// As in `g1.h`.
-#[tactic(auto, using(crate::proofs::role_made, crate::proofs::taken_1, crate::proofs::tells_none))]
 #[unsafe(no_mangle)]
 pub extern "C" fn g1_race_refine(alloc: Global, sweeper: &mut SweeperHandle, card: u32) -> u32
     ensures refined { result ≡ 0 → OfSweeper sweeper.old.value (λ a.

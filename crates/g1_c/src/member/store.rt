@@ -1,7 +1,7 @@
 //! Lock-free stores in a race.
 ghost use Rattle.std.specs.Prelude.{◌≡◌, ◌<◌};
-ghost use Rattle.g1_c.specs.{array_vec_len, race_layout, TellsRefusal, IsStoreOf, OfKind};
-ghost use Rattle.g1_c.specs.{reference_of, OfRacer, IfRacer, Stores, IsRaceStoreRefused};
+ghost use Rattle.g1_c.specs.{array_vec_len, race_layout, IsStoreOf, OfKind, reference_of};
+ghost use Rattle.g1_c.specs.{OfRacer, IfRacer, Stores, IsRaceStoreRefused, TellsRefusal};
 
 use crate::calling::on_racer;
 use g1_handles::code::{DONE, kind_word};
@@ -10,7 +10,6 @@ use g1_handles::member::store::store_by;
 use std::alloc::Global;
 
 /// As in `g1.h`.
-#[tactic(auto, using(crate::proofs::of_kind, crate::proofs::role_made, crate::proofs::tells_none))]
 #[unsafe(no_mangle)]
 pub extern "C" fn g1_race_store(
     alloc: Global,

@@ -1,8 +1,8 @@
 //! Stores of words in a race: a slot may hold null, a reference or data.
 ghost use Rattle.std.specs.Prelude.{◌≡◌, ◌⊎◌, ◌<◌, ◌≤◌};
-ghost use Rattle.g1_c.specs.{TellsRefusal, OfKind, OfRacer, IfRacer};
-ghost use Rattle.g1_handles.specs.RaceWords.{SwapsWord, FindsOtherWord, CanStoreWord, MayHave};
-ghost use Rattle.g1_handles.specs.RaceWords.{IsSwapWordRefused, IsExchangeWordRefused};
+ghost use Rattle.g1_c.specs.{OfKind, OfRacer, IfRacer, SwapsWord};
+ghost use Rattle.g1_c.specs.{FindsOtherWord, CanStoreWord, MayHave, IsSwapWordRefused};
+ghost use Rattle.g1_c.specs.{IsExchangeWordRefused, TellsRefusal};
 
 use crate::calling::on_racer;
 use g1_handles::code::{DIFFERS, DONE, kind_word};
@@ -11,7 +11,6 @@ use g1_handles::member::words::{compare_exchange_word_by, swap_word_by};
 use std::alloc::Global;
 
 /// As in `g1.h`.
-#[tactic(auto, using(crate::proofs::of_kind, crate::proofs::role_made, crate::proofs::tells_none))]
 #[unsafe(no_mangle)]
 pub extern "C" fn g1_race_swap_word(
     alloc: Global,
@@ -43,7 +42,6 @@ pub extern "C" fn g1_race_swap_word(
 }
 
 /// As in `g1.h`.
-#[tactic(auto, using(crate::proofs::of_a_store))]
 #[unsafe(no_mangle)]
 pub extern "C" fn g1_race_compare_exchange_word(
     alloc: Global,

@@ -1,7 +1,7 @@
 //! Several stores by one call.
 ghost use Rattle.std.specs.Prelude.{◌≡◌, ◌⊎◌, ◌≤◌};
-ghost use Rattle.g1_c.specs.Prelude.{length, take, IfSome, IsWritten, Between, made_all, IsFaultAt};
-ghost use Rattle.g1_c.specs.Prelude.{AreStoresRefused, IsCallRefused};
+ghost use Rattle.g1_c.specs.Prelude.{length, take, IfSome, IsWritten, Between};
+ghost use Rattle.g1_c.specs.Prelude.{made_all, IsFaultAt, AreStoresRefused, IsCallRefused};
 ghost use Rattle.g1_c.specs.Calls.{TellsRefusal};
 
 use crate::calling::on_core;
@@ -22,7 +22,6 @@ pub struct Batch {
 }
 
 /// As in `g1.h`.
-#[tactic(auto, using(crate::proofs::tells_none))]
 #[unsafe(no_mangle)]
 pub extern "C" fn g1_store_all(
     alloc: Global,

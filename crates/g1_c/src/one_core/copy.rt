@@ -1,16 +1,15 @@
 //! A range of slots of a core is copied to another one.
 ghost use Rattle.std.specs.Prelude.{◌≡◌, ◌+◌, ◌≤◌};
-ghost use Rattle.g1_c.specs.{IfSome, slot_count, TellsRefusal, Between, LacksRanges, IsCallRefused};
-ghost use Rattle.g1_handles.specs.Replies.{CopiesSlots};
+ghost use Rattle.g1_c.specs.{IfSome, slot_count, Between, LacksRanges};
+ghost use Rattle.g1_c.specs.{IsCallRefused, CopiesSlots, TellsRefusal};
 
 use crate::calling::on_core;
-use g1_handles::code::DONE;
+use crate::tell::word_of;
 use g1_handles::one_core::copy::copy_in;
 use g1_handles::one_core::handle::Handle;
 use std::alloc::Global;
 
 /// As in `g1.h`.
-#[tactic(auto, using(crate::proofs::tells_none))]
 #[unsafe(no_mangle)]
 pub extern "C" fn g1_copy(alloc: Global, handle: &mut Handle, from: u32, to: u32, count: u32) -> u32
     ensures copied { result ≡ 0 → Between handle.old.value handle.new.value (λ old new.
@@ -22,8 +21,5 @@ pub extern "C" fn g1_copy(alloc: Global, handle: &mut Handle, from: u32, to: u32
         (IsCallRefused handle.old.value
         (λ old. LacksRanges old.state.table.layout from count to count)) }
 {
-    match on_core!(alloc, handle, copy_in(from, to, count)) {
-        Err(refusal) => refusal.word(),
-        Ok(()) => DONE,
-    }
+    word_of(on_core!(alloc, handle, copy_in(from, to, count)))
 }

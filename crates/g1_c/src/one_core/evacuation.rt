@@ -1,7 +1,8 @@
 //! The clear and the redirect, which may follow an evacuation.
 ghost use Rattle.std.specs.Prelude.{◌≡◌, ◌≢◌, ◌<◌};
-ghost use Rattle.g1_c.specs.{Between, IsRefusal, IsCallRefused, LacksRegion, ClearsTo, AreOnlyRead};
-ghost use Rattle.g1_c.specs.{length, take, TellsRefusal, IsWritten, IsRedirectRefused, RedirectsTo};
+ghost use Rattle.g1_c.specs.{Between, IsRefusal, IsCallRefused, LacksRegion};
+ghost use Rattle.g1_c.specs.{ClearsTo, AreOnlyRead, length, take, IsWritten, IsRedirectRefused};
+ghost use Rattle.g1_c.specs.{RedirectsTo, TellsRefusal};
 
 use crate::calling::on_core;
 use g1_core::{ClearReply, Redirected};
@@ -43,7 +44,6 @@ pub extern "C" fn g1_clear(alloc: Global, handle: &mut Handle, region: u32, deta
 }
 
 /// As in `g1.h`.
-#[tactic(auto, using(crate::proofs::tells_none))]
 #[unsafe(no_mangle)]
 pub extern "C" fn g1_redirect(
     alloc: Global,

@@ -1,10 +1,10 @@
 //! The remembered set of a region, as it is recorded.
 ghost use Rattle.std.specs.Prelude.{◌≡◌, ◌≢◌, ◌<◌};
-ghost use Rattle.g1_c.specs.{length, take, IsWritten, OfOpen, IsRefusal, TellsMembers, Overflows};
-ghost use Rattle.g1_c.specs.{AreMembersRefused, IsCallRefused};
+ghost use Rattle.g1_c.specs.{length, take, IsWritten, OfOpen, IsRefusal};
+ghost use Rattle.g1_c.specs.{TellsMembers, Overflows, AreMembersRefused, IsCallRefused};
 
 use crate::calling::on_core;
-use g1_handles::code::{DONE, Refusal};
+use g1_handles::code::{DONE, Reason};
 use g1_handles::list::write_list;
 use g1_handles::one_core::handle::Handle;
 use g1_handles::one_core::members::{Listed, members_in};
@@ -37,7 +37,7 @@ pub extern "C" fn g1_members(
         Err(refusal) => refusal.word(),
         Ok(Listed::NoRoom(needed)) => {
             *count = needed;
-            Refusal::NoRoom.word()
+            Reason::NoRoom.word()
         }
         Ok(Listed::Members(members)) => {
             *count = write_list(members.as_slice(), cards);

@@ -1,16 +1,15 @@
 //! Opening and closing a handle.
 ghost use Rattle.std.specs.Prelude.{◌≡◌, ◌↔◌, ◌<◌};
-ghost use Rattle.g1_c.specs.{Some, None, IsSome, Machine, new_machine, TellsRefusal, layout_of};
-ghost use Rattle.g1_c.specs.{settings_of, IsRefusal, IsOpenRefused, SaysNotOpen};
+ghost use Rattle.g1_c.specs.{Some, None, IsSome, new_machine, layout_of};
+ghost use Rattle.g1_c.specs.{settings_of, IsRefusal, IsOpenRefused, SaysNotOpen, TellsRefusal};
 
+use crate::tell::word_of;
 use core::mem::replace_with;
-use g1_handles::code::DONE;
 use g1_handles::one_core::handle::Handle;
 use g1_handles::one_core::open::{Counts, close_in, open_core};
 use std::alloc::Global;
 
 /// As in `g1.h`.
-#[tactic(auto, using(crate::proofs::tells_none))]
 #[unsafe(no_mangle)]
 pub extern "C" fn g1_open(
     alloc: Global,
@@ -25,10 +24,7 @@ pub extern "C" fn g1_open(
     ensures told { TellsRefusal 0 result handle.old.value handle.new.value (Unit {0})
         (IsOpenRefused handle.old.value (layout_of counts.now) (settings_of hot ring)) }
 {
-    match open_core(alloc, handle, counts, hot, ring) {
-        Ok(()) => DONE,
-        Err(refusal) => refusal.word(),
-    }
+    word_of(open_core(alloc, handle, counts, hot, ring))
 }
 
 /// As in `g1.h`.

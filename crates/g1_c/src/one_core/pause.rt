@@ -1,7 +1,7 @@
 //! The pause.
 ghost use Rattle.std.specs.Prelude.{◌≡◌, ◌<◌};
-ghost use Rattle.g1_c.specs.{length, take, TellsRefusal, IsWritten, Between, IsCallRefused};
-ghost use Rattle.g1_c.specs.{IsDrainRefused, DrainsTo};
+ghost use Rattle.g1_c.specs.{length, take, IsWritten, Between, IsCallRefused};
+ghost use Rattle.g1_c.specs.{IsDrainRefused, DrainsTo, TellsRefusal};
 
 use crate::calling::on_core;
 use g1_core::Drained;
@@ -12,7 +12,6 @@ use g1_handles::one_core::pause::drain_in;
 use std::alloc::Global;
 
 /// As in `g1.h`.
-#[tactic(auto, using(crate::proofs::tells_none))]
 #[unsafe(no_mangle)]
 pub extern "C" fn g1_drain(
     alloc: Global,

@@ -1,8 +1,8 @@
 //! Queries: what a slot refers to, whether a card is pending, and how much is pending and recorded.
 ghost use Rattle.std.specs.Prelude.{◌≡◌, ◌<◌, ◌≤◌, ◌==◌};
-ghost use Rattle.g1_c.specs.Prelude.{IfSome, IsSome, slot_count, card_count, Between, OfOpen};
-ghost use Rattle.g1_c.specs.Prelude.{reference_of, RefersTo, TellsPending, TellsStatus};
-ghost use Rattle.g1_c.specs.Prelude.{IsCallRefused, SaysNotOpen, LacksCard, LacksSlot};
+ghost use Rattle.g1_c.specs.Prelude.{IfSome, IsSome, slot_count, card_count};
+ghost use Rattle.g1_c.specs.Prelude.{Between, OfOpen, reference_of, RefersTo, TellsPending};
+ghost use Rattle.g1_c.specs.Prelude.{TellsStatus, IsCallRefused, SaysNotOpen, LacksCard, LacksSlot};
 ghost use Rattle.g1_c.specs.Calls.{TellsRefusal};
 
 use crate::calling::on_core;
@@ -23,7 +23,6 @@ pub struct Totals {
 }
 
 /// As in `g1.h`.
-#[tactic(auto, using(crate::proofs::tells_none))]
 #[unsafe(no_mangle)]
 pub extern "C" fn g1_target(alloc: Global, handle: &mut Handle, slot: u32, target: &mut u32) -> u32
     ensures target { result ≡ 0 → Between handle.old.value handle.new.value (λ old new.
@@ -38,7 +37,6 @@ pub extern "C" fn g1_target(alloc: Global, handle: &mut Handle, slot: u32, targe
 }
 
 /// As in `g1.h`.
-#[tactic(auto, using(crate::proofs::tells_none))]
 #[unsafe(no_mangle)]
 pub extern "C" fn g1_is_pending(
     alloc: Global,
@@ -60,7 +58,6 @@ pub extern "C" fn g1_is_pending(
 }
 
 /// As in `g1.h`.
-#[tactic(auto, using(crate::proofs::tells_none))]
 #[unsafe(no_mangle)]
 pub extern "C" fn g1_status(alloc: Global, handle: &mut Handle, totals: &mut Totals) -> u32
     ensures totals { result ≡ 0 → OfOpen handle.old.value (λ machine.

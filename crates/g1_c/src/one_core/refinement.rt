@@ -23,7 +23,6 @@ pub struct Tally {
 }
 
 /// As in `g1.h`.
-#[tactic(auto, using(crate::proofs::tells_none))]
 #[unsafe(no_mangle)]
 pub extern "C" fn g1_refine(
     alloc: Global,

@@ -1,9 +1,7 @@
 //! Stores.
 ghost use Rattle.std.specs.Prelude.{◌≡◌};
-ghost use Rattle.g1_c.specs.{IfSome, TellsRefusal, kind_word, reference_of, IsStoreOf, Between};
-ghost use Rattle.g1_c.specs.{OfOpen, LacksPlace, IsCallRefused};
-ghost use Rattle.g1_core.specs.Run.{kind_of};
-ghost use Rattle.g1_core.specs.Barrier.{stored_machine};
+ghost use Rattle.g1_c.specs.{IfSome, kind_word, reference_of, IsStoreOf, Between, OfOpen};
+ghost use Rattle.g1_c.specs.{LacksPlace, IsCallRefused, kind_of, stored_machine, TellsRefusal};
 
 use crate::calling::on_core;
 use g1_handles::code::{DONE, kind_word};
@@ -12,7 +10,6 @@ use g1_handles::one_core::store::store_in;
 use std::alloc::Global;
 
 /// As in `g1.h`.
-#[tactic(auto, using(crate::proofs::tells_none))]
 #[unsafe(no_mangle)]
 pub extern "C" fn g1_store(
     alloc: Global,

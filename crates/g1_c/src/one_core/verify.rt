@@ -1,7 +1,7 @@
 //! Checks of a core for a debug build.
 ghost use Rattle.std.specs.Prelude.{◌≡◌, ◌+◌, ◌≤◌};
-ghost use Rattle.g1_c.specs.{IfSome, length, slot_count, IsOnlyRead, TellsRefusal, Between, Finds};
-ghost use Rattle.g1_c.specs.{LacksRanges, IsCallRefused};
+ghost use Rattle.g1_c.specs.{IfSome, length, slot_count, IsOnlyRead, Between, Finds};
+ghost use Rattle.g1_c.specs.{LacksRanges, IsCallRefused, TellsRefusal};
 
 use crate::calling::on_core;
 use g1_handles::code::{DONE, NULL};
@@ -10,7 +10,6 @@ use g1_handles::one_core::verify::verify_in;
 use std::alloc::Global;
 
 /// As in `g1.h`.
-#[tactic(auto, using(crate::proofs::tells_none))]
 #[unsafe(no_mangle)]
 pub extern "C" fn g1_verify(
     alloc: Global,

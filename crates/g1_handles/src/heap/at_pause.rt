@@ -1,9 +1,9 @@
 //! A call on a heap at a pause.
-ghost use Rattle.g1_handles.specs.{Some, Result, FnOnceReturnsAtMut, Pause, Refusal, IsKept};
+ghost use Rattle.g1_handles.specs.{Some, Result, FnOnceReturnsAtMut, Pause, Reason, IsRaceWith};
 ghost use Rattle.g1_handles.specs.{IsCalled};
 
 use crate::any_handle::{closed, into_box, opened};
-use crate::code::Refusal;
+use crate::code::Reason;
 use crate::heap::handle::HeapHandle;
 use crate::heap::racing_heap::RacingHeap;
 use g1_race::{Paused, Race};
@@ -16,34 +16,34 @@ pub type PausedHeap = Paused<Arc<Race, Global>>;
 /// Makes a call on the heap of a handle, which is at a pause, and puts the heap back. `words` has
 /// the call. Returns `NotOpen`, or `NotPaused` if the heap's members are out or readers read it:
 /// nothing has changed.
-pub fn at_pause<A, F: FnOnce(&mut PausedHeap) -> Result<A, Refusal>>(
+pub fn at_pause<A, F: FnOnce(&mut PausedHeap) -> Result<A, Reason>>(
     handle: HeapHandle,
     words: (Global, F),
-) -> (HeapHandle, Result<A, Refusal>)
+) -> (HeapHandle, Result<A, Reason>)
     requires callable { F.IsAlwaysCallable words.1 }
-    requires kept { (old new : Pause) (r : Result A Refusal)
-        → FnOnceReturnsAtMut F.FnOnce words.1 old r new → IsKept old new }
+    requires kept { (old new : Pause) (r : Result A Reason)
+        → FnOnceReturnsAtMut F.FnOnce words.1 old r new → IsRaceWith new.logs old new }
     ensures { IsCalled (FnOnceReturnsAtMut F.FnOnce words.1) handle.value result.1 result.0.value }
 {
     let (alloc, call) = words;
     let Some(mut heap) = into_box(handle) else {
-        return (closed(alloc), Err(Refusal::NotOpen));
+        return (closed(alloc), Err(Reason::NotOpen));
     };
     let answer = call_on(&mut heap, call);
     (opened(heap), answer)
 }
 
-fn call_on<A, F: FnOnce(&mut PausedHeap) -> Result<A, Refusal>>(
+fn call_on<A, F: FnOnce(&mut PausedHeap) -> Result<A, Reason>>(
     heap: &mut RacingHeap,
     call: F,
-) -> Result<A, Refusal>
+) -> Result<A, Reason>
     requires callable { F.IsAlwaysCallable call }
-    requires kept { (old new : Pause) (r : Result A Refusal)
-        → FnOnceReturnsAtMut F.FnOnce call old r new → IsKept old new }
+    requires kept { (old new : Pause) (r : Result A Reason)
+        → FnOnceReturnsAtMut F.FnOnce call old r new → IsRaceWith new.logs old new }
     ensures { IsCalled (FnOnceReturnsAtMut F.FnOnce call) (Some heap.old) result (Some heap.new) }
 {
     let RacingHeap::Paused(at) = heap else {
-        return Err(Refusal::NotPaused);
+        return Err(Reason::NotPaused);
     };
     call(&mut at.pause)
 }

@@ -1,24 +1,22 @@
 //! A range of slots is copied to another one at a pause.
 ghost use Rattle.std.specs.Prelude.{◌≡◌};
-ghost use Rattle.g1_handles.specs.{OnOk, IfErr, OnErr, IsKept, LacksRanges};
-ghost use Rattle.g1_handles.specs.AtPause.{Copies};
+ghost use Rattle.g1_handles.specs.{OnOk, IfErr, OnErr, IsRaceWith, LacksRanges, Copies};
 
-use crate::code::Refusal;
+use crate::code::Reason;
 use crate::heap::at_pause::PausedHeap;
 use crate::one_core::copy::has_slots;
 
 /// Copies the words of `count` slots, from the slot `from` on, to as many from the slot `to` on.
 /// Returns `NoSlot` if one of the two ranges leaves the heap: nothing has changed.
-#[tactic(auto, using(crate::proofs::Kept::kept_same))]
-pub fn copy_at(heap: &mut PausedHeap, from: u32, to: u32, count: u32) -> Result<(), Refusal>
+pub fn copy_at(heap: &mut PausedHeap, from: u32, to: u32, count: u32) -> Result<(), Reason>
     ensures copied { OnOk result (Copies heap.old from to count heap.new) }
     ensures why { IfErr result (LacksRanges heap.old.layout from count to count) }
     ensures refused { OnErr result (heap.new ≡ heap.old) }
-    ensures kept { IsKept heap.old heap.new }
+    ensures kept { IsRaceWith heap.new.logs heap.old heap.new }
 {
     let layout = heap.layout();
     if !has_slots(layout, from, count as usize) || !has_slots(layout, to, count as usize) {
-        return Err(Refusal::NoSlot);
+        return Err(Reason::NoSlot);
     }
     // Only an empty range begins behind the last slot.
     if let (Some(from), Some(to)) = (layout.slot(from), layout.slot(to)) {

@@ -1,12 +1,12 @@
 //! Refinement at a pause.
-ghost use Rattle.g1_handles.specs.{IsKept, Refines};
+ghost use Rattle.g1_handles.specs.{IsRaceWith, Refines};
 
 use crate::heap::at_pause::PausedHeap;
 
 /// Refines every dirty card. The members of each region are exact then.
 pub fn refine_at(heap: &mut PausedHeap)
     ensures refined { Refines heap.old heap.new }
-    ensures kept { IsKept heap.old heap.new }
+    ensures kept { IsRaceWith heap.new.logs heap.old heap.new }
 {
     heap.refine_all();
 }

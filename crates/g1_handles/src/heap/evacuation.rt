@@ -1,11 +1,11 @@
 //! What follows an evacuation: references are moved or a remembered set is emptied, and a region is
 //! freed.
-ghost use Rattle.std.specs.Prelude.{◌≡◌, ◌≢◌, ◌<◌, ◌⊎◌, true};
-ghost use Rattle.g1_handles.specs.{ℕ, false, IfOk, OnOk, IfErr, OnErr, region_of, Crosses};
-ghost use Rattle.g1_handles.specs.{table_at, IsKept, ClearsAt, Redirects, Wipes, Forgets};
-ghost use Rattle.g1_handles.specs.{RefersOut, cleared_of, IsClearWord, LacksRegion};
+ghost use Rattle.std.specs.Prelude.{◌≡◌, ◌≢◌, ◌<◌, ◌⊎◌};
+ghost use Rattle.g1_handles.specs.{true, ℕ, false, IfOk, OnOk, IfErr, OnErr};
+ghost use Rattle.g1_handles.specs.{region_of, Crosses, table_at, IsRaceWith, ClearsAt, Redirects};
+ghost use Rattle.g1_handles.specs.{Wipes, Forgets, RefersOut, cleared_of, IsClearWord, LacksRegion};
 
-use crate::code::Refusal;
+use crate::code::Reason;
 use crate::heap::at_pause::PausedHeap;
 use crate::one_core::evacuation::words_of;
 use g1_layout::{Layout, Region};
@@ -14,73 +14,69 @@ use g1_layout::{Layout, Region};
 /// refers into it. Returns the word of the reply and the number that goes with it, as
 /// [`clear_in`](crate::one_core::evacuation::clear_in) does. Unless that word is 0, nothing has
 /// changed. Returns `NoRegion` if the call was refused.
-#[tactic(auto, using(crate::proofs::Kept::kept_same))]
-pub fn clear_at(heap: &mut PausedHeap, region: u32) -> Result<(u32, u32), Refusal>
+pub fn clear_at(heap: &mut PausedHeap, region: u32) -> Result<(u32, u32), Reason>
     ensures cleared { IfOk result (λ answer.
         ClearsAt heap.old region (cleared_of answer.0 answer.1) heap.new) }
     ensures words { IfOk result (λ answer. IsClearWord answer.0 answer.1) }
     ensures left { IfOk result (λ answer. 0 < answer.0 → heap.new ≡ heap.old) }
     ensures why { IfErr result (LacksRegion heap.old.layout region) }
     ensures refused { OnErr result (heap.new ≡ heap.old) }
-    ensures kept { IsKept heap.old heap.new }
+    ensures kept { IsRaceWith heap.new.logs heap.old heap.new }
 {
     let Some(region) = heap.layout().region(region) else {
-        return Err(Refusal::NoRegion);
+        return Err(Reason::NoRegion);
     };
     Ok(words_of(heap.clear(region)))
 }
 
 /// Moves the references into one region to another, and returns how many slots changed. Returns
 /// `NoRegion`, for either region, or `SameRegion` if the call was refused: nothing has changed.
-#[tactic(auto, using(crate::proofs::Kept::kept_same))]
-pub fn redirect_at(heap: &mut PausedHeap, from: u32, to: u32) -> Result<u32, Refusal>
+pub fn redirect_at(heap: &mut PausedHeap, from: u32, to: u32) -> Result<u32, Reason>
     ensures redirected { IfOk result (λ slots. Redirects heap.old from to slots heap.new) }
     ensures why { IfErr result (λ refusal. LacksRegion heap.old.layout from refusal
-        ⊎ LacksRegion heap.old.layout to refusal ⊎ ((refusal ≡ Refusal.SameRegion) × (from ≡ to))) }
+        ⊎ LacksRegion heap.old.layout to refusal ⊎ ((refusal ≡ Reason.SameRegion) × (from ≡ to))) }
     ensures refused { OnErr result (heap.new ≡ heap.old) }
-    ensures kept { IsKept heap.old heap.new }
+    ensures kept { IsRaceWith heap.new.logs heap.old heap.new }
 {
     let layout = heap.layout();
     let Some(from) = layout.region(from) else {
-        return Err(Refusal::NoRegion);
+        return Err(Reason::NoRegion);
     };
     let Some(to) = layout.region(to) else {
-        return Err(Refusal::NoRegion);
+        return Err(Reason::NoRegion);
     };
     if from == to {
-        return Err(Refusal::SameRegion);
+        return Err(Reason::SameRegion);
     }
     Ok(heap.redirect_in_place(from, to))
 }
 
 /// Stores null into each slot of a region. Returns `NoRegion` if the call was refused: nothing has
 /// changed.
-#[tactic(auto, using(crate::proofs::Kept::kept_same))]
-pub fn wipe_at(heap: &mut PausedHeap, region: u32) -> Result<(), Refusal>
+pub fn wipe_at(heap: &mut PausedHeap, region: u32) -> Result<(), Reason>
     ensures wiped { OnOk result (Wipes heap.old region heap.new) }
     ensures why { IfErr result (LacksRegion heap.old.layout region) }
     ensures refused { OnErr result (heap.new ≡ heap.old) }
-    ensures kept { IsKept heap.old heap.new }
+    ensures kept { IsRaceWith heap.new.logs heap.old heap.new }
 {
-    let region = heap.layout().region(region).ok_or(Refusal::NoRegion)?;
+    let region = heap.layout().region(region).ok_or(Reason::NoRegion)?;
     heap.wipe(region);
     Ok(())
 }
 
 /// Removes a region's cards from all remembered sets. Returns `NoRegion`, or `StillReferenced` if a
 /// slot of the region refers out of it: nothing has changed.
-#[tactic(auto, using(crate::proofs::Kept::kept_same))]
-pub fn forget_at(heap: &mut PausedHeap, region: u32) -> Result<(), Refusal>
+pub fn forget_at(heap: &mut PausedHeap, region: u32) -> Result<(), Reason>
     ensures forgotten { OnOk result (Forgets heap.old region heap.new) }
     ensures why { IfErr result (λ refusal. LacksRegion heap.old.layout region refusal
-        ⊎ ((refusal ≡ Refusal.StillReferenced) × RefersOut heap.old region)) }
+        ⊎ ((refusal ≡ Reason.StillReferenced) × RefersOut heap.old region)) }
     ensures refused { OnErr result (heap.new ≡ heap.old) }
-    ensures kept { IsKept heap.old heap.new }
+    ensures kept { IsRaceWith heap.new.logs heap.old heap.new }
 {
     let layout = heap.layout();
-    let region = layout.region(region).ok_or(Refusal::NoRegion)?;
+    let region = layout.region(region).ok_or(Reason::NoRegion)?;
     if refers_out(heap, layout, region) {
-        return Err(Refusal::StillReferenced);
+        return Err(Reason::StillReferenced);
     }
     heap.forget(region);
     Ok(())

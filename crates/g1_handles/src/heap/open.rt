@@ -6,13 +6,13 @@ ghost use Rattle.g1_handles.specs.{IsOpeningRefused, AreHeapCounts, OfPaused, Is
 ghost use Rattle.g1_handles.specs.{HasCountedNothing, no_counts};
 
 use crate::any_handle::{closed, into_box, is_closed, opened};
-use crate::code::Refusal;
+use crate::code::Reason;
 use crate::heap::handle::HeapHandle;
 use crate::heap::racing_heap::{AtPause, RacingHeap, Readers, Room};
 use crate::member::counts::MemberCounts;
 use crate::member::{Member, Role};
 use crate::one_core::open::Counts;
-use core::mem::replace_with;
+use core::mem::replace;
 use g1_layout::{Layout, NoMemory};
 use g1_race::{Paused, Race};
 use std::alloc::Global;
@@ -29,7 +29,7 @@ pub fn open_heap(
     counts: &Counts,
     racers: u32,
     sweepers: u32,
-) -> Result<(), Refusal>
+) -> Result<(), Reason>
     ensures opened { OnOk result
         (OfPaused handle.new.value (IsNewHeap (layout_of counts.now) racers sweepers)) }
     ensures counts { OnOk result (HasCountedNothing handle.new.value) }
@@ -39,14 +39,14 @@ pub fn open_heap(
     ensures refused { OnErr result (handle.new.value ≡ handle.old.value) }
 {
     if !is_closed(alloc, handle) {
-        return Err(Refusal::AlreadyOpen);
+        return Err(Reason::AlreadyOpen);
     }
     if !are_heap_counts(racers, sweepers) {
-        return Err(Refusal::BadMembers);
+        return Err(Reason::BadMembers);
     }
     let layout = Layout::large(counts.regions, counts.cards, counts.slots);
-    let layout = layout.ok_or(Refusal::BadLayout)?;
-    let heap = new_heap(alloc, layout, racers, sweepers).or(Err(Refusal::NoMemory))?;
+    let layout = layout.ok_or(Reason::BadLayout)?;
+    let heap = new_heap(alloc, layout, racers, sweepers).or(Err(Reason::NoMemory))?;
     *handle = opened(heap);
     Ok(())
 }
@@ -134,34 +134,16 @@ fn waiting<P: Role>(
 ///
 /// Returns `NotOpen`, or `NotPaused` if its members are out or readers read it: the handle has not
 /// changed.
-pub fn close_heap(alloc: Global, handle: &mut HeapHandle) -> Result<(), Refusal>
+pub fn close_heap(alloc: Global, handle: &mut HeapHandle) -> Result<(), Reason>
     ensures closed { OnOk result (handle.new.value ≡ None) }
     ensures paused { OnOk result (OfPaused handle.old.value (λ p. Unit {0})) }
     ensures why { IfErr result (λ refusal. IsEndRefused handle.old.value refusal) }
     ensures refused { OnErr result (handle.new.value ≡ handle.old.value) }
 {
-    replace_with(handle, alloc, close_in)
-}
-
-fn close_in(handle: HeapHandle, alloc: Global) -> (HeapHandle, Result<(), Refusal>)
-    ensures closed { OnOk result.1 (result.0.value ≡ None) }
-    ensures paused { OnOk result.1 (OfPaused handle.value (λ p. Unit {0})) }
-    ensures why { IfErr result.1 (λ refusal. IsEndRefused handle.value refusal) }
-    ensures refused { OnErr result.1 (result.0.value ≡ handle.value) }
-{
-    let Some(heap) = into_box(handle) else {
-        return (closed(alloc), Err(Refusal::NotOpen));
-    };
-    if is_paused(&heap) {
-        (closed(alloc), Ok(()))
-    } else {
-        (opened(heap), Err(Refusal::NotPaused))
+    let heap = into_box(replace(handle, closed(alloc))).ok_or(Reason::NotOpen)?;
+    if matches!(&*heap, RacingHeap::Paused(_)) {
+        return Ok(());
     }
-}
-
-fn is_paused(heap: &RacingHeap) -> bool
-    ensures paused { IsTrue result → OfPaused (Some heap.now) (λ p. Unit {0}) }
-    ensures racing { OfPaused (Some heap.now) (λ p. Unit {0}) → IsTrue result }
-{
-    matches!(heap, RacingHeap::Paused(_))
+    *handle = opened(heap);
+    Err(Reason::NotPaused)
 }

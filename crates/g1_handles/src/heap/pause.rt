@@ -3,12 +3,12 @@ ghost use Rattle.std.specs.Prelude.{◌≡◌, ◌≤◌};
 ghost use Rattle.g1_handles.specs.{Some, All, IfErr, OnOk, OnErr, IsSome, length, map};
 ghost use Rattle.g1_handles.specs.{vec_capacity, arc_value, Race, racer_view, sweeper_view};
 ghost use Rattle.g1_handles.specs.{racer_log, OfPaused, OfRacing, IsFor, IsPauseOf, IsPauseRefused};
-ghost use Rattle.g1_handles.specs.{AreOfHeap, AreLikeOf, AreFor, ComesIn, heap_race, heap_counts};
+ghost use Rattle.g1_handles.specs.{AreOfHeap, AreLikeOf, AreFor, heap_race, heap_counts};
 ghost use Rattle.g1_handles.specs.{boxed_counts, waiting_counts, ComesToPause, held_racers};
 ghost use Rattle.g1_handles.specs.{held_sweepers, role_in, AreClosed, IsOf, counts_of};
 
 use crate::any_handle::{AnyHandle, closed, into_box, opened};
-use crate::code::Refusal;
+use crate::code::Reason;
 use crate::heap::handle::HeapHandle;
 use crate::heap::look::look_at;
 use crate::heap::one_race::share_of_race;
@@ -33,7 +33,7 @@ pub fn pause_heap(
     handle: &mut HeapHandle,
     racers: &mut [RacerHandle],
     sweepers: &mut [SweeperHandle],
-) -> Result<(), Refusal>
+) -> Result<(), Reason>
     requires one { IsFor handle.old.value (length racers.old) (length sweepers.old) →
         AreLikeOf handle.old.value (held_racers racers.old) (held_sweepers sweepers.old) →
         AreOfHeap handle.old.value (held_racers racers.old) (held_sweepers sweepers.old) }
@@ -47,7 +47,7 @@ pub fn pause_heap(
         × (held_racers racers.new ≡ held_racers racers.old)
         × (held_sweepers sweepers.new ≡ held_sweepers sweepers.old)) }
 {
-    let mut heap = into_box(replace(handle, closed(alloc))).ok_or(Refusal::NotOpen)?;
+    let mut heap = into_box(replace(handle, closed(alloc))).ok_or(Reason::NotOpen)?;
     let answer = pause_of(alloc, &mut heap, racers, sweepers);
     *handle = opened(heap);
     answer
@@ -58,7 +58,7 @@ fn pause_of(
     heap: &mut RacingHeap,
     racers: &mut [RacerHandle],
     sweepers: &mut [SweeperHandle],
-) -> Result<(), Refusal>
+) -> Result<(), Reason>
     requires one { IsFor (Some heap.old) (length racers.old) (length sweepers.old) →
         AreLikeOf (Some heap.old) (held_racers racers.old) (held_sweepers sweepers.old) →
         AreOfHeap (Some heap.old) (held_racers racers.old) (held_sweepers sweepers.old) }
@@ -73,49 +73,25 @@ fn pause_of(
         × (held_sweepers sweepers.new ≡ held_sweepers sweepers.old)) }
 {
     let RacingHeap::Racing(under_way) = &*heap else {
-        return Err(Refusal::NotRacing);
+        return Err(Reason::NotRacing);
     };
     if racers.len() != under_way.racers.count || sweepers.len() != under_way.sweepers.count {
-        return Err(Refusal::BadMembers);
+        return Err(Reason::BadMembers);
     }
     let members = under_way.race.members();
     look_at(alloc, racers, members)?;
     look_at(alloc, sweepers, members)?;
     let share = share_of_race(alloc, &under_way.race, racers, sweepers);
-    let share = share.ok_or(Refusal::OtherRace)?;
+    let share = share.ok_or(Reason::OtherRace)?;
     let RacingHeap::Racing(under_way) = heap else {
         unreachable!()
     };
-    take_in(alloc, under_way, racers, sweepers);
+    let racing = &mut under_way.racers;
+    gather(alloc, racers, &mut racing.roles, &mut racing.boxes);
+    let sweeping = &mut under_way.sweepers;
+    gather(alloc, sweepers, &mut sweeping.roles, &mut sweeping.boxes);
     replace_with(heap, share, come_in);
     Ok(())
-}
-
-/// Takes the members of these handles in.
-fn take_in(
-    alloc: Global,
-    under_way: &mut UnderWay,
-    racers: &mut [RacerHandle],
-    sweepers: &mut [SweeperHandle],
-)
-    requires racers { (length racers.old ≡ under_way.old.racers.count)
-        × All (λ m. IsSome (role_in m)) (held_racers racers.old)
-        × All (IsOf (arc_value under_way.old.race)) (held_racers racers.old) }
-    requires sweepers { (length sweepers.old ≡ under_way.old.sweepers.count)
-        × All (λ m. IsSome (role_in m)) (held_sweepers sweepers.old)
-        × All (IsOf (arc_value under_way.old.race)) (held_sweepers sweepers.old) }
-    ensures came { ComesIn under_way.old under_way.new (held_racers racers.old)
-        (held_sweepers sweepers.old) }
-    ensures closed { AreClosed (held_racers racers.new) × AreClosed (held_sweepers sweepers.new) }
-{
-    let UnderWay {
-        race: _,
-        racers: racing,
-        sweepers: sweeping,
-        readers: _,
-    } = under_way;
-    gather(alloc, racers, &mut racing.roles, &mut racing.boxes);
-    gather(alloc, sweepers, &mut sweeping.roles, &mut sweeping.boxes);
 }
 
 /// The heap is at a pause once its members are in.
@@ -132,28 +108,9 @@ fn come_in(heap: RacingHeap, share: Arc<Race, Global>) -> (RacingHeap, ())
     ensures counts { OfRacing (Some heap) (λ b.
         heap_counts (Some result.0) ≡ waiting_counts b) }
 {
-    match heap {
-        RacingHeap::Racing(under_way) => (RacingHeap::Paused(stopped(under_way, share)), ()),
-        RacingHeap::Paused(_) | RacingHeap::Read(_) => unreachable!(),
-    }
-}
-
-fn stopped(under_way: UnderWay, share: Arc<Race, Global>) -> AtPause
-    requires share { arc_value share ≡ arc_value under_way.race }
-    requires racers { AreFor (arc_value under_way.race) under_way.racers.count
-        under_way.racers.boxes under_way.racers.roles }
-    requires sweepers { AreFor (arc_value under_way.race) under_way.sweepers.count
-        under_way.sweepers.boxes under_way.sweepers.roles }
-    ensures paused { IsPauseOf (arc_value under_way.race)
-        (map racer_view under_way.racers.roles.items)
-        (map sweeper_view under_way.sweepers.roles.items)
-        (map racer_log under_way.racers.roles.items) result.pause }
-    ensures members { (under_way.racers.count ≡ length result.pause.logs)
-        × (under_way.sweepers.count ≡ result.pause.sweepers) }
-    ensures race { result.race ≡ under_way.race }
-    ensures boxes { (result.racers ≡ under_way.racers.boxes)
-        × (result.sweepers ≡ under_way.sweepers.boxes) }
-{
+    let RacingHeap::Racing(under_way) = heap else {
+        unreachable!()
+    };
     let UnderWay {
         race,
         racers,
@@ -161,13 +118,14 @@ fn stopped(under_way: UnderWay, share: Arc<Race, Global>) -> AtPause
         readers,
     } = under_way;
     let pause = Paused::of(share, racers.roles, sweepers.roles);
-    AtPause {
+    let at = AtPause {
         race,
         pause,
         racers: racers.boxes,
         sweepers: sweepers.boxes,
         readers,
-    }
+    };
+    (RacingHeap::Paused(at), ())
 }
 
 /// Takes the roles of these handles' members, and lets their boxes wait. The handles are closed

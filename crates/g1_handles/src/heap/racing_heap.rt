@@ -1,8 +1,8 @@
 //! A heap whose stores race, from its birth to its end: at a pause, being read there by several
 //! threads, or with its members out.
 ghost use Rattle.std.specs.Prelude.{◌≡◌, ◌+◌, ◌≤◌};
-ghost use Rattle.g1_handles.specs.Prelude.{All, length, vec_len, vec_capacity, arc_value, race_id};
-ghost use Rattle.g1_handles.specs.Prelude.{race_layout, race_shape};
+ghost use Rattle.g1_handles.specs.Prelude.{All, length, vec_len, vec_capacity};
+ghost use Rattle.g1_handles.specs.Prelude.{arc_value, race_id, race_layout, race_shape};
 
 use crate::member::{Member, Role};
 use g1_race::{Paused, Race, Racer, Reader, Reading, Sweeper};

@@ -1,12 +1,11 @@
 //! How a heap at a pause is lent to several threads, each of which reads it by a reader.
 ghost use Rattle.std.specs.Prelude.{◌≡◌, ◌+◌, ◌≤◌};
-ghost use Rattle.g1_handles.specs.{Some, All, IfErr, OnOk, OnErr, length, map, vec_len};
-ghost use Rattle.g1_handles.specs.{vec_capacity, arc_value, Race, OfPaused, OfRead, AreFor};
-ghost use Rattle.g1_handles.specs.{BeginsReading, held_readers, role_in, IsOf, IsLentHeap};
-ghost use Rattle.g1_handles.specs.{IsReadRefused, IsLent, AreOut};
+ghost use Rattle.g1_handles.specs.{Some, All, IfErr, OnOk, OnErr, length, vec_len};
+ghost use Rattle.g1_handles.specs.{vec_capacity, arc_value, Race, OfPaused, OfRead, BeginsReading};
+ghost use Rattle.g1_handles.specs.{held_readers, IsLentHeap, IsReadRefused, AreOut};
 
 use crate::any_handle::{are_closed, closed, into_box, opened};
-use crate::code::Refusal;
+use crate::code::Reason;
 use crate::heap::handle::HeapHandle;
 use crate::heap::racing_heap::{AtPause, BeingRead, RacingHeap, Readers, Room};
 use crate::heap::resume::hand_out_to;
@@ -25,24 +24,20 @@ pub fn read_heap(
     alloc: Global,
     handle: &mut HeapHandle,
     readers: &mut [ReaderHandle],
-) -> Result<(), Refusal>
+) -> Result<(), Reason>
     ensures lent { OnOk result (BeginsReading (length readers.old) handle.old.value handle.new.value
         (held_readers readers.old) (held_readers readers.new)) }
     ensures why { IfErr result (IsReadRefused handle.old.value (held_readers readers.old)) }
     ensures refused { OnErr result ((handle.new.value ≡ handle.old.value)
         × (held_readers readers.new ≡ held_readers readers.old)) }
 {
-    let mut heap = into_box(replace(handle, closed(alloc))).ok_or(Refusal::NotOpen)?;
+    let mut heap = into_box(replace(handle, closed(alloc))).ok_or(Reason::NotOpen)?;
     let answer = read_of(alloc, &mut heap, readers);
     *handle = opened(heap);
     answer
 }
 
-fn read_of(
-    alloc: Global,
-    heap: &mut RacingHeap,
-    readers: &mut [ReaderHandle],
-) -> Result<(), Refusal>
+fn read_of(alloc: Global, heap: &mut RacingHeap, readers: &mut [ReaderHandle]) -> Result<(), Reason>
     ensures lent { OnOk result (BeginsReading (length readers.old) (Some heap.old) (Some heap.new)
         (held_readers readers.old) (held_readers readers.new)) }
     ensures why { IfErr result (IsReadRefused (Some heap.old) (held_readers readers.old)) }
@@ -50,19 +45,20 @@ fn read_of(
         × (held_readers readers.new ≡ held_readers readers.old)) }
 {
     let RacingHeap::Paused(at) = &*heap else {
-        return Err(Refusal::NotPaused);
+        return Err(Reason::NotPaused);
     };
     if readers.len() > at.readers.idle.len() {
-        return Err(Refusal::BadMembers);
+        return Err(Reason::BadMembers);
     }
     if !are_closed(alloc, readers) {
-        return Err(Refusal::AlreadyOpen);
+        return Err(Reason::AlreadyOpen);
     }
     replace_with(heap, readers.len(), lend);
     let RacingHeap::Read(being_read) = heap else {
         unreachable!()
     };
-    hand_out_readers(being_read, readers);
+    let out = &mut being_read.readers.out;
+    hand_out_to(readers, &mut out.boxes, &mut out.roles);
     Ok(())
 }
 
@@ -72,17 +68,9 @@ fn lend(heap: RacingHeap, count: usize) -> (RacingHeap, ())
     ensures lent { IsLentHeap (Some heap) (Some result.0) }
     ensures out { OfRead (Some result.0) (AreOut count) }
 {
-    match heap {
-        RacingHeap::Paused(at) => (RacingHeap::Read(lent(at, count)), ()),
-        RacingHeap::Read(_) | RacingHeap::Racing(_) => unreachable!(),
-    }
-}
-
-fn lent(at: AtPause, count: usize) -> BeingRead
-    requires { count ≤ at.pause.shape.members }
-    ensures lent { IsLent at result }
-    ensures out { AreOut count result }
-{
+    let RacingHeap::Paused(at) = heap else {
+        unreachable!()
+    };
     let AtPause {
         race,
         pause,
@@ -105,13 +93,14 @@ fn lent(at: AtPause, count: usize) -> BeingRead
         roles,
         boxes,
     };
-    BeingRead {
+    let being_read = BeingRead {
         race,
         reading,
         racers,
         sweepers,
         readers: Readers { idle, out },
-    }
+    };
+    (RacingHeap::Read(being_read), ())
 }
 
 /// Moves this many boxes of members that wait from one list to another.
@@ -137,21 +126,4 @@ pub(crate) fn move_boxes<P: Role>(
         };
         to.push_reserved(member);
     }
-}
-
-/// Gives each handle a reader of a heap that has just been lent.
-fn hand_out_readers(being_read: &mut BeingRead, readers: &mut [ReaderHandle])
-    requires { AreFor (arc_value being_read.old.race) (length readers.old)
-        being_read.old.readers.out.boxes being_read.old.readers.out.roles }
-    ensures same { (being_read.new.race ≡ being_read.old.race)
-        × (being_read.new.reading ≡ being_read.old.reading)
-        × (being_read.new.racers ≡ being_read.old.racers)
-        × (being_read.new.sweepers ≡ being_read.old.sweepers)
-        × (being_read.new.readers.out.count ≡ being_read.old.readers.out.count) }
-    ensures readers { map role_in (held_readers readers.new)
-        ≡ map Some being_read.old.readers.out.roles.items }
-    ensures race { All (IsOf (arc_value being_read.old.race)) (held_readers readers.new) }
-{
-    let out = &mut being_read.readers.out;
-    hand_out_to(readers, &mut out.boxes, &mut out.roles);
 }

@@ -1,12 +1,11 @@
 //! How a heap is at its pause again, after threads have read it.
 ghost use Rattle.std.specs.Prelude.{◌≡◌};
-ghost use Rattle.g1_handles.specs.{Some, IfErr, OnOk, OnErr, IsSome, All, length, arc_value};
-ghost use Rattle.g1_handles.specs.{OfRead, EndsReading, held_readers, role_in, AreClosed};
-ghost use Rattle.g1_handles.specs.{AreReadersAt, AreReadersOf, AreReadersLike, IsLentHeap};
-ghost use Rattle.g1_handles.specs.{IsReadBy, IsReadEndRefused, IsLent, AreOut};
+ghost use Rattle.g1_handles.specs.{Some, IfErr, OnOk, OnErr, length, OfRead, EndsReading};
+ghost use Rattle.g1_handles.specs.{held_readers, AreReadersOf, AreReadersLike, IsLentHeap};
+ghost use Rattle.g1_handles.specs.{IsReadBy, IsReadEndRefused, AreOut};
 
 use crate::any_handle::{closed, into_box, opened};
-use crate::code::Refusal;
+use crate::code::Reason;
 use crate::heap::handle::HeapHandle;
 use crate::heap::look::look_at;
 use crate::heap::one_race::are_of;
@@ -28,7 +27,7 @@ pub fn end_read_of_heap(
     alloc: Global,
     handle: &mut HeapHandle,
     readers: &mut [ReaderHandle],
-) -> Result<(), Refusal>
+) -> Result<(), Reason>
     requires one { IsReadBy handle.old.value (length readers.old) →
         AreReadersLike handle.old.value (held_readers readers.old) →
         AreReadersOf handle.old.value (held_readers readers.old) }
@@ -38,7 +37,7 @@ pub fn end_read_of_heap(
     ensures refused { OnErr result ((handle.new.value ≡ handle.old.value)
         × (held_readers readers.new ≡ held_readers readers.old)) }
 {
-    let mut heap = into_box(replace(handle, closed(alloc))).ok_or(Refusal::NotOpen)?;
+    let mut heap = into_box(replace(handle, closed(alloc))).ok_or(Reason::NotOpen)?;
     let answer = end_read_of(alloc, &mut heap, readers);
     *handle = opened(heap);
     answer
@@ -48,7 +47,7 @@ fn end_read_of(
     alloc: Global,
     heap: &mut RacingHeap,
     readers: &mut [ReaderHandle],
-) -> Result<(), Refusal>
+) -> Result<(), Reason>
     requires one { IsReadBy (Some heap.old) (length readers.old) →
         AreReadersLike (Some heap.old) (held_readers readers.old) →
         AreReadersOf (Some heap.old) (held_readers readers.old) }
@@ -60,39 +59,23 @@ fn end_read_of(
 {
     let being_read = match &*heap {
         RacingHeap::Read(being_read) => being_read,
-        RacingHeap::Paused(_) => return Err(Refusal::BadMembers),
-        RacingHeap::Racing(_) => return Err(Refusal::NotPaused),
+        RacingHeap::Paused(_) => return Err(Reason::BadMembers),
+        RacingHeap::Racing(_) => return Err(Reason::NotPaused),
     };
     if readers.len() != being_read.readers.out.count {
-        return Err(Refusal::BadMembers);
+        return Err(Reason::BadMembers);
     }
     look_at(alloc, readers, being_read.race.members())?;
     if !are_of(alloc, &being_read.race, readers) {
-        return Err(Refusal::OtherRace);
+        return Err(Reason::OtherRace);
     }
     let RacingHeap::Read(being_read) = heap else {
         unreachable!()
     };
-    take_in_readers(alloc, being_read, readers);
-    replace_with(heap, (), end);
-    Ok(())
-}
-
-/// Takes the readers of these handles in.
-fn take_in_readers(alloc: Global, being_read: &mut BeingRead, readers: &mut [ReaderHandle])
-    requires count { length readers.old ≡ being_read.old.readers.out.count }
-    requires some { All (λ m. IsSome (role_in m)) (held_readers readers.old) }
-    requires readers { AreReadersAt (arc_value being_read.old.race) being_read.old.reading.pause
-        (held_readers readers.old) }
-    ensures same { (being_read.new.race ≡ being_read.old.race)
-        × (being_read.new.reading ≡ being_read.old.reading)
-        × (being_read.new.racers ≡ being_read.old.racers)
-        × (being_read.new.sweepers ≡ being_read.old.sweepers) }
-    ensures out { AreOut being_read.old.readers.out.count being_read.new }
-    ensures closed { AreClosed (held_readers readers.new) }
-{
     let out = &mut being_read.readers.out;
     gather(alloc, readers, &mut out.roles, &mut out.boxes);
+    replace_with(heap, (), end);
+    Ok(())
 }
 
 /// The heap is at its pause again once its readers are in.
@@ -100,16 +83,9 @@ fn end(heap: RacingHeap, _nothing: ()) -> (RacingHeap, ())
     requires { OfRead (Some heap) (λ b. AreOut b.readers.out.count b) }
     ensures { IsLentHeap (Some result.0) (Some heap) }
 {
-    match heap {
-        RacingHeap::Read(being_read) => (RacingHeap::Paused(given_back(being_read)), ()),
-        RacingHeap::Paused(_) | RacingHeap::Racing(_) => unreachable!(),
-    }
-}
-
-fn given_back(being_read: BeingRead) -> AtPause
-    requires { AreOut being_read.readers.out.count being_read }
-    ensures { IsLent result being_read }
-{
+    let RacingHeap::Read(being_read) = heap else {
+        unreachable!()
+    };
     let BeingRead {
         race,
         reading,
@@ -130,11 +106,12 @@ fn given_back(being_read: BeingRead) -> AtPause
         roles,
         boxes,
     };
-    AtPause {
+    let at = AtPause {
         race,
         pause,
         racers,
         sweepers,
         readers: Readers { idle, out },
-    }
+    };
+    (RacingHeap::Paused(at), ())
 }

@@ -1,12 +1,12 @@
 //! How a heap whose stores race goes on after a pause.
 ghost use Rattle.std.specs.Prelude.{◌≡◌};
 ghost use Rattle.g1_handles.specs.{Some, All, IfErr, OnOk, OnErr, length, map, vec_capacity};
-ghost use Rattle.g1_handles.specs.{arc_value, Race, OfPaused, LetsGo, IsLetGo, IsGoingRefused};
-ghost use Rattle.g1_handles.specs.{AreFor, held_counts, boxed_counts, waiting_counts, Resumes};
-ghost use Rattle.g1_handles.specs.{held_racers, held_sweepers, role_in, IsOf, counts_of};
+ghost use Rattle.g1_handles.specs.{arc_value, Race, OfPaused, LetsGo, OfAtPause, OfRacing};
+ghost use Rattle.g1_handles.specs.{IsGoingRefused, AreFor, boxed_counts, Resumes, held_racers};
+ghost use Rattle.g1_handles.specs.{held_sweepers, role_in, IsOf, counts_of};
 
 use crate::any_handle::{AnyHandle, are_closed, closed, into_box, opened};
-use crate::code::Refusal;
+use crate::code::Reason;
 use crate::heap::handle::HeapHandle;
 use crate::heap::racing_heap::{AtPause, RacingHeap, Room, UnderWay};
 use crate::member::racer_handle::RacerHandle;
@@ -27,7 +27,7 @@ pub fn resume_heap(
     handle: &mut HeapHandle,
     racers: &mut [RacerHandle],
     sweepers: &mut [SweeperHandle],
-) -> Result<(), Refusal>
+) -> Result<(), Reason>
     ensures resumed { OnOk result (Resumes (length racers.old) (length sweepers.old)
         handle.old.value handle.new.value (held_racers racers.old) (held_racers racers.new)
         (held_sweepers sweepers.old) (held_sweepers sweepers.new)) }
@@ -38,7 +38,7 @@ pub fn resume_heap(
         × (held_racers racers.new ≡ held_racers racers.old)
         × (held_sweepers sweepers.new ≡ held_sweepers sweepers.old)) }
 {
-    let mut heap = into_box(replace(handle, closed(alloc))).ok_or(Refusal::NotOpen)?;
+    let mut heap = into_box(replace(handle, closed(alloc))).ok_or(Reason::NotOpen)?;
     let answer = resume_of(alloc, &mut heap, racers, sweepers);
     *handle = opened(heap);
     answer
@@ -49,7 +49,7 @@ fn resume_of(
     heap: &mut RacingHeap,
     racers: &mut [RacerHandle],
     sweepers: &mut [SweeperHandle],
-) -> Result<(), Refusal>
+) -> Result<(), Reason>
     ensures resumed { OnOk result (Resumes (length racers.old) (length sweepers.old)
         (Some heap.old) (Some heap.new) (held_racers racers.old) (held_racers racers.new)
         (held_sweepers sweepers.old) (held_sweepers sweepers.new)) }
@@ -61,36 +61,33 @@ fn resume_of(
         × (held_sweepers sweepers.new ≡ held_sweepers sweepers.old)) }
 {
     let RacingHeap::Paused(at) = &*heap else {
-        return Err(Refusal::NotPaused);
+        return Err(Reason::NotPaused);
     };
     if racers.len() != at.racers.len() || sweepers.len() != at.sweepers.len() {
-        return Err(Refusal::BadMembers);
+        return Err(Reason::BadMembers);
     }
     if !are_closed(alloc, racers) || !are_closed(alloc, sweepers) {
-        return Err(Refusal::AlreadyOpen);
+        return Err(Reason::AlreadyOpen);
     }
     replace_with(heap, (), let_go);
     let RacingHeap::Racing(under_way) = heap else {
         unreachable!()
     };
-    hand_out(under_way, racers, sweepers);
+    let racing = &mut under_way.racers;
+    hand_out_to(racers, &mut racing.boxes, &mut racing.roles);
+    let sweeping = &mut under_way.sweepers;
+    hand_out_to(sweepers, &mut sweeping.boxes, &mut sweeping.roles);
     Ok(())
 }
 
 /// Ends the pause. The members are not handed out yet.
 fn let_go(heap: RacingHeap, _nothing: ()) -> (RacingHeap, ())
     requires { OfPaused (Some heap) (λ p. Unit {0}) }
-    ensures { IsLetGo heap result.0 }
+    ensures { OfAtPause (Some heap) (λ a. OfRacing (Some result.0) (LetsGo a)) }
 {
-    match heap {
-        RacingHeap::Paused(at) => (RacingHeap::Racing(begin(at)), ()),
-        RacingHeap::Read(_) | RacingHeap::Racing(_) => unreachable!(),
-    }
-}
-
-fn begin(at: AtPause) -> UnderWay
-    ensures { LetsGo at result }
-{
+    let RacingHeap::Paused(at) = heap else {
+        unreachable!()
+    };
     let AtPause {
         race,
         pause,
@@ -99,7 +96,7 @@ fn begin(at: AtPause) -> UnderWay
         readers,
     } = at;
     let (_share, racer_roles, sweeper_roles) = pause.resume();
-    UnderWay {
+    let under_way = UnderWay {
         race,
         racers: Room {
             count: racers.len(),
@@ -112,35 +109,8 @@ fn begin(at: AtPause) -> UnderWay
             boxes: sweepers,
         },
         readers,
-    }
-}
-
-/// Gives each handle a member of a heap that has just been let go.
-fn hand_out(under_way: &mut UnderWay, racers: &mut [RacerHandle], sweepers: &mut [SweeperHandle])
-    requires racers { AreFor (arc_value under_way.old.race) (length racers.old)
-        under_way.old.racers.boxes under_way.old.racers.roles }
-    requires sweepers { AreFor (arc_value under_way.old.race) (length sweepers.old)
-        under_way.old.sweepers.boxes under_way.old.sweepers.roles }
-    ensures same { (arc_value under_way.new.race ≡ arc_value under_way.old.race)
-        × (under_way.new.racers.count ≡ under_way.old.racers.count)
-        × (under_way.new.sweepers.count ≡ under_way.old.sweepers.count) }
-    ensures racers { map role_in (held_racers racers.new)
-        ≡ map Some under_way.old.racers.roles.items }
-    ensures sweepers { map role_in (held_sweepers sweepers.new)
-        ≡ map Some under_way.old.sweepers.roles.items }
-    ensures counts { held_counts (held_racers racers.new) (held_sweepers sweepers.new)
-        ≡ waiting_counts under_way.old }
-    ensures race { All (IsOf (arc_value under_way.old.race)) (held_racers racers.new)
-        × All (IsOf (arc_value under_way.old.race)) (held_sweepers sweepers.new) }
-{
-    let UnderWay {
-        race: _,
-        racers: racing,
-        sweepers: sweeping,
-        readers: _,
-    } = under_way;
-    hand_out_to(racers, &mut racing.boxes, &mut racing.roles);
-    hand_out_to(sweepers, &mut sweeping.boxes, &mut sweeping.roles);
+    };
+    (RacingHeap::Racing(under_way), ())
 }
 
 /// Gives each handle the role of its place, in the box of that place.

@@ -1,15 +1,12 @@
 //! The remembered set of a region at a pause, in an array of the caller's.
 ghost use Rattle.std.specs.Prelude.{◌≡◌, ◌<◌};
-ghost use Rattle.g1_handles.specs.Prelude.{Some, IfOk, IfErr, OnErr, slice_set, AreMembers};
-ghost use Rattle.g1_handles.specs.Prelude.{table_at, IsKept};
-ghost use Rattle.g1_handles.specs.AtPause.{DrainsAtPause};
+ghost use Rattle.g1_handles.specs.Prelude.{Some, OnErr, slice_set, AreMembers, table_at};
+ghost use Rattle.g1_handles.specs.Prelude.{IsRaceWith};
 ghost use Rattle.g1_handles.specs.HeapCalls.{IsCalled};
-ghost use Rattle.g1_handles.specs.Queries.{TellsMembers};
-ghost use Rattle.g1_handles.specs.Sets.{Tells, IsSetCall};
-ghost use Rattle.g1_handles.specs.Lacks.{LacksRegion};
+ghost use Rattle.g1_handles.specs.Sets.{TellsSet, IsSetCall};
 
 use crate::any_handle::{closed, into_box, opened};
-use crate::code::Refusal;
+use crate::code::Reason;
 use crate::heap::at_pause::PausedHeap;
 use crate::heap::handle::HeapHandle;
 use crate::heap::racing_heap::RacingHeap;
@@ -28,7 +25,7 @@ pub enum Which {
 
 /// What the caller is told of a set.
 #[derive(Clone, Copy)]
-pub enum Told {
+pub enum SetTold {
     /// The set has this many cards, and the front of the array has them.
     All(u32),
     /// The set has this many cards. The array has the first of them, and no room for the others.
@@ -45,84 +42,48 @@ pub fn set_of_heap(
     which: Which,
     region: u32,
     cards: &mut [u32],
-) -> Result<Told, Refusal>
+) -> Result<SetTold, Reason>
     ensures called { IsCalled (IsSetCall which region cards.old cards.new)
         handle.old.value result handle.new.value }
     ensures unwritten { OnErr result (cards.new ≡ cards.old) }
 {
-    let mut heap = into_box(replace(handle, closed(alloc))).ok_or(Refusal::NotOpen)?;
-    let answer = set_of(&mut heap, which, region, cards);
+    let mut heap = into_box(replace(handle, closed(alloc))).ok_or(Reason::NotOpen)?;
+    let answer = match &mut *heap {
+        RacingHeap::Paused(at) => set_at(&mut at.pause, which, region, cards),
+        RacingHeap::Read(_) | RacingHeap::Racing(_) => Err(Reason::NotPaused),
+    };
     *handle = opened(heap);
     answer
 }
 
-fn set_of(
-    heap: &mut RacingHeap,
-    which: Which,
-    region: u32,
-    cards: &mut [u32],
-) -> Result<Told, Refusal>
-    ensures called { IsCalled (IsSetCall which region cards.old cards.new)
-        (Some heap.old) result (Some heap.new) }
-    ensures unwritten { OnErr result (cards.new ≡ cards.old) }
-{
-    let RacingHeap::Paused(at) = heap else {
-        return Err(Refusal::NotPaused);
-    };
-    set_at(&mut at.pause, which, region, cards)
-}
-
+/// Writes the set of a region once every dirty card is refined, or as it is recorded.
 fn set_at(
     heap: &mut PausedHeap,
     which: Which,
     region: u32,
     cards: &mut [u32],
-) -> Result<Told, Refusal>
+) -> Result<SetTold, Reason>
     ensures called { IsSetCall which region cards.old cards.new heap.old result heap.new }
     ensures unwritten { OnErr result (cards.new ≡ cards.old) }
-    ensures kept { IsKept heap.old heap.new }
+    ensures kept { IsRaceWith heap.new.logs heap.old heap.new }
 {
+    let Some(region) = heap.layout().region(region) else {
+        return Err(Reason::NoRegion);
+    };
     match which {
-        Which::Recorded => members_at(heap, region, cards),
-        Which::Refined => drain_at(heap, region, cards),
+        Which::Recorded => Ok(write_set(heap, region, cards)),
+        Which::Refined => {
+            heap.refine_all();
+            Ok(write_set(heap, region, cards))
+        }
     }
-}
-
-/// Refines every dirty card, and writes the remembered set of a region.
-#[tactic(auto, using(crate::proofs::Kept::kept_same))]
-fn drain_at(heap: &mut PausedHeap, region: u32, cards: &mut [u32]) -> Result<Told, Refusal>
-    ensures told { IfOk result (λ told.
-        Tells (DrainsAtPause heap.old region heap.new) cards.old told cards.new) }
-    ensures why { IfErr result (LacksRegion heap.old.layout region) }
-    ensures refused { OnErr result ((heap.new ≡ heap.old) × (cards.new ≡ cards.old)) }
-    ensures kept { IsKept heap.old heap.new }
-{
-    let Some(region) = heap.layout().region(region) else {
-        return Err(Refusal::NoRegion);
-    };
-    heap.refine_all();
-    Ok(write_set(heap, region, cards))
-}
-
-/// Writes the remembered set of a region as it is recorded.
-fn members_at(heap: &mut PausedHeap, region: u32, cards: &mut [u32]) -> Result<Told, Refusal>
-    ensures told { IfOk result (λ told.
-        Tells (TellsMembers (table_at heap.old) region) cards.old told cards.new) }
-    ensures why { IfErr result (LacksRegion heap.old.layout region) }
-    ensures unwritten { OnErr result (cards.new ≡ cards.old) }
-    ensures same { heap.new ≡ heap.old }
-{
-    let Some(region) = heap.layout().region(region) else {
-        return Err(Refusal::NoRegion);
-    };
-    Ok(write_set(heap, region, cards))
 }
 
 /// Writes the cards of a region's set as far as the array reaches, and counts them all.
 #[tactic(auto, using(crate::proofs::SetLemmas::shows_none))]
-fn write_set(heap: &mut PausedHeap, region: Region, array: &mut [u32]) -> Told
+fn write_set(heap: &mut PausedHeap, region: Region, array: &mut [u32]) -> SetTold
     requires { region < heap.old.layout.regions }
-    ensures told { Tells (AreMembers (table_at heap.old) region) array.old result array.new }
+    ensures told { TellsSet (AreMembers (table_at heap.old) region) array.old result array.new }
     ensures same { heap.new ≡ heap.old }
 {
     let _limit = heap.layout().card_count();
@@ -134,9 +95,9 @@ fn write_set(heap: &mut PausedHeap, region: Region, array: &mut [u32]) -> Told
         from = card.number() + 1;
     }
     if count <= array.len() {
-        Told::All(count as u32)
+        SetTold::All(count as u32)
     } else {
-        Told::First(count as u32)
+        SetTold::First(count as u32)
     }
 }
 

@@ -1,9 +1,10 @@
 //! The collector's own stores at a pause.
 ghost use Rattle.std.specs.Prelude.{◌≡◌, ◌⊎◌};
-ghost use Rattle.g1_handles.specs.{length, take, IfOk, IfErr, OnErr, IsKept, StoresAt, StoresAllAt};
-ghost use Rattle.g1_handles.specs.{IsFaultAt, reference_of, LacksPlace};
+ghost use Rattle.g1_handles.specs.{length, take, IfOk, IfErr, OnErr, IsRaceWith};
+ghost use Rattle.g1_handles.specs.{StoresAt};
+ghost use Rattle.g1_handles.specs.{StoresAllAt, IsFaultAt, reference_of, LacksPlace};
 
-use crate::code::Refusal;
+use crate::code::Reason;
 use crate::heap::at_pause::PausedHeap;
 use crate::one_core::batch::Store;
 use crate::one_core::store::reference;
@@ -11,20 +12,19 @@ use g1_layout::Kind;
 
 /// Stores a target into a slot, and returns the kind of the store. Returns `NoSlot`, for the slot
 /// or the target, if the call was refused: nothing has changed.
-#[tactic(auto, using(crate::proofs::Kept::kept_same))]
-pub fn store_at(heap: &mut PausedHeap, slot: u32, target: u32) -> Result<Kind, Refusal>
+pub fn store_at(heap: &mut PausedHeap, slot: u32, target: u32) -> Result<Kind, Reason>
     ensures stored { IfOk result (λ kind.
         StoresAt heap.old slot (reference_of target) kind heap.new) }
     ensures why { IfErr result (LacksPlace heap.old.layout slot target) }
     ensures refused { OnErr result (heap.new ≡ heap.old) }
-    ensures kept { IsKept heap.old heap.new }
+    ensures kept { IsRaceWith heap.new.logs heap.old heap.new }
 {
     let layout = heap.layout();
     let Some(slot) = layout.slot(slot) else {
-        return Err(Refusal::NoSlot);
+        return Err(Reason::NoSlot);
     };
     let Some(target) = reference(layout, target) else {
-        return Err(Refusal::NoSlot);
+        return Err(Reason::NoSlot);
     };
     Ok(heap.store(slot, target))
 }
@@ -35,7 +35,7 @@ pub fn store_all_at(heap: &mut PausedHeap, stores: &[Store]) -> usize
     ensures stored { StoresAllAt heap.old (take result stores.now) heap.new }
     ensures stopped { (result ≡ length stores.now)
         ⊎ IsFaultAt heap.old.layout stores.now result }
-    ensures kept { IsKept heap.old heap.new }
+    ensures kept { IsRaceWith heap.new.logs heap.old heap.new }
 {
     for i in 0..stores.len() {
         let store = stores[i];

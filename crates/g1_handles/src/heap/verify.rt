@@ -1,9 +1,10 @@
 //! Checks of a heap at a pause, for a debug build.
 ghost use Rattle.std.specs.Prelude.{◌≡◌, ◌+◌, ◌≤◌};
-ghost use Rattle.g1_handles.specs.{length, IfOk, IfErr, IsOk, slot_count, IsKept, Finds};
-ghost use Rattle.g1_handles.specs.{LacksRanges, table_at};
+ghost use Rattle.g1_handles.specs.{length, IfOk, IfErr, IsOk, slot_count};
+ghost use Rattle.g1_handles.specs.{IsRaceWith};
+ghost use Rattle.g1_handles.specs.{Finds, LacksRanges, table_at};
 
-use crate::code::Refusal;
+use crate::code::Reason;
 use crate::heap::at_pause::PausedHeap;
 use crate::one_core::copy::has_slots;
 use crate::one_core::queries::word_of;
@@ -12,13 +13,12 @@ use crate::one_core::verify::{Findings, NOTHING};
 /// Checks a heap against the references that a runtime's memory has from a slot on, as many as are
 /// given, and the cards of `count` slots from there. Returns `NoSlot` if one of the two ranges
 /// leaves the heap.
-#[tactic(auto, using(crate::proofs::Kept::kept_same))]
 pub fn verify_at(
     heap: &mut PausedHeap,
     first: u32,
     count: u32,
     memory: &[u32],
-) -> Result<Findings, Refusal>
+) -> Result<Findings, Reason>
     ensures found { IfOk result (λ f.
         Finds (table_at heap.old) first count memory.now f.differing f.missing) }
     ensures answered { first + count ≤ slot_count heap.old.layout
@@ -26,11 +26,11 @@ pub fn verify_at(
     ensures why { IfErr result (LacksRanges heap.old.layout first count first
         (length memory.now)) }
     ensures same { heap.new ≡ heap.old }
-    ensures kept { IsKept heap.old heap.new }
+    ensures kept { IsRaceWith heap.new.logs heap.old heap.new }
 {
     let layout = heap.layout();
     if !has_slots(layout, first, count as usize) || !has_slots(layout, first, memory.len()) {
-        return Err(Refusal::NoSlot);
+        return Err(Reason::NoSlot);
     }
     // Only an empty range begins behind the last slot.
     let Some(from) = layout.slot(first) else {

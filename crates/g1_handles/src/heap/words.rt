@@ -1,11 +1,12 @@
 //! The words of a heap: where they lie, and, at a pause, what a slot's is and a store of data,
 //! which refers to nothing.
 ghost use Rattle.std.specs.Prelude.{◌≡◌, ◌⊎◌, ◌<◌, ◌^◌};
-ghost use Rattle.g1_handles.specs.{Some, IfOk, OnOk, IfErr, OnErr, race_words, IsKept, HasWord};
-ghost use Rattle.g1_handles.specs.{StoresDataAt, OfHeap, SaysNoHeap, LacksSlot};
+ghost use Rattle.g1_handles.specs.{Some, IfOk, OnOk, IfErr, OnErr, race_words};
+ghost use Rattle.g1_handles.specs.{IsRaceWith, HasWord, StoresDataAt, OfHeap, SaysNoHeap};
+ghost use Rattle.g1_handles.specs.{LacksSlot};
 
 use crate::any_handle::{closed, into_box, opened};
-use crate::code::Refusal;
+use crate::code::Reason;
 use crate::heap::at_pause::PausedHeap;
 use crate::heap::handle::HeapHandle;
 use crate::heap::racing_heap::RacingHeap;
@@ -15,59 +16,49 @@ use std::alloc::Global;
 /// Returns the address of the words of the heap of a handle, at a pause or not: the word of each
 /// slot, in order. It stays the same for as long as the heap lasts. Returns `NotOpen` if the handle
 /// is closed.
-pub fn words_in(handle: HeapHandle, alloc: Global) -> (HeapHandle, Result<*const u64, Refusal>)
+pub fn words_in(handle: HeapHandle, alloc: Global) -> (HeapHandle, Result<*const u64, Reason>)
     ensures words { IfOk result.1 (λ words.
         OfHeap handle.value (λ race. words ≡ race_words race)) }
     ensures why { IfErr result.1 (SaysNoHeap handle.value) }
     ensures same { result.0.value ≡ handle.value }
 {
     let Some(heap) = into_box(handle) else {
-        return (closed(alloc), Err(Refusal::NotOpen));
+        return (closed(alloc), Err(Reason::NotOpen));
     };
-    let words = words_of(&heap);
-    (opened(heap), Ok(words))
-}
-
-fn words_of(heap: &RacingHeap) -> *const u64
-    ensures { OfHeap (Some heap.now) (λ race. result ≡ race_words race) }
-{
-    match heap {
+    let words = match &*heap {
         RacingHeap::Paused(at) => at.race.words(),
         RacingHeap::Read(being_read) => being_read.race.words(),
         RacingHeap::Racing(under_way) => under_way.race.words(),
-    }
+    };
+    (opened(heap), Ok(words))
 }
 
 /// Returns a slot's word: 0 for null, the number of the slot that it refers to plus 1, or data from
 /// 2^32 on. Returns `NoSlot` if the call was refused.
-#[tactic(auto, using(crate::proofs::Kept::kept_same))]
-pub fn word_at(heap: &mut PausedHeap, slot: u32) -> Result<u64, Refusal>
+pub fn word_at(heap: &mut PausedHeap, slot: u32) -> Result<u64, Reason>
     ensures word { IfOk result (HasWord heap.old slot) }
     ensures why { IfErr result (LacksSlot heap.old.layout slot) }
     ensures same { heap.new ≡ heap.old }
-    ensures kept { IsKept heap.old heap.new }
+    ensures kept { IsRaceWith heap.new.logs heap.old heap.new }
 {
-    let Some(slot) = heap.layout().slot(slot) else {
-        return Err(Refusal::NoSlot);
-    };
+    let slot = heap.layout().slot(slot).ok_or(Reason::NoSlot)?;
     Ok(heap.word(slot))
 }
 
 /// Stores data into a slot: a word from 2^32 on, which refers to nothing. Returns `NoSlot`, or
 /// `BadWord` for a lower word, if the call was refused: nothing has changed.
-#[tactic(auto, using(crate::proofs::Kept::kept_same))]
-pub fn store_data_at(heap: &mut PausedHeap, slot: u32, word: u64) -> Result<(), Refusal>
+pub fn store_data_at(heap: &mut PausedHeap, slot: u32, word: u64) -> Result<(), Reason>
     ensures stored { OnOk result (StoresDataAt heap.old slot word heap.new) }
     ensures why { IfErr result (λ refusal. LacksSlot heap.old.layout slot refusal
-        ⊎ ((refusal ≡ Refusal.BadWord) × (word < 2 ^ 32))) }
+        ⊎ ((refusal ≡ Reason.BadWord) × (word < 2 ^ 32))) }
     ensures refused { OnErr result (heap.new ≡ heap.old) }
-    ensures kept { IsKept heap.old heap.new }
+    ensures kept { IsRaceWith heap.new.logs heap.old heap.new }
 {
     let Some(slot) = heap.layout().slot(slot) else {
-        return Err(Refusal::NoSlot);
+        return Err(Reason::NoSlot);
     };
     if word < DATA {
-        return Err(Refusal::BadWord);
+        return Err(Reason::BadWord);
     }
     heap.store_data(slot, word);
     Ok(())

@@ -1,11 +1,12 @@
 //! Several stores in a race by one call.
 ghost use Rattle.std.specs.Prelude.{◌≡◌, ◌≢◌};
-ghost use Rattle.g1_handles.specs.Prelude.{Some, IfOk, IfErr, IsOkAnd, OnErr, race_id, racer_race};
+ghost use Rattle.g1_handles.specs.Prelude.{Some, IfOk, IfErr, IsOkAnd, OnErr, race_id};
+ghost use Rattle.g1_handles.specs.Prelude.{racer_race};
 ghost use Rattle.g1_handles.specs.Racing.{OfRacer, IfRacer, racing};
 ghost use Rattle.g1_handles.specs.RaceStores.{StoresFirst, CanStoreAll};
 ghost use Rattle.g1_handles.specs.Refusals.{SaysNoMember};
 
-use crate::code::Refusal;
+use crate::code::Reason;
 use crate::member::Member;
 use crate::member::counts::StoreCounts;
 use crate::member::store::store_next;
@@ -34,7 +35,7 @@ pub struct RaceBatch {
 
 /// Makes stores in order by a racer, up to the first that it cannot make. Returns `NotOpen` if the
 /// call was refused: nothing has changed.
-pub fn store_all_by(member: &mut Member<Racer>, stores: &[Store]) -> Result<RaceBatch, Refusal>
+pub fn store_all_by(member: &mut Member<Racer>, stores: &[Store]) -> Result<RaceBatch, Reason>
     ensures stored { IfOk result (λ answer. OfRacer (Some member.old) (λ a.
         OfRacer (Some member.new) (λ b. StoresFirst a stores.now answer b))) }
     ensures taken { IfRacer (Some member.old) (λ a. CanStoreAll a stores.now
@@ -43,7 +44,7 @@ pub fn store_all_by(member: &mut Member<Racer>, stores: &[Store]) -> Result<Race
     ensures refused { OnErr result (member.new ≡ member.old) }
 {
     let Some(racer) = &mut member.role else {
-        return Err(Refusal::NotOpen);
+        return Err(Reason::NotOpen);
     };
     Ok(store_each(&member.race, racer, &mut member.counts.stores, stores))
 }
@@ -79,12 +80,12 @@ fn store_each(
 }
 
 /// Why no more stores are made once one is refused.
-fn end_of(refusal: Refusal) -> BatchEnd
-    ensures full { refusal ≡ Refusal.LogFull → result ≡ BatchEnd.Full }
-    ensures stopped { refusal ≢ Refusal.LogFull → result ≡ BatchEnd.Stopped }
+fn end_of(refusal: Reason) -> BatchEnd
+    ensures full { refusal ≡ Reason.LogFull → result ≡ BatchEnd.Full }
+    ensures stopped { refusal ≢ Reason.LogFull → result ≡ BatchEnd.Stopped }
 {
     match refusal {
-        Refusal::LogFull => BatchEnd::Full,
+        Reason::LogFull => BatchEnd::Full,
         _ => BatchEnd::Stopped,
     }
 }

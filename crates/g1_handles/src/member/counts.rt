@@ -1,11 +1,11 @@
 //! What the racers and the sweepers of a heap have done, in numbers.
 ghost use Rattle.std.specs.Prelude.{◌≡◌};
 ghost use Rattle.g1_handles.specs.Prelude.{IfOk, IfErr};
-ghost use Rattle.g1_handles.specs.Counting.{no_counts, with_store, with_card};
+ghost use Rattle.g1_handles.specs.Counting.{no_counts, with_store, with_refined_card};
 ghost use Rattle.g1_handles.specs.Racing.{OfRacer, OfSweeper};
 ghost use Rattle.g1_handles.specs.Refusals.{SaysNoMember};
 
-use crate::code::{Refusal, kind_word};
+use crate::code::{Reason, kind_word};
 use crate::member::Member;
 use g1_layout::Kind;
 use g1_race::{Racer, Sweeper, Swept};
@@ -47,7 +47,7 @@ impl SweepCounts {
     /// The counts after one more card.
     #[inline(always)]
     pub(crate) fn and(self, swept: Swept) -> SweepCounts
-        ensures { result ≡ with_card self swept.was_dirty swept.references }
+        ensures { result ≡ with_refined_card self swept.was_dirty swept.references }
     {
         SweepCounts {
             refined: self.refined.wrapping_add(1),
@@ -84,25 +84,25 @@ impl MemberCounts {
 }
 
 /// Returns what a racer has stored, or `NotOpen`. Nothing changes.
-pub fn store_counts_of(member: &Member<Racer>) -> Result<StoreCounts, Refusal>
+pub fn store_counts_of(member: &Member<Racer>) -> Result<StoreCounts, Reason>
     ensures counts { IfOk result (λ counts.
         OfRacer (Some member.now) (λ a. counts ≡ a.counts)) }
     ensures why { IfErr result (SaysNoMember (Some member.now)) }
 {
     match member.role {
         Some(_) => Ok(member.counts.stores),
-        None => Err(Refusal::NotOpen),
+        None => Err(Reason::NotOpen),
     }
 }
 
 /// Returns what a sweeper has refined, or `NotOpen`. Nothing changes.
-pub fn sweep_counts_of(member: &Member<Sweeper>) -> Result<SweepCounts, Refusal>
+pub fn sweep_counts_of(member: &Member<Sweeper>) -> Result<SweepCounts, Reason>
     ensures counts { IfOk result (λ counts.
         OfSweeper (Some member.now) (λ a. counts ≡ a.counts)) }
     ensures why { IfErr result (SaysNoMember (Some member.now)) }
 {
     match member.role {
         Some(_) => Ok(member.counts.sweeps),
-        None => Err(Refusal::NotOpen),
+        None => Err(Reason::NotOpen),
     }
 }

@@ -1,9 +1,9 @@
 //! Stores of data in a race: a slot may hold data, which refers to nothing.
 ghost use Rattle.std.specs.Prelude.{◌≡◌, ◌<◌, ◌≤◌, ◌^◌};
-ghost use Rattle.g1_handles.specs.{Some, IsOk, IfOk, IfErr, OnErr, slot_count, race_layout};
-ghost use Rattle.g1_handles.specs.{OfRacer, IfRacer, StoresData, IsRaceDataRefused};
+ghost use Rattle.g1_handles.specs.{Some, IsOk, IfOk, IfErr, OnErr, slot_count};
+ghost use Rattle.g1_handles.specs.{race_layout, OfRacer, IfRacer, StoresData, IsRaceDataRefused};
 
-use crate::code::Refusal;
+use crate::code::Reason;
 use crate::member::Member;
 use g1_layout::Kind;
 use g1_race::Racer;
@@ -14,7 +14,7 @@ pub const DATA: u64 = 4_294_967_296;
 /// Stores data into a slot by a racer: a word from 2^32 on, which refers to nothing. Returns the
 /// slot's word before, or `NotOpen`, `NoSlot`, or `BadWord` for a lower word: nothing has changed.
 #[inline(always)]
-pub fn store_data_by(member: &mut Member<Racer>, slot: u32, word: u64) -> Result<u64, Refusal>
+pub fn store_data_by(member: &mut Member<Racer>, slot: u32, word: u64) -> Result<u64, Reason>
     ensures stored { IfOk result (λ old. OfRacer (Some member.old) (λ a.
         OfRacer (Some member.new) (λ b. StoresData a slot word old b))) }
     ensures taken { IfRacer (Some member.old) (λ a.
@@ -23,13 +23,13 @@ pub fn store_data_by(member: &mut Member<Racer>, slot: u32, word: u64) -> Result
     ensures refused { OnErr result (member.new ≡ member.old) }
 {
     let Some(racer) = &mut member.role else {
-        return Err(Refusal::NotOpen);
+        return Err(Reason::NotOpen);
     };
     let Some(slot) = member.race.layout().slot(slot) else {
-        return Err(Refusal::NoSlot);
+        return Err(Reason::NoSlot);
     };
     if word < DATA {
-        return Err(Refusal::BadWord);
+        return Err(Reason::BadWord);
     }
     let old = racer.store_data(&member.race, slot, word);
     member.counts.stores.add(Kind::Null);

@@ -7,7 +7,7 @@ ghost use Rattle.g1_handles.specs.RaceStores.{Swaps, IsExchange};
 ghost use Rattle.g1_handles.specs.Racing.{OfRacer, IfRacer};
 ghost use Rattle.g1_handles.specs.Refusals.{IsRaceStoreRefused, IsRaceExchangeRefused};
 
-use crate::code::Refusal;
+use crate::code::Reason;
 use crate::member::Member;
 use crate::member::store::may_store;
 use crate::one_core::queries::word_of;
@@ -38,7 +38,7 @@ pub enum Exchange {
 /// `NotOpen`, `LogFull`, or `NoSlot` for the slot or the target, if the call was refused: nothing
 /// has changed.
 #[inline(always)]
-pub fn swap_by(member: &mut Member<Racer>, slot: u32, target: u32) -> Result<Swapped, Refusal>
+pub fn swap_by(member: &mut Member<Racer>, slot: u32, target: u32) -> Result<Swapped, Reason>
     ensures swapped { IfOk result (λ swapped. OfRacer (Some member.old) (λ a.
         OfRacer (Some member.new) (λ b. Swaps a slot (reference_of target)
         (reference_of swapped.old) swapped.kind b))) }
@@ -48,7 +48,7 @@ pub fn swap_by(member: &mut Member<Racer>, slot: u32, target: u32) -> Result<Swa
     ensures refused { OnErr result (member.new ≡ member.old) }
 {
     let Some(racer) = &mut member.role else {
-        return Err(Refusal::NotOpen);
+        return Err(Reason::NotOpen);
     };
     let (slot, target) = may_store(&member.race, racer, slot, target)?;
     let layout = member.race.layout();
@@ -66,7 +66,7 @@ pub fn compare_exchange_by(
     slot: u32,
     expected: u32,
     target: u32,
-) -> Result<Exchange, Refusal>
+) -> Result<Exchange, Reason>
     ensures exchange { IfOk result (λ exchange. OfRacer (Some member.old) (λ a.
         OfRacer (Some member.new) (λ b. IsExchange a slot (reference_of expected)
         (reference_of target) exchange b))) }
@@ -77,12 +77,12 @@ pub fn compare_exchange_by(
     ensures refused { OnErr result (member.new ≡ member.old) }
 {
     let Some(racer) = &mut member.role else {
-        return Err(Refusal::NotOpen);
+        return Err(Reason::NotOpen);
     };
     let (slot, target) = may_store(&member.race, racer, slot, target)?;
     let layout = member.race.layout();
     let Some(expected) = reference(layout, expected) else {
-        return Err(Refusal::NoSlot);
+        return Err(Reason::NoSlot);
     };
     match racer.compare_exchange(&member.race, slot, expected, target) {
         Ok(kind) => {

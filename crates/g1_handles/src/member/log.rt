@@ -1,15 +1,13 @@
 //! The log of a racer.
 ghost use Rattle.std.specs.Prelude.{◌≡◌, ◌⊎◌, ◌<◌, ◌≤◌};
-ghost use Rattle.g1_handles.specs.{Some, IfOk, IfErr, IsOk, OnErr, length, take, IsWritten};
-ghost use Rattle.g1_handles.specs.{OfRacer, IfRacer, TakesLog, SaysNoMember};
+ghost use Rattle.g1_handles.specs.{Some, IfOk, IfErr, IsOk, OnErr, length};
+ghost use Rattle.g1_handles.specs.{take, IsWritten, OfRacer, IfRacer, TakesLog, SaysNoMember};
 
 use crate::any_handle::{closed, into_box, opened};
-use crate::code::Refusal;
+use crate::code::Reason;
 use crate::list::write_list;
-use crate::member::Member;
 use crate::member::racer_handle::RacerHandle;
 use core::mem::replace;
-use g1_race::Racer;
 use std::alloc::Global;
 
 /// How many cards a racer's log has room for.
@@ -19,37 +17,24 @@ pub const LOG: usize = 256;
 /// front of an array, oldest first, and returns how many they are.
 ///
 /// Returns `NotOpen`, or `NoRoom` if the array has less room than a log: nothing has changed.
-pub fn take_log(alloc: Global, handle: &mut RacerHandle, cards: &mut [u32]) -> Result<u32, Refusal>
+pub fn take_log(alloc: Global, handle: &mut RacerHandle, cards: &mut [u32]) -> Result<u32, Reason>
     ensures log { IfOk result (λ count. OfRacer handle.old.value (λ a.
         OfRacer handle.new.value (λ b. TakesLog a (take count cards.new) b))) }
     ensures taken { IfRacer handle.old.value (λ a. 256 ≤ length cards.old → IsOk result) }
     ensures why { IfErr result (λ refusal. SaysNoMember handle.old.value refusal
-        ⊎ ((refusal ≡ Refusal.NoRoom) × (length cards.old < 256))) }
+        ⊎ ((refusal ≡ Reason.NoRoom) × (length cards.old < 256))) }
     ensures refused { OnErr result ((handle.new.value ≡ handle.old.value)
         × (cards.new ≡ cards.old)) }
     ensures written { IfOk result (λ count. IsWritten cards.old count cards.new) }
 {
     if cards.len() < LOG {
-        return Err(Refusal::NoRoom);
+        return Err(Reason::NoRoom);
     }
-    let mut member = into_box(replace(handle, closed(alloc))).ok_or(Refusal::NotOpen)?;
-    let answer = take_log_by(&mut member, cards);
+    let mut member = into_box(replace(handle, closed(alloc))).ok_or(Reason::NotOpen)?;
+    let answer = match &mut member.role {
+        Some(racer) => Ok(write_list(racer.take_log().as_slice(), cards)),
+        None => Err(Reason::NotOpen),
+    };
     *handle = opened(member);
     answer
-}
-
-fn take_log_by(member: &mut Member<Racer>, cards: &mut [u32]) -> Result<u32, Refusal>
-    requires { 256 ≤ length cards.old }
-    ensures log { IfOk result (λ count. OfRacer (Some member.old) (λ a.
-        OfRacer (Some member.new) (λ b. TakesLog a (take count cards.new) b))) }
-    ensures taken { IfRacer (Some member.old) (λ a. IsOk result) }
-    ensures why { IfErr result (SaysNoMember (Some member.old)) }
-    ensures refused { OnErr result ((member.new ≡ member.old) × (cards.new ≡ cards.old)) }
-    ensures written { IfOk result (λ count. IsWritten cards.old count cards.new) }
-{
-    let Some(racer) = &mut member.role else {
-        return Err(Refusal::NotOpen);
-    };
-    let log = racer.take_log();
-    Ok(write_list(log.as_slice(), cards))
 }

@@ -4,14 +4,14 @@ ghost use Rattle.g1_handles.specs.{Some, IfOk, IfErr, reference_of, OfReader, re
 ghost use Rattle.g1_handles.specs.{ReadsTarget, ReadsWord, ReadsPending, ReadsPair, ReadsNext};
 ghost use Rattle.g1_handles.specs.{IsReaderRefused, LacksCard, LacksPair, LacksRegion, LacksSlot};
 
-use crate::code::{NULL, Refusal};
+use crate::code::{NULL, Reason};
 use crate::member::Member;
 use crate::one_core::queries::word_of;
 use g1_race::Reader;
 
 /// Returns the word of what a slot refers to, by a reader, or `NotOpen` or `NoSlot`. The reader
 /// stays as it is.
-pub fn target_by(member: &mut Member<Reader>, slot: u32) -> Result<u32, Refusal>
+pub fn target_by(member: &mut Member<Reader>, slot: u32) -> Result<u32, Reason>
     ensures target { IfOk result (λ word.
         OfReader (Some member.old) (λ a. ReadsTarget a slot (reference_of word))) }
     ensures why { IfErr result (IsReaderRefused (Some member.old)
@@ -19,19 +19,17 @@ pub fn target_by(member: &mut Member<Reader>, slot: u32) -> Result<u32, Refusal>
     ensures same { member.new ≡ member.old }
 {
     let Some(reader) = &mut member.role else {
-        return Err(Refusal::NotOpen);
+        return Err(Reason::NotOpen);
     };
     let layout = member.race.layout();
-    let Some(slot) = layout.slot(slot) else {
-        return Err(Refusal::NoSlot);
-    };
+    let slot = layout.slot(slot).ok_or(Reason::NoSlot)?;
     Ok(word_of(layout, reader.target(&member.race, slot)))
 }
 
 /// Returns a slot's word, by a reader: 0 for null, the number of the slot that it refers to plus 1,
 /// or data from 2^32 on. Returns `NotOpen` or `NoSlot` if the call was refused. The reader stays as
 /// it is.
-pub fn word_by(member: &mut Member<Reader>, slot: u32) -> Result<u64, Refusal>
+pub fn word_by(member: &mut Member<Reader>, slot: u32) -> Result<u64, Reason>
     ensures word { IfOk result (λ word.
         OfReader (Some member.old) (λ a. ReadsWord a slot word)) }
     ensures why { IfErr result (IsReaderRefused (Some member.old)
@@ -39,17 +37,15 @@ pub fn word_by(member: &mut Member<Reader>, slot: u32) -> Result<u64, Refusal>
     ensures same { member.new ≡ member.old }
 {
     let Some(reader) = &mut member.role else {
-        return Err(Refusal::NotOpen);
+        return Err(Reason::NotOpen);
     };
-    let Some(slot) = member.race.layout().slot(slot) else {
-        return Err(Refusal::NoSlot);
-    };
+    let slot = member.race.layout().slot(slot).ok_or(Reason::NoSlot)?;
     Ok(reader.word(&member.race, slot))
 }
 
 /// Returns whether a card is pending, by a reader, or `NotOpen` or `NoCard`. The reader stays as it
 /// is.
-pub fn is_pending_by(member: &mut Member<Reader>, card: u32) -> Result<bool, Refusal>
+pub fn is_pending_by(member: &mut Member<Reader>, card: u32) -> Result<bool, Reason>
     ensures pending { IfOk result (λ answer.
         OfReader (Some member.old) (λ a. ReadsPending a card answer)) }
     ensures why { IfErr result (IsReaderRefused (Some member.old)
@@ -57,15 +53,15 @@ pub fn is_pending_by(member: &mut Member<Reader>, card: u32) -> Result<bool, Ref
     ensures same { member.new ≡ member.old }
 {
     let Some(reader) = &mut member.role else {
-        return Err(Refusal::NotOpen);
+        return Err(Reason::NotOpen);
     };
-    let card = member.race.layout().card(card).ok_or(Refusal::NoCard)?;
+    let card = member.race.layout().card(card).ok_or(Reason::NoCard)?;
     Ok(reader.is_pending(&member.race, card))
 }
 
 /// Returns whether a card is recorded for a region, by a reader, or `NotOpen`, `NoCard` or
 /// `NoRegion`. The reader stays as it is.
-pub fn has_by(member: &mut Member<Reader>, card: u32, region: u32) -> Result<bool, Refusal>
+pub fn has_by(member: &mut Member<Reader>, card: u32, region: u32) -> Result<bool, Reason>
     ensures has { IfOk result (λ answer.
         OfReader (Some member.old) (λ a. ReadsPair a card region answer)) }
     ensures why { IfErr result (IsReaderRefused (Some member.old)
@@ -73,18 +69,18 @@ pub fn has_by(member: &mut Member<Reader>, card: u32, region: u32) -> Result<boo
     ensures same { member.new ≡ member.old }
 {
     let Some(reader) = &mut member.role else {
-        return Err(Refusal::NotOpen);
+        return Err(Reason::NotOpen);
     };
     let layout = member.race.layout();
-    let card = layout.card(card).ok_or(Refusal::NoCard)?;
-    let region = layout.region(region).ok_or(Refusal::NoRegion)?;
+    let card = layout.card(card).ok_or(Reason::NoCard)?;
+    let region = layout.region(region).ok_or(Reason::NoRegion)?;
     Ok(reader.has(&member.race, card, region))
 }
 
 /// Returns the word of the least card from the number `from` on that is recorded for a region, or
 /// of null if there is none, by a reader. Returns `NotOpen` or `NoRegion` if the call was refused.
 /// The reader stays as it is.
-pub fn next_member_by(member: &mut Member<Reader>, region: u32, from: u32) -> Result<u32, Refusal>
+pub fn next_member_by(member: &mut Member<Reader>, region: u32, from: u32) -> Result<u32, Reason>
     ensures next { IfOk result (λ word.
         OfReader (Some member.old) (λ a. ReadsNext a region from (reference_of word))) }
     ensures why { IfErr result (IsReaderRefused (Some member.old)
@@ -92,11 +88,11 @@ pub fn next_member_by(member: &mut Member<Reader>, region: u32, from: u32) -> Re
     ensures same { member.new ≡ member.old }
 {
     let Some(reader) = &mut member.role else {
-        return Err(Refusal::NotOpen);
+        return Err(Reason::NotOpen);
     };
     let layout = member.race.layout();
     let _limit = layout.card_count();
-    let region = layout.region(region).ok_or(Refusal::NoRegion)?;
+    let region = layout.region(region).ok_or(Reason::NoRegion)?;
     match reader.next_member(&member.race, region, from) {
         Some(card) => Ok(card.number()),
         None => Ok(NULL),

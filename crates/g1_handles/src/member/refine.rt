@@ -1,16 +1,16 @@
 //! Concurrent refinement in a race.
 ghost use Rattle.std.specs.Prelude.{◌≡◌, ◌<◌};
-ghost use Rattle.g1_handles.specs.{Some, IsOk, OnOk, IfErr, OnErr, card_count, race_layout};
-ghost use Rattle.g1_handles.specs.{OfSweeper, IfSweeper, Sweeps, IsSweepRefused};
+ghost use Rattle.g1_handles.specs.{Some, IsOk, OnOk, IfErr, OnErr, card_count};
+ghost use Rattle.g1_handles.specs.{race_layout, OfSweeper, IfSweeper, Sweeps, IsSweepRefused};
 
-use crate::code::Refusal;
+use crate::code::Reason;
 use crate::member::Member;
 use g1_race::Sweeper;
 
 /// Refines a card by a sweeper, which counts what it did. Returns `NotOpen` or `NoCard` if the call
 /// was refused: nothing has changed.
 #[inline(always)]
-pub fn refine_by(member: &mut Member<Sweeper>, card: u32) -> Result<(), Refusal>
+pub fn refine_by(member: &mut Member<Sweeper>, card: u32) -> Result<(), Reason>
     ensures refined { OnOk result (OfSweeper (Some member.old) (λ a.
         OfSweeper (Some member.new) (λ b. Sweeps a card b))) }
     ensures taken { IfSweeper (Some member.old) (λ a.
@@ -19,10 +19,10 @@ pub fn refine_by(member: &mut Member<Sweeper>, card: u32) -> Result<(), Refusal>
     ensures refused { OnErr result (member.new ≡ member.old) }
 {
     let Some(sweeper) = &mut member.role else {
-        return Err(Refusal::NotOpen);
+        return Err(Reason::NotOpen);
     };
     let Some(card) = member.race.layout().card(card) else {
-        return Err(Refusal::NoCard);
+        return Err(Reason::NoCard);
     };
     let swept = sweeper.sweep(&member.race, card);
     member.counts.sweeps = member.counts.sweeps.and(swept);

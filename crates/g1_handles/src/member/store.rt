@@ -1,10 +1,11 @@
 //! Lock-free stores in a race.
 ghost use Rattle.std.specs.Prelude.{◌≡◌, ◌<◌};
-ghost use Rattle.g1_handles.specs.{Some, IfOk, IfErr, IsOk, OnErr, array_vec_len, race_id};
-ghost use Rattle.g1_handles.specs.{race_layout, racer_race, IsStoreOf, reference_of, OfRacer};
-ghost use Rattle.g1_handles.specs.{IfRacer, Stores, racing, IsRaceStoreRefused, SaysNoStore};
+ghost use Rattle.g1_handles.specs.{Some, IfOk, IfErr, IsOk, OnErr, array_vec_len};
+ghost use Rattle.g1_handles.specs.{race_id, race_layout, racer_race, IsStoreOf, reference_of};
+ghost use Rattle.g1_handles.specs.{OfRacer, IfRacer, Stores, racing, IsRaceStoreRefused};
+ghost use Rattle.g1_handles.specs.{SaysNoStore};
 
-use crate::code::Refusal;
+use crate::code::Reason;
 use crate::member::Member;
 use crate::member::counts::StoreCounts;
 use crate::one_core::store::reference;
@@ -14,7 +15,7 @@ use g1_race::{Race, Racer};
 /// Stores a target into a slot by a racer. Returns the kind of the store, or `NotOpen`, `LogFull`,
 /// or `NoSlot` for the slot or the target: nothing has changed.
 #[inline(always)]
-pub fn store_by(member: &mut Member<Racer>, slot: u32, target: u32) -> Result<Kind, Refusal>
+pub fn store_by(member: &mut Member<Racer>, slot: u32, target: u32) -> Result<Kind, Reason>
     ensures stored { IfOk result (λ kind. OfRacer (Some member.old) (λ a.
         OfRacer (Some member.new) (λ b. Stores a slot (reference_of target) kind b))) }
     ensures taken { IfRacer (Some member.old) (λ a. array_vec_len a.racer.log < 256
@@ -23,7 +24,7 @@ pub fn store_by(member: &mut Member<Racer>, slot: u32, target: u32) -> Result<Ki
     ensures refused { OnErr result (member.new ≡ member.old) }
 {
     let Some(racer) = &mut member.role else {
-        return Err(Refusal::NotOpen);
+        return Err(Reason::NotOpen);
     };
     store_next(&member.race, racer, &mut member.counts.stores, slot, target)
 }
@@ -37,7 +38,7 @@ pub(crate) fn store_next(
     counts: &mut StoreCounts,
     slot: u32,
     target: u32,
-) -> Result<Kind, Refusal>
+) -> Result<Kind, Reason>
     requires same { racer_race racer.old ≡ race_id race.now }
     ensures same { racer_race racer.new ≡ racer_race racer.old }
     ensures stored { IfOk result (λ kind. Stores (racing race.now racer.old counts.old) slot
@@ -60,7 +61,7 @@ pub(crate) fn may_store(
     racer: &Racer,
     slot: u32,
     target: u32,
-) -> Result<(Slot, Option<Slot>), Refusal>
+) -> Result<(Slot, Option<Slot>), Reason>
     ensures room { IsOk result → array_vec_len racer.now.log < 256 }
     ensures places { IfOk result (λ store. (store.0 ≡ slot) × (store.1 ≡ reference_of target)) }
     ensures within { IsOk result → IsStoreOf (race_layout race.now) slot target }
@@ -69,14 +70,14 @@ pub(crate) fn may_store(
     ensures why { IfErr result (SaysNoStore race.now racer.now slot target) }
 {
     if !racer.has_room() {
-        return Err(Refusal::LogFull);
+        return Err(Reason::LogFull);
     }
     let layout = race.layout();
     let Some(slot) = layout.slot(slot) else {
-        return Err(Refusal::NoSlot);
+        return Err(Reason::NoSlot);
     };
     let Some(target) = reference(layout, target) else {
-        return Err(Refusal::NoSlot);
+        return Err(Reason::NoSlot);
     };
     Ok((slot, target))
 }

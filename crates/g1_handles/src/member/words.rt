@@ -4,7 +4,7 @@ ghost use Rattle.g1_handles.specs.{Some, IfOk, IfErr, IsOk, OnErr, OfRacer, IfRa
 ghost use Rattle.g1_handles.specs.{SwapsWord, IsWordExchange, CanStoreWord, MayHave};
 ghost use Rattle.g1_handles.specs.{SaysNoWordStore, IsSwapWordRefused, IsExchangeWordRefused};
 
-use crate::code::Refusal;
+use crate::code::Reason;
 use crate::member::Member;
 use g1_layout::{Kind, Slot};
 use g1_race::{Race, Racer};
@@ -13,11 +13,7 @@ use g1_race::{Race, Racer};
 /// and the word that it overwrote, or `NotOpen`, `LogFull`, `NoSlot`, or `BadWord` for a word that
 /// no slot may have: nothing has changed.
 #[inline(always)]
-pub fn swap_word_by(
-    member: &mut Member<Racer>,
-    slot: u32,
-    word: u64,
-) -> Result<(Kind, u64), Refusal>
+pub fn swap_word_by(member: &mut Member<Racer>, slot: u32, word: u64) -> Result<(Kind, u64), Reason>
     ensures swapped { IfOk result (λ swapped. OfRacer (Some member.old) (λ a.
         OfRacer (Some member.new) (λ b. SwapsWord a slot word swapped.1 swapped.0 b))) }
     ensures taken { IfRacer (Some member.old) (λ a.
@@ -26,7 +22,7 @@ pub fn swap_word_by(
     ensures refused { OnErr result (member.new ≡ member.old) }
 {
     let Some(racer) = &mut member.role else {
-        return Err(Refusal::NotOpen);
+        return Err(Reason::NotOpen);
     };
     let slot = may_store_word(&member.race, racer, slot, word)?;
     let (kind, old) = racer.swap_word(&member.race, slot, word);
@@ -45,7 +41,7 @@ pub fn compare_exchange_word_by(
     slot: u32,
     expected: u64,
     word: u64,
-) -> Result<Result<Kind, u64>, Refusal>
+) -> Result<Result<Kind, u64>, Reason>
     ensures exchange { IfOk result (λ exchange. OfRacer (Some member.old) (λ a.
         OfRacer (Some member.new) (λ b. IsWordExchange a slot expected word exchange b))) }
     ensures taken { IfRacer (Some member.old) (λ a.
@@ -55,11 +51,11 @@ pub fn compare_exchange_word_by(
     ensures refused { OnErr result (member.new ≡ member.old) }
 {
     let Some(racer) = &mut member.role else {
-        return Err(Refusal::NotOpen);
+        return Err(Reason::NotOpen);
     };
     let slot = may_store_word(&member.race, racer, slot, word)?;
     if !member.race.is_word(expected) {
-        return Err(Refusal::BadWord);
+        return Err(Reason::BadWord);
     }
     match racer.compare_exchange_word(&member.race, slot, expected, word) {
         Ok(kind) => {
@@ -73,20 +69,20 @@ pub fn compare_exchange_word_by(
 /// Returns the slot of a store of this word that a racer can make, or `LogFull`, `NoSlot` or
 /// `BadWord`.
 #[inline(always)]
-fn may_store_word(race: &Race, racer: &Racer, slot: u32, word: u64) -> Result<Slot, Refusal>
+fn may_store_word(race: &Race, racer: &Racer, slot: u32, word: u64) -> Result<Slot, Reason>
     ensures can { IsOk result → CanStoreWord race.now racer.now slot word }
     ensures slot { IfOk result (λ found. found ≡ slot) }
     ensures taken { CanStoreWord race.now racer.now slot word → IsOk result }
     ensures why { IfErr result (SaysNoWordStore race.now racer.now slot word) }
 {
     if !racer.has_room() {
-        return Err(Refusal::LogFull);
+        return Err(Reason::LogFull);
     }
     let Some(slot) = race.layout().slot(slot) else {
-        return Err(Refusal::NoSlot);
+        return Err(Reason::NoSlot);
     };
     if !race.is_word(word) {
-        return Err(Refusal::BadWord);
+        return Err(Reason::BadWord);
     }
     Ok(slot)
 }

@@ -1,12 +1,12 @@
 //! Several stores by one call.
-ghost use Rattle.std.specs.Prelude.{◌≡◌, ◌≤◌, true};
-ghost use Rattle.g1_handles.specs.Prelude.{false, length, take, IfOk, OnErr, IfErr, IfNone};
-ghost use Rattle.g1_handles.specs.Prelude.{MatchOption};
+ghost use Rattle.std.specs.Prelude.{◌≡◌, ◌≤◌};
+ghost use Rattle.g1_handles.specs.Prelude.{true, false, length, take, IfOk, OnErr, IfErr};
+ghost use Rattle.g1_handles.specs.Prelude.{IfNone, MatchOption};
 ghost use Rattle.g1_handles.specs.Codes.{IsStoreOf};
 ghost use Rattle.g1_handles.specs.Refusals.{AreStoresRefused};
 ghost use Rattle.g1_handles.specs.Batch.{made, made_all, cards_of, IsFaultAt};
 
-use crate::code::Refusal;
+use crate::code::Reason;
 use crate::one_core::store::reference;
 use arrayvec::ArrayVec;
 use g1_core::Core;
@@ -38,7 +38,7 @@ pub struct Stored {
 ///
 /// Returns `NoRoom` if the array is shorter than the list of stores, or `TooManyCards` for more
 /// than 256 stores: nothing has changed. Takes no memory.
-pub fn store_all_in(core: &mut Core, stores: &[Store], room: usize) -> Result<Stored, Refusal>
+pub fn store_all_in(core: &mut Core, stores: &[Store], room: usize) -> Result<Stored, Reason>
     ensures made { IfOk result (λ answer. record {
       machine = core.new;
       cards = answer.cards.items;
@@ -54,44 +54,29 @@ pub fn store_all_in(core: &mut Core, stores: &[Store], room: usize) -> Result<St
     ensures refused { OnErr result (core.new ≡ core.old) }
 {
     if room < stores.len() {
-        return Err(Refusal::NoRoom);
+        return Err(Reason::NoRoom);
     }
     if 256 < stores.len() {
-        return Err(Refusal::TooManyCards);
+        return Err(Reason::TooManyCards);
     }
-    Ok(store_each(core, stores))
-}
-
-fn store_each(core: &mut Core, stores: &[Store]) -> Stored
-    requires { length stores.now ≤ 256 }
-    ensures made { record {
-      machine = core.new;
-      cards = result.cards.items;
-    } ≡ made_all core.old (take result.count stores.now) }
-    ensures whole { result.is_whole ≡ true → result.count ≡ length stores.now }
-    ensures stopped { result.is_whole ≡ false
-        → IsFaultAt core.old.state.table.layout stores.now result.count }
-    ensures few { (length result.cards.items ≤ result.count) × (result.count ≤ 256)
-        × (result.count ≤ length stores.now) }
-{
     let mut cards: ArrayVec<Card, 256> = ArrayVec::new();
     for i in 0..stores.len() {
         let Some(card) = store_next(core, stores[i]) else {
-            return Stored {
+            return Ok(Stored {
                 cards,
                 count: i,
                 is_whole: false,
-            };
+            });
         };
         if let Some(card) = card {
             cards.push(card);
         }
     }
-    Stored {
+    Ok(Stored {
         cards,
         count: stores.len(),
         is_whole: true,
-    }
+    })
 }
 
 /// Makes one store, and returns its card if it is logged. Returns `None` if the heap has no such

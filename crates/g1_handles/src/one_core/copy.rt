@@ -1,15 +1,15 @@
 //! A range of slots of a core is copied to another one.
 ghost use Rattle.std.specs.Prelude.{◌≡◌, ◌+◌, ◌≤◌, ◌↔◌};
-ghost use Rattle.g1_handles.specs.{IsTrue, IsOk, OnOk, IfErr, OnErr, slot_count, CopiesSlots};
-ghost use Rattle.g1_handles.specs.{LacksRanges};
+ghost use Rattle.g1_handles.specs.{IsTrue, IsOk, OnOk, IfErr, OnErr};
+ghost use Rattle.g1_handles.specs.{slot_count, CopiesSlots, LacksRanges};
 
-use crate::code::Refusal;
+use crate::code::Reason;
 use g1_core::Core;
 use g1_layout::Layout;
 
 /// Copies what `count` slots of a core refer to, from the slot `from` on, to as many from the slot
 /// `to` on. Returns `NoSlot` if one of the two ranges leaves the heap: nothing has changed.
-pub fn copy_in(core: &mut Core, from: u32, to: u32, count: u32) -> Result<(), Refusal>
+pub fn copy_in(core: &mut Core, from: u32, to: u32, count: u32) -> Result<(), Reason>
     ensures copied { OnOk result (CopiesSlots core.old from to count core.new) }
     ensures answered { from + count ≤ slot_count core.old.state.table.layout
         → to + count ≤ slot_count core.old.state.table.layout → IsOk result }
@@ -20,7 +20,7 @@ pub fn copy_in(core: &mut Core, from: u32, to: u32, count: u32) -> Result<(), Re
     let layout = core.layout();
     let _reads = core.reads();
     if !has_slots(layout, from, count as usize) || !has_slots(layout, to, count as usize) {
-        return Err(Refusal::NoSlot);
+        return Err(Reason::NoSlot);
     }
     // Only an empty range begins behind the last slot.
     if let (Some(from), Some(to)) = (layout.slot(from), layout.slot(to)) {

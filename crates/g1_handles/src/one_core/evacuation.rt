@@ -1,10 +1,10 @@
 //! The clear and the redirect, which may follow an evacuation.
 ghost use Rattle.std.specs.Prelude.{◌≡◌, ◌<◌};
-ghost use Rattle.g1_handles.specs.{IfOk, IfErr, OnErr, IsOnlyRead, cleared_of, IsClearWord};
-ghost use Rattle.g1_handles.specs.{ClearsTo, LacksRegion, redirect_refined, IsRedirectRefused};
-ghost use Rattle.g1_handles.specs.{RedirectsTo, FitIn};
+ghost use Rattle.g1_handles.specs.{IfOk, IfErr, OnErr, IsOnlyRead, cleared_of};
+ghost use Rattle.g1_handles.specs.{IsClearWord, ClearsTo, LacksRegion, redirect_refined};
+ghost use Rattle.g1_handles.specs.{IsRedirectRefused, RedirectsTo, FitIn};
 
-use crate::code::{DONE, Refusal};
+use crate::code::{DONE, Reason};
 use g1_core::{ClearReply, Core, Redirected};
 
 /// Clears a region. Returns the word of the reply and the number that goes with it:
@@ -15,7 +15,7 @@ use g1_core::{ClearReply, Core, Redirected};
 ///
 /// In the second and third case the core is as it was, except for its count of reads. Returns
 /// `NoRegion` if the call was refused: nothing has changed.
-pub fn clear_in(core: &mut Core, region: u32) -> Result<(u32, u32), Refusal>
+pub fn clear_in(core: &mut Core, region: u32) -> Result<(u32, u32), Reason>
     ensures cleared { IfOk result (λ answer.
         ClearsTo core.old region (cleared_of answer.0 answer.1) core.new) }
     ensures words { IfOk result (λ answer. IsClearWord answer.0 answer.1) }
@@ -25,7 +25,7 @@ pub fn clear_in(core: &mut Core, region: u32) -> Result<(u32, u32), Refusal>
 {
     let layout = core.layout();
     let Some(region) = layout.region(region) else {
-        return Err(Refusal::NoRegion);
+        return Err(Reason::NoRegion);
     };
     Ok(words_of(core.clear(region)))
 }
@@ -37,8 +37,8 @@ pub(crate) fn words_of(reply: ClearReply) -> (u32, u32)
 {
     match reply {
         ClearReply::Cleared => (DONE, 0),
-        ClearReply::Pending(count) => (Refusal::StillPending.word(), count),
-        ClearReply::StillReferenced(slot) => (Refusal::StillReferenced.word(), slot.number()),
+        ClearReply::Pending(count) => (Reason::StillPending.word(), count),
+        ClearReply::StillReferenced(slot) => (Reason::StillReferenced.word(), slot.number()),
     }
 }
 
@@ -47,7 +47,7 @@ pub(crate) fn words_of(reply: ClearReply) -> (u32, u32)
 ///
 /// Returns `NoRegion` for either region, `SameRegion`, `NoRoom` if the array is shorter than the
 /// heap has cards, or `NoMemory`: nothing has changed.
-pub fn redirect_in(core: &mut Core, from: u32, to: u32, room: usize) -> Result<Redirected, Refusal>
+pub fn redirect_in(core: &mut Core, from: u32, to: u32, room: usize) -> Result<Redirected, Reason>
     ensures redirected { IfOk result (λ answer. RedirectsTo core.old from to answer core.new) }
     ensures refined { IfOk result (λ answer. FitIn room (redirect_refined answer)) }
     ensures why { IfErr result (IsRedirectRefused core.old.state.table.layout from to room) }
@@ -55,19 +55,19 @@ pub fn redirect_in(core: &mut Core, from: u32, to: u32, room: usize) -> Result<R
 {
     let layout = core.layout();
     let Some(from) = layout.region(from) else {
-        return Err(Refusal::NoRegion);
+        return Err(Reason::NoRegion);
     };
     let Some(to) = layout.region(to) else {
-        return Err(Refusal::NoRegion);
+        return Err(Reason::NoRegion);
     };
     if from == to {
-        return Err(Refusal::SameRegion);
+        return Err(Reason::SameRegion);
     }
     if room < layout.card_count() as usize {
-        return Err(Refusal::NoRoom);
+        return Err(Reason::NoRoom);
     }
     match core.redirect(from, to) {
         Ok(answer) => Ok(answer),
-        Err(_) => Err(Refusal::NoMemory),
+        Err(_) => Err(Reason::NoMemory),
     }
 }

@@ -1,10 +1,10 @@
 //! The remembered set of a region, as it is recorded.
 ghost use Rattle.std.specs.Prelude.{◌≤◌};
 ghost use Rattle.g1_handles.specs.Prelude.{length, IfOk, IfErr};
-ghost use Rattle.g1_handles.specs.Queries.{IsListed, IsListOf};
+ghost use Rattle.g1_handles.specs.Queries.{Lists, IsListOf, TellsMembers};
 ghost use Rattle.g1_handles.specs.Refusals.{AreMembersRefused};
 
-use crate::code::Refusal;
+use crate::code::Reason;
 use g1_core::{CardList, Core};
 
 /// What C gets of the list of members.
@@ -19,16 +19,16 @@ pub enum Listed {
 /// Returns the remembered set of a region as it is recorded in a core, or how many cards it has if
 /// the caller's array, whose length is `room`, is shorter. Returns `NoRegion` or `NoMemory` if the
 /// call was refused.
-pub fn members_in(core: &Core, region: u32, room: usize) -> Result<Listed, Refusal>
-    ensures listed { IfOk result (λ answer. IsListed core.now region room answer) }
+pub fn members_in(core: &Core, region: u32, room: usize) -> Result<Listed, Reason>
+    ensures listed { IfOk result (Lists (TellsMembers core.now.state.table region) room) }
     ensures why { IfErr result (AreMembersRefused core.now.state.table.layout region) }
 {
     let layout = core.layout();
     let Some(region) = layout.region(region) else {
-        return Err(Refusal::NoRegion);
+        return Err(Reason::NoRegion);
     };
     let Ok(members) = core.members(region) else {
-        return Err(Refusal::NoMemory);
+        return Err(Reason::NoMemory);
     };
     Ok(list_of(members, room))
 }

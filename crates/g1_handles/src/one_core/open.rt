@@ -1,12 +1,12 @@
 //! Opening and closing a handle.
 ghost use Rattle.std.specs.Prelude.{◌≡◌, ◌↔◌, ◌<◌};
-ghost use Rattle.g1_handles.specs.Prelude.{Some, None, IfOk, IfErr, OnOk, OnErr, SomeIff, IsSome};
-ghost use Rattle.g1_handles.specs.Prelude.{new_machine, AreSettings};
+ghost use Rattle.g1_handles.specs.Prelude.{Some, None, IfErr, OnOk, OnErr, SomeIff};
+ghost use Rattle.g1_handles.specs.Prelude.{IsSome, new_machine, AreSettings};
 ghost use Rattle.g1_handles.specs.Codes.{layout_of, settings_of, IsRefusal};
-ghost use Rattle.g1_handles.specs.Refusals.{IsNewRefused, IsOpenRefused, SaysNotOpen};
+ghost use Rattle.g1_handles.specs.Refusals.{IsOpenRefused, SaysNotOpen};
 
 use crate::any_handle::{closed, into_box, is_closed, opened};
-use crate::code::{DONE, Refusal};
+use crate::code::{DONE, Reason};
 use crate::one_core::handle::Handle;
 use g1_core::{Config, Core};
 use g1_layout::Layout;
@@ -24,24 +24,6 @@ pub struct Counts {
     pub slots: u32,
 }
 
-/// Makes a core in memory of the allocator. From `hot` refinements on, a card is hot, and the hot
-/// ring holds `ring` cards. The other settings have their defaults.
-///
-/// Returns `BadLayout` or `BadSettings` if the counts or the settings are outside their limits, or
-/// `NoMemory` if memory was refused.
-fn new_core(alloc: Global, counts: &Counts, hot: u32, ring: u32) -> Result<Box<Core>, Refusal>
-    ensures new { IfOk result (λ core.
-        core.value ≡ new_machine (layout_of counts.now) (settings_of hot ring)) }
-    ensures why { IfErr result (λ refusal.
-        IsNewRefused (layout_of counts.now) (settings_of hot ring) refusal) }
-{
-    let layout = Layout::large(counts.regions, counts.cards, counts.slots);
-    let layout = layout.ok_or(Refusal::BadLayout)?;
-    let config = config(hot, ring).ok_or(Refusal::BadSettings)?;
-    let core = Core::new(alloc, layout, config).or(Err(Refusal::NoMemory))?;
-    Box::new(alloc, core).or(Err(Refusal::NoMemory))
-}
-
 /// The settings of a core: these, and the defaults of the others.
 fn config(hot: u32, ring: u32) -> Option<Config>
     ensures { SomeIff result (AreSettings (settings_of hot ring)) (settings_of hot ring) }
@@ -52,15 +34,18 @@ fn config(hot: u32, ring: u32) -> Option<Config>
     Config::new(log, limit, hot, ring as usize, start)
 }
 
-/// Opens a closed handle on a new core ([`new_core`]). Returns `AlreadyOpen` if the handle is open,
-/// before anything is made, or what refused the core: the handle has not changed.
+/// Opens a closed handle on a new core in memory of the allocator. From `hot` refinements on, a
+/// card is hot, and the hot ring holds `ring` cards. The other settings have their defaults.
+///
+/// Returns `AlreadyOpen`, before anything is made, `BadLayout` or `BadSettings` if the counts or
+/// the settings are outside their limits, or `NoMemory`: the handle has not changed.
 pub fn open_core(
     alloc: Global,
     handle: &mut Handle,
     counts: &Counts,
     hot: u32,
     ring: u32,
-) -> Result<(), Refusal>
+) -> Result<(), Reason>
     ensures new { OnOk result
         (handle.new.value ≡ Some (new_machine (layout_of counts.now) (settings_of hot ring))) }
     ensures closed { OnOk result (handle.old.value ≡ None) }
@@ -69,9 +54,13 @@ pub fn open_core(
     ensures refused { OnErr result (handle.new.value ≡ handle.old.value) }
 {
     if !is_closed(alloc, handle) {
-        return Err(Refusal::AlreadyOpen);
+        return Err(Reason::AlreadyOpen);
     }
-    *handle = opened(new_core(alloc, counts, hot, ring)?);
+    let layout = Layout::large(counts.regions, counts.cards, counts.slots);
+    let layout = layout.ok_or(Reason::BadLayout)?;
+    let config = config(hot, ring).ok_or(Reason::BadSettings)?;
+    let core = Core::new(alloc, layout, config).or(Err(Reason::NoMemory))?;
+    *handle = opened(Box::new(alloc, core).or(Err(Reason::NoMemory))?);
     Ok(())
 }
 
@@ -84,7 +73,7 @@ pub fn close_in(handle: Handle, alloc: Global) -> (Handle, u32)
     ensures why { 0 < result.1 → IsRefusal result.1 (SaysNotOpen handle.value) }
 {
     let Some(_core) = into_box(handle) else {
-        return (closed(alloc), Refusal::NotOpen.word());
+        return (closed(alloc), Reason::NotOpen.word());
     };
     (closed(alloc), DONE)
 }

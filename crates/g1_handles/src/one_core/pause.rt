@@ -1,9 +1,9 @@
 //! The pause.
 ghost use Rattle.std.specs.Prelude.{◌≡◌};
-ghost use Rattle.g1_handles.specs.{IfOk, IfErr, OnErr, drain_cards, drain_refined, IsDrainRefused};
-ghost use Rattle.g1_handles.specs.{DrainsTo, FitIn};
+ghost use Rattle.g1_handles.specs.{IfOk, IfErr, OnErr, drain_cards, drain_refined};
+ghost use Rattle.g1_handles.specs.{IsDrainRefused, DrainsTo, FitIn};
 
-use crate::code::Refusal;
+use crate::code::Reason;
 use g1_core::{Core, Drained};
 
 /// Drains a region ([`Core::drain`]). `room` and `refined_room` are the lengths of the caller's two
@@ -17,7 +17,7 @@ pub fn drain_in(
     region: u32,
     room: usize,
     refined_room: usize,
-) -> Result<Drained, Refusal>
+) -> Result<Drained, Reason>
     ensures drained { IfOk result (λ answer. DrainsTo core.old region answer core.new) }
     ensures cards { IfOk result (λ answer. FitIn room (drain_cards answer)) }
     ensures refined { IfOk result (λ answer. FitIn refined_room (drain_refined answer)) }
@@ -27,17 +27,17 @@ pub fn drain_in(
 {
     let layout = core.layout();
     let Some(region) = layout.region(region) else {
-        return Err(Refusal::NoRegion);
+        return Err(Reason::NoRegion);
     };
     let most = layout.card_count() as usize;
     if room < most {
-        return Err(Refusal::NoRoom);
+        return Err(Reason::NoRoom);
     }
     if refined_room < most {
-        return Err(Refusal::NoRoom);
+        return Err(Reason::NoRoom);
     }
     match core.drain(region) {
         Ok(answer) => Ok(answer),
-        Err(_) => Err(Refusal::NoMemory),
+        Err(_) => Err(Reason::NoMemory),
     }
 }

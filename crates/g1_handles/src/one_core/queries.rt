@@ -1,15 +1,15 @@
 //! Queries: what a slot refers to, whether a card is pending, and how much is pending and recorded.
 ghost use Rattle.std.specs.Prelude.{◌≡◌, ◌<◌};
-ghost use Rattle.g1_handles.specs.{IfOk, IfErr, OnErr, IsOk, IfSome, slot_count, card_count};
-ghost use Rattle.g1_handles.specs.{reference_of, RefersTo, TellsPending, TellsStatus, LacksCard};
-ghost use Rattle.g1_handles.specs.{LacksSlot};
+ghost use Rattle.g1_handles.specs.{IfOk, IfErr, OnErr, IsOk, IfSome, slot_count};
+ghost use Rattle.g1_handles.specs.{card_count, reference_of, RefersTo, TellsPending, TellsStatus};
+ghost use Rattle.g1_handles.specs.{LacksCard, LacksSlot};
 
-use crate::code::{NULL, Refusal};
+use crate::code::{NULL, Reason};
 use g1_core::{Core, Status};
 use g1_layout::{Layout, Slot};
 
 /// Returns the word of what a slot of a core refers to, or `NoSlot`: nothing has changed.
-pub fn target_in(core: &mut Core, slot: u32) -> Result<u32, Refusal>
+pub fn target_in(core: &mut Core, slot: u32) -> Result<u32, Reason>
     ensures target { IfOk result (λ word. RefersTo core.old slot (reference_of word) core.new) }
     ensures answered { slot < slot_count core.old.state.table.layout → IsOk result }
     ensures why { IfErr result (LacksSlot core.old.state.table.layout slot) }
@@ -17,7 +17,7 @@ pub fn target_in(core: &mut Core, slot: u32) -> Result<u32, Refusal>
 {
     let layout = core.layout();
     let Some(slot) = layout.slot(slot) else {
-        return Err(Refusal::NoSlot);
+        return Err(Reason::NoSlot);
     };
     Ok(word_of(layout, core.target(slot)))
 }
@@ -35,13 +35,13 @@ pub(crate) fn word_of(layout: Layout, target: Option<Slot>) -> u32
 }
 
 /// Returns whether a card of a core is pending, or `NoCard`.
-pub fn is_pending_in(core: &Core, card: u32) -> Result<bool, Refusal>
+pub fn is_pending_in(core: &Core, card: u32) -> Result<bool, Reason>
     ensures pending { IfOk result (TellsPending core.now.state.table card) }
     ensures answered { card < card_count core.now.state.table.layout → IsOk result }
     ensures why { IfErr result (LacksCard core.now.state.table.layout card) }
 {
     let Some(card) = core.layout().card(card) else {
-        return Err(Refusal::NoCard);
+        return Err(Reason::NoCard);
     };
     Ok(core.is_pending(card))
 }

@@ -1,9 +1,10 @@
 //! Refinement.
 ghost use Rattle.std.specs.Prelude.{◌≡◌, ◌<◌, ◌≤◌, if◌then◌else◌};
-ghost use Rattle.g1_handles.specs.{length, All, IfSome, IfNone, IfOk, IfErr, OnErr, card_count};
-ghost use Rattle.g1_handles.specs.{IsRefinementRefused, RefinesTo, reply_of};
+ghost use Rattle.g1_handles.specs.{length, All, IfSome, IfNone, IfOk};
+ghost use Rattle.g1_handles.specs.{IfErr, OnErr, card_count, IsRefinementRefused, RefinesTo};
+ghost use Rattle.g1_handles.specs.{reply_of};
 
-use crate::code::{DONE, Refusal, SHORT};
+use crate::code::{DONE, Reason, SHORT};
 use arrayvec::ArrayVec;
 use g1_core::{Core, RefineReply};
 use g1_layout::{Card, Layout};
@@ -24,7 +25,7 @@ pub fn word_of(reply: &RefineReply) -> u32
 ///
 /// Returns `NoRoom` if the array is shorter than the list of cards, `TooManyCards` for more than
 /// 256 cards, `NoCard`, or `NoMemory`: nothing has changed.
-pub fn refine_in(core: &mut Core, cards: &[u32], room: usize) -> Result<RefineReply, Refusal>
+pub fn refine_in(core: &mut Core, cards: &[u32], room: usize) -> Result<RefineReply, Reason>
     ensures refined { IfOk result (λ reply. RefinesTo core.old cards.now reply core.new) }
     ensures taken { IfOk result (λ reply. (reply.taken ≡ (if reply.short then 0 else 1))
         × (reply.left ≡ 0)) }
@@ -35,17 +36,17 @@ pub fn refine_in(core: &mut Core, cards: &[u32], room: usize) -> Result<RefineRe
     ensures refused { OnErr result (core.new ≡ core.old) }
 {
     if room < cards.len() {
-        return Err(Refusal::NoRoom);
+        return Err(Reason::NoRoom);
     }
     if 256 < cards.len() {
-        return Err(Refusal::TooManyCards);
+        return Err(Reason::TooManyCards);
     }
     let Some(buffer) = buffer_of(core.layout(), cards) else {
-        return Err(Refusal::NoCard);
+        return Err(Reason::NoCard);
     };
     match core.refine(Some(&buffer)) {
         Ok(reply) => Ok(reply),
-        Err(_) => Err(Refusal::NoMemory),
+        Err(_) => Err(Reason::NoMemory),
     }
 }
 

@@ -1,16 +1,17 @@
 //! Stores.
 ghost use Rattle.std.specs.Prelude.{◌≡◌, ◌<◌};
-ghost use Rattle.g1_handles.specs.{IfSome, IfNone, IfOk, IfErr, IsOk, OnOk, OnErr, slot_count};
-ghost use Rattle.g1_handles.specs.{kind_of, reference_of, IsStoreOf, stored_machine, LacksPlace};
+ghost use Rattle.g1_handles.specs.{IfSome, IfNone, IfOk, IfErr, IsOk, OnOk, OnErr};
+ghost use Rattle.g1_handles.specs.{slot_count, kind_of, reference_of, IsStoreOf, stored_machine};
+ghost use Rattle.g1_handles.specs.{LacksPlace};
 
-use crate::code::{NULL, Refusal};
+use crate::code::{NULL, Reason};
 use g1_core::Core;
 use g1_layout::{Kind, Layout, Slot};
 
 /// Stores a target into a slot of a core. Returns the kind of the store, or `NoSlot` for the slot
 /// or the target: nothing has changed.
 #[inline(always)]
-pub fn store_in(core: &mut Core, slot: u32, target: u32) -> Result<Kind, Refusal>
+pub fn store_in(core: &mut Core, slot: u32, target: u32) -> Result<Kind, Reason>
     ensures kind { IfOk result (λ kind.
         kind ≡ kind_of core.old.state.table slot (reference_of target)) }
     ensures machine { OnOk result (core.new ≡ stored_machine core.old slot (reference_of target)) }
@@ -20,10 +21,10 @@ pub fn store_in(core: &mut Core, slot: u32, target: u32) -> Result<Kind, Refusal
 {
     let layout = core.layout();
     let Some(slot) = layout.slot(slot) else {
-        return Err(Refusal::NoSlot);
+        return Err(Reason::NoSlot);
     };
     let Some(target) = reference(layout, target) else {
-        return Err(Refusal::NoSlot);
+        return Err(Reason::NoSlot);
     };
     let (kind, _dirtied) = core.store_unlogged(slot, target);
     Ok(kind)

@@ -1,11 +1,11 @@
 //! Checks of a core for a debug build.
 ghost use Rattle.std.specs.Prelude.{◌≡◌, ◌+◌, ◌≤◌};
-ghost use Rattle.g1_handles.specs.Prelude.{length, IfOk, IfErr, IsOk, OnErr, slot_count};
-ghost use Rattle.g1_handles.specs.Prelude.{IsOnlyRead};
+ghost use Rattle.g1_handles.specs.Prelude.{length, IfOk, IfErr, IsOk, OnErr};
+ghost use Rattle.g1_handles.specs.Prelude.{slot_count, IsOnlyRead};
 ghost use Rattle.g1_handles.specs.Queries.{Finds};
 ghost use Rattle.g1_handles.specs.Lacks.{LacksRanges};
 
-use crate::code::{NULL, Refusal};
+use crate::code::{NULL, Reason};
 use crate::one_core::copy::has_slots;
 use crate::one_core::queries::word_of;
 use g1_core::Core;
@@ -34,7 +34,7 @@ pub fn verify_in(
     first: u32,
     count: u32,
     memory: &[u32],
-) -> Result<Findings, Refusal>
+) -> Result<Findings, Reason>
     ensures found { IfOk result (λ f.
         Finds core.old.state.table first count memory.now f.differing f.missing
         × IsOnlyRead core.old core.new) }
@@ -46,7 +46,7 @@ pub fn verify_in(
 {
     let layout = core.layout();
     if !has_slots(layout, first, count as usize) || !has_slots(layout, first, memory.len()) {
-        return Err(Refusal::NoSlot);
+        return Err(Reason::NoSlot);
     }
     // Only an empty range begins behind the last slot.
     let Some(from) = layout.slot(first) else {

@@ -6,6 +6,7 @@ ghost use Rattle.g1_race.specs.{race_begun, racer_race, sweeper_race, racer_view
 
 use crate::ended::Closed;
 use crate::paused::Paused;
+use crate::paused::reading::Reader;
 use crate::race::{Race, Racer, Sweeper};
 
 impl Race {
@@ -40,10 +41,11 @@ impl Paused {
     {
         let Paused {
             race,
-            seat,
+            reader,
             racers: _,
             sweepers: _,
         } = self;
+        let Reader { seat } = reader;
         let Race {
             table,
             layout,

@@ -8,12 +8,17 @@ use crate::bits::bit_of;
 use arrayvec::ArrayVec;
 use atomic_table::Closed;
 use g1_layout::{Card, Layout, NoMemory, Region};
-use g1_race_words::Shape;
+use g1_race_words::RaceShape;
 use std::alloc::Global;
 
 // Whether the pair's bit is set.
 #[tactic(auto, using(crate::specs::shr_and_one, crate::specs::read_is))]
-pub(crate) fn has_bit(words: &Closed<(), Global>, shape: Shape, card: usize, region: usize) -> bool
+pub(crate) fn has_bit(
+    words: &Closed<(), Global>,
+    shape: RaceShape,
+    card: usize,
+    region: usize,
+) -> bool
     requires shape { IsWholeShape shape }
     requires pair { IsPair shape (card, region) }
     requires words { (slots_len words.now.words ≡ word_count shape)
@@ -33,7 +38,7 @@ pub(crate) fn list_pairs(
     alloc: Global,
     words: &Closed<(), Global>,
     layout: Layout,
-    shape: Shape,
+    shape: RaceShape,
 ) -> Result<Vec<(Card, Region)>, NoMemory>
     requires shape { IsWholeShape shape }
     requires laid { shape ≡ shape_of layout shape.members }
@@ -58,7 +63,7 @@ pub(crate) fn list_pairs(
 // block, its regions are these already.
 fn note_regions(
     words: &Closed<(), Global>,
-    shape: Shape,
+    shape: RaceShape,
     card: usize,
     regions: &mut ArrayVec<usize, 256>,
 )
@@ -90,7 +95,7 @@ fn note_regions(
 fn list_card(
     words: &Closed<(), Global>,
     layout: Layout,
-    shape: Shape,
+    shape: RaceShape,
     card: usize,
     regions: &[usize],
     pairs: &mut Vec<(Card, Region)>,
@@ -115,7 +120,7 @@ fn list_card(
 }
 
 // The pair with these numbers.
-fn pair_at(layout: Layout, shape: Shape, card: usize, region: usize) -> (Card, Region)
+fn pair_at(layout: Layout, shape: RaceShape, card: usize, region: usize) -> (Card, Region)
     requires shape { IsWholeShape shape }
     requires laid { shape ≡ shape_of layout shape.members }
     requires pair { IsPair shape (card, region) }
@@ -128,7 +133,7 @@ fn pair_at(layout: Layout, shape: Shape, card: usize, region: usize) -> (Card, R
 }
 
 // How many bits are set: room for that many pairs is asked for at once.
-fn count_bits(words: &Closed<(), Global>, shape: Shape) -> usize
+fn count_bits(words: &Closed<(), Global>, shape: RaceShape) -> usize
     requires shape { IsWholeShape shape }
     requires words { (slots_len words.now.words ≡ word_count shape)
         × (length (slots_items words.now.words) ≡ word_count shape)

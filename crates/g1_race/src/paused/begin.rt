@@ -2,17 +2,15 @@
 ghost use Rattle.std.specs.Prelude.{◌≡◌, ◌+◌, ◌<◌, ◌≤◌};
 ghost use Rattle.g1_race.specs.{ℕ, [], IfOk, All, replicate, some, get_elem?, IsPairOf, In, IsPair};
 ghost use Rattle.g1_race.specs.{IsOfCrossing, mark_word, null_of, shape_of, table_at, start_at};
-ghost use Rattle.g1_race.specs.{Notes, AreCovered, AreMarked, ArePlaced, IsSame, IsAtPause};
+ghost use Rattle.g1_race.specs.{Notes, AreCovered, AreMarked, ArePlaced, IsSame, IsPauseReader};
 ghost use Rattle.std.specs.FinSet as set;
 
 use crate::paused::Paused;
-use crate::paused::access::{dirty, put};
-use crate::paused::drain::set_bit;
+use crate::paused::reading::Reader;
 use crate::race::Race;
 use crate::word::word_of;
 use g1_core::Core;
 use g1_layout::{Card, NoMemory, Region};
-use g1_race_words::RaceSeat;
 use std::alloc::Global;
 
 impl Paused {
@@ -57,70 +55,67 @@ impl Paused {
         ensures same { IsSame core.old core.new }
     {
         let _layout = core.layout();
-        place_pairs(&self.race, &mut self.seat, pairs);
-        place_marks(&self.race, &mut self.seat, core);
-        place_slots(&self.race, &mut self.seat, core);
+        self.reader.place_pairs(&self.race, pairs);
+        self.reader.place_marks(&self.race, core);
+        self.reader.place_slots(&self.race, core);
     }
 }
 
-// Sets the bits of these pairs.
-fn place_pairs(race: &Race, seat: &mut RaceSeat, pairs: &[(Card, Region)])
-    requires seat { IsAtPause race.now seat.old }
-    requires pairs { (x : ℕ × ℕ) → In pairs.now x →
-        IsPair race.now.shape x × IsOfCrossing race.now.shape x }
-    ensures seat { IsAtPause race.now seat.new }
-    ensures notes { Notes race.now.shape seat.old.me.0.began_words seat.new.me.0.began_words
-        pairs.now }
-{
-    for pair in pairs {
-        set_bit(
-            race,
-            seat,
-            pair.0.number() as usize,
-            pair.1.number() as usize,
-        );
-    }
-}
-
-// Dirties the cards that are pending in the core.
-fn place_marks(race: &Race, seat: &mut RaceSeat, core: &Core)
-    requires seat { IsAtPause race.now seat.old }
-    requires layout { race.now.layout ≡ core.now.state.table.layout }
-    requires clean { (c : ℕ) → c < race.now.shape.cards →
-        get_elem? seat.old.me.0.began_words (mark_word race.now.shape c) ≡ some 0 }
-    ensures seat { IsAtPause race.now seat.new }
-    ensures marks { AreMarked race.now.shape core.now.state.table seat.old.me.0.began_words
-        seat.new.me.0.began_words race.now.shape.cards }
-{
-    for number in 0..race.shape.cards {
-        let Some(card) = race.layout.card(number as u32) else {
-            unreachable!()
-        };
-        if core.is_pending(card) {
-            dirty(race, seat, number);
+impl Reader {
+    // Sets the bits of these pairs.
+    fn place_pairs(&mut self, race: &Race, pairs: &[(Card, Region)])
+        requires reader { IsPauseReader race.now self.old }
+        requires pairs { (x : ℕ × ℕ) → In pairs.now x →
+            IsPair race.now.shape x × IsOfCrossing race.now.shape x }
+        ensures reader { IsPauseReader race.now self.new }
+        ensures notes { Notes race.now.shape self.old.start.words self.new.start.words
+            pairs.now }
+    {
+        for pair in pairs {
+            self.set_bit(race, pair.0.number() as usize, pair.1.number() as usize);
         }
     }
-}
 
-// Writes the core's references.
-fn place_slots(race: &Race, seat: &mut RaceSeat, core: &mut Core)
-    requires seat { IsAtPause race.now seat.old }
-    requires layout { race.now.layout ≡ core.old.state.table.layout }
-    requires null { (p : ℕ) → p < race.now.shape.slots →
-        get_elem? seat.old.me.0.began_words p ≡ some 0 }
-    requires covered { AreCovered race.now.shape core.old.state.table seat.old.me.0.began_words }
-    ensures seat { IsAtPause race.now seat.new }
-    ensures slots { ArePlaced race.now.shape core.old.state.table seat.old.me.0.began_words
-        seat.new.me.0.began_words race.now.shape.slots }
-    ensures same { IsSame core.old core.new }
-{
-    for number in 0..race.shape.slots {
-        let Some(slot) = race.layout.slot(number as u32) else {
-            unreachable!()
-        };
-        let word = word_of(core.target(slot));
-        if word != 0 {
-            put(race, seat, number, word);
+    // Dirties the cards that are pending in the core.
+    fn place_marks(&mut self, race: &Race, core: &Core)
+        requires reader { IsPauseReader race.now self.old }
+        requires layout { race.now.layout ≡ core.now.state.table.layout }
+        requires clean { (c : ℕ) → c < race.now.shape.cards →
+            get_elem? self.old.start.words (mark_word race.now.shape c) ≡ some 0 }
+        ensures reader { IsPauseReader race.now self.new }
+        ensures marks { AreMarked race.now.shape core.now.state.table self.old.start.words
+            self.new.start.words race.now.shape.cards }
+    {
+        for number in 0..race.shape.cards {
+            let Some(card) = race.layout.card(number as u32) else {
+                unreachable!()
+            };
+            if core.is_pending(card) {
+                self.dirty(race, number);
+            }
+        }
+    }
+
+    // Writes the core's references.
+    fn place_slots(&mut self, race: &Race, core: &mut Core)
+        requires reader { IsPauseReader race.now self.old }
+        requires layout { race.now.layout ≡ core.old.state.table.layout }
+        requires null { (p : ℕ) → p < race.now.shape.slots →
+            get_elem? self.old.start.words p ≡ some 0 }
+        requires covered { AreCovered race.now.shape core.old.state.table self.old.start.words }
+        ensures reader { IsPauseReader race.now self.new }
+        ensures slots { ArePlaced race.now.shape core.old.state.table self.old.start.words
+            self.new.start.words race.now.shape.slots }
+        ensures same { IsSame core.old core.new }
+    {
+        for number in 0..race.shape.slots {
+            let Some(slot) = race.layout.slot(number as u32) else {
+                unreachable!()
+            };
+            let word = word_of(core.target(slot));
+            if word != 0 {
+                self.put(race, number, word);
+            }
         }
     }
 }

@@ -1,14 +1,14 @@
 //! A range of slots is copied to another one.
 ghost use Rattle.std.specs.Prelude.{◌≡◌, ◌+◌, ◌<◌, ◌≤◌};
-ghost use Rattle.g1_race.specs.{slice_index, slot_count, target_of, stored, copied, table_at};
-ghost use Rattle.g1_race.specs.{IsSameRace, SlotsBecome, copied_word, one_word};
+ghost use Rattle.g1_race.specs.{slice_index, slot_count, target_of, stored, table_at, IsSameRace};
+ghost use Rattle.g1_race.specs.{SlotsBecome, one_word, Copies};
 
 use crate::paused::Paused;
-use crate::paused::holds::Holds;
+use crate::paused::holds::HoldsRace;
 use crate::word::refers_to;
 use g1_layout::{Layout, Slot};
 
-impl<R: Holds> Paused<R> {
+impl<R: HoldsRace> Paused<R> {
     /// Copies the words of `count` slots, from `from` on, into as many slots from `to` on:
     /// references, null and data. The two ranges may overlap: each slot gets the word that its
     /// source had before the call.
@@ -19,9 +19,7 @@ impl<R: Holds> Paused<R> {
     pub fn copy_slots(&mut self, from: Slot, to: Slot, count: u32)
         requires from { from + count ≤ slot_count self.old.layout }
         requires to { to + count ≤ slot_count self.old.layout }
-        ensures race { IsSameRace self.old self.new }
-        ensures words { SlotsBecome (copied_word self.old.words from to count) self.old self.new }
-        ensures table { table_at self.new ≡ copied from to count (table_at self.old) }
+        ensures { Copies self.old from to count self.new }
     {
         let layout = self.race.race().layout;
         // Where the ranges overlap, each slot is read before it is written.

@@ -4,23 +4,20 @@ ghost use Rattle.g1_race.specs.{ℕ, [], IfOk, OnErr, length, map, replicate, ve
 ghost use Rattle.g1_race.specs.{IsStrictlyIncreasing, slot_count, card_count, IsStep, drain_cards};
 ghost use Rattle.g1_race.specs.{drain_entry, drain_refined, IsOfCrossing, IsWord, slot_card};
 ghost use Rattle.g1_race.specs.{pair_at, racer_log, table_at, Notes, RefinesCard, AreRefined};
-ghost use Rattle.g1_race.specs.{AreUnflagged, marked_cards, SlotsBecome, same_word, IsRefinedRace};
-ghost use Rattle.g1_race.specs.{AreAllRefined, IsWhole, IsExactAtPause, IsAtPause};
+ghost use Rattle.g1_race.specs.{AreUnflagged, SlotsBecome, same_word, IsRefinedRace, IsWhole};
+ghost use Rattle.g1_race.specs.{IsExactAtPause, IsPauseReader, Refines};
 
 use crate::bits::bit_of;
 use crate::paused::Paused;
-use crate::paused::access::{put, see};
-use crate::paused::clear::empty_row;
-use crate::paused::holds::Holds;
-use crate::paused::next::next_marked;
+use crate::paused::holds::HoldsRace;
+use crate::paused::reading::Reader;
 use crate::race::{Race, Racer};
 use crate::word::pair_of;
 use g1_core::{CardList, Drained};
 use g1_layout::{NoMemory, Region};
-use g1_race_words::RaceSeat;
 use std::alloc::Global;
 
-impl<R: Holds> Paused<R> {
+impl<R: HoldsRace> Paused<R> {
     /// Refines every dirty card, and returns the remembered set of a region, ascending, each card
     /// once. It has every card that holds into the region, and besides these only cards whose pair
     /// was recorded before. Then no card is dirty, and the racers' logs are empty. The refined
@@ -61,16 +58,84 @@ impl<R: Holds> Paused<R> {
     /// each region are exact then: call it once, then `members` for each region of the collection
     /// set. Takes no memory.
     pub fn refine_all(&mut self)
-        ensures race { IsRefinedRace self.old self.new }
-        ensures words { SlotsBecome same_word self.old self.new }
+        ensures did { Refines self.old self.new }
         ensures bits { AreRefined self.old.shape self.old.words self.new.words
             self.old.shape.cards }
-        ensures refined { AreAllRefined (table_at self.old)
-            (marked_cards self.old.shape self.old.words) (table_at self.new) }
     {
         let race = self.race.race();
-        refine_cards(race, &mut self.seat);
+        self.reader.refine_cards(race);
         clear_logs(&mut self.racers);
+    }
+}
+
+impl Reader {
+    // Refines the dirty cards. No flag is set then.
+    #[tactic(auto, using(crate::proofs::unflagged))]
+    pub(crate) fn refine_cards(&mut self, race: &Race)
+        requires reader { IsPauseReader race.now self.old }
+        ensures reader { IsPauseReader race.now self.new }
+        ensures refined { AreRefined race.now.shape self.old.start.words self.new.start.words
+            race.now.shape.cards }
+        ensures flags { AreUnflagged race.now.shape self.new.start.words }
+    {
+        let mut from = 0;
+        while let Some(card) = self.next_marked(race, from) {
+            self.refine_card(race, card);
+            from = card + 1;
+        }
+        self.empty_row(race, race.shape.regions);
+    }
+
+    // Records the pairs of the card's references, and cleans it.
+    fn refine_card(&mut self, race: &Race, card: usize)
+        requires reader { IsPauseReader race.now self.old }
+        requires card { card < race.now.shape.cards }
+        ensures reader { IsPauseReader race.now self.new }
+        ensures refined { RefinesCard race.now.shape self.old.start.words
+            self.new.start.words card }
+    {
+        let shape = race.shape;
+        for i in 0..shape.size {
+            let slot = card * shape.size + i;
+            let word = self.see(race, slot);
+            self.note_slot(race, card, slot, word);
+        }
+        self.put(race, shape.slots + card, 0);
+    }
+
+    // Records the pair of the word of one of the card's slots, if it refers into another region.
+    fn note_slot(&mut self, race: &Race, card: usize, slot: usize, word: u64)
+        requires slot { slot < slot_count race.now.layout }
+        requires card { card ≡ slot_card race.now.shape slot }
+        requires word { IsWord race.now.shape word }
+        requires reader { IsPauseReader race.now self.old }
+        ensures reader { IsPauseReader race.now self.new }
+        ensures notes { Notes race.now.shape self.old.start.words self.new.start.words
+            (pair_at race.now.shape slot word) }
+    {
+        if let Some((card, region)) = pair_of(race, card, slot, word) {
+            self.set_bit(race, card, region);
+        }
+    }
+
+    // Makes sure that the bit of the pair is set, or in the row of flags the card's flag.
+    #[tactic(auto, using(crate::proofs::of_a_bit))]
+    pub(crate) fn set_bit(&mut self, race: &Race, card: usize, region: usize)
+        requires reader { IsPauseReader race.now self.old }
+        requires card { card < race.now.shape.cards }
+        requires row { region ≤ race.now.shape.regions }
+        requires proper { region < race.now.shape.regions →
+            IsOfCrossing race.now.shape (card, region) }
+        ensures reader { IsPauseReader race.now self.new }
+        ensures notes { Notes race.now.shape self.old.start.words self.new.start.words
+            ((card, region) ∷ []) }
+    {
+        let (at, place) = bit_of(race.shape, card, region);
+        let found = self.see(race, at);
+        if (found >> place) & 1 == 1 {
+            return;
+        }
+        self.put(race, at, found | (1 << place));
     }
 }
 
@@ -82,73 +147,4 @@ pub(crate) fn clear_logs(racers: &mut Vec<Racer>)
     for racer in racers.iter_mut() {
         racer.log.clear();
     }
-}
-
-// Refines the dirty cards. No flag is set then.
-#[tactic(auto, using(crate::proofs::unflagged))]
-pub(crate) fn refine_cards(race: &Race, seat: &mut RaceSeat)
-    requires seat { IsAtPause race.now seat.old }
-    ensures seat { IsAtPause race.now seat.new }
-    ensures refined { AreRefined race.now.shape seat.old.me.0.began_words seat.new.me.0.began_words
-        race.now.shape.cards }
-    ensures flags { AreUnflagged race.now.shape seat.new.me.0.began_words }
-{
-    let mut from = 0;
-    while let Some(card) = next_marked(race, seat, from) {
-        refine_card(race, seat, card);
-        from = card + 1;
-    }
-    empty_row(race, seat, race.shape.regions);
-}
-
-// Records the pairs of the card's references, and cleans it.
-fn refine_card(race: &Race, seat: &mut RaceSeat, card: usize)
-    requires seat { IsAtPause race.now seat.old }
-    requires card { card < race.now.shape.cards }
-    ensures seat { IsAtPause race.now seat.new }
-    ensures refined { RefinesCard race.now.shape seat.old.me.0.began_words
-        seat.new.me.0.began_words card }
-{
-    let shape = race.shape;
-    for i in 0..shape.size {
-        let slot = card * shape.size + i;
-        let word = see(race, seat, slot);
-        note_slot(race, seat, card, slot, word);
-    }
-    put(race, seat, shape.slots + card, 0);
-}
-
-// Records the pair of the word of one of the card's slots, if it refers into another region.
-fn note_slot(race: &Race, seat: &mut RaceSeat, card: usize, slot: usize, word: u64)
-    requires slot { slot < slot_count race.now.layout }
-    requires card { card ≡ slot_card race.now.shape slot }
-    requires word { IsWord race.now.shape word }
-    requires seat { IsAtPause race.now seat.old }
-    ensures seat { IsAtPause race.now seat.new }
-    ensures notes { Notes race.now.shape seat.old.me.0.began_words seat.new.me.0.began_words
-        (pair_at race.now.shape slot word) }
-{
-    if let Some((card, region)) = pair_of(race, card, slot, word) {
-        set_bit(race, seat, card, region);
-    }
-}
-
-// Makes sure that the bit of the pair is set, or in the row of flags the card's flag.
-#[tactic(auto, using(crate::proofs::of_a_bit))]
-pub(crate) fn set_bit(race: &Race, seat: &mut RaceSeat, card: usize, region: usize)
-    requires seat { IsAtPause race.now seat.old }
-    requires card { card < race.now.shape.cards }
-    requires row { region ≤ race.now.shape.regions }
-    requires proper { region < race.now.shape.regions →
-        IsOfCrossing race.now.shape (card, region) }
-    ensures seat { IsAtPause race.now seat.new }
-    ensures notes { Notes race.now.shape seat.old.me.0.began_words seat.new.me.0.began_words
-        ((card, region) ∷ []) }
-{
-    let (at, place) = bit_of(race.shape, card, region);
-    let found = see(race, seat, at);
-    if (found >> place) & 1 == 1 {
-        return;
-    }
-    put(race, seat, at, found | (1 << place));
 }

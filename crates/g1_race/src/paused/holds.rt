@@ -9,7 +9,7 @@ use std::sync::Arc;
 /// With a share, the threads that share the race keep their own shares over the pause. These can do
 /// nothing to its words meanwhile, since each call on them takes a racer or a sweeper, and all of
 /// these are in the pause.
-pub trait Holds {
+pub trait HoldsRace {
     ghost use Rattle.std.specs.Prelude.{◌≡◌};
     ghost use Rattle.g1_race.specs.declared.race.Race.{Race};
 
@@ -20,7 +20,7 @@ pub trait Holds {
         ensures { result.now ≡ held self.now };
 }
 
-impl Holds for Race {
+impl HoldsRace for Race {
     ghost held = { λ race. race };
 
     fn race(&self) -> &Race {
@@ -28,7 +28,7 @@ impl Holds for Race {
     }
 }
 
-impl Holds for Arc<Race, Global> {
+impl HoldsRace for Arc<Race, Global> {
     ghost use Rattle.g1_race.specs.Prelude.{arc_value};
 
     ghost held = { arc_value };

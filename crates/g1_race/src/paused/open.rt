@@ -5,10 +5,11 @@ ghost use Rattle.g1_race.specs.{shape_of, table_at, start_at, race_layout, race_
 ghost use Rattle.g1_race.specs.{AreFreshRacers, AreFreshSweepers, HaveBegun, HaveBegunWith};
 
 use crate::paused::Paused;
+use crate::paused::reading::Reader;
 use crate::race::{Race, Racer, Sweeper};
 use arrayvec::ArrayVec;
 use g1_layout::{Layout, NoMemory};
-use g1_race_words::{RaceTable, Shape};
+use g1_race_words::{RaceShape, RaceTable};
 use std::alloc::Global;
 
 impl Paused {
@@ -44,7 +45,7 @@ impl Paused {
         };
         Ok(Paused {
             race,
-            seat,
+            reader: Reader { seat },
             racers,
             sweepers,
         })
@@ -106,14 +107,14 @@ fn spent_sweepers(alloc: Global, table: &RaceTable, count: usize) -> Result<Vec<
 }
 
 // The layout in plain numbers.
-pub(crate) fn shape_of(layout: Layout, members: usize) -> Shape
+pub(crate) fn shape_of(layout: Layout, members: usize) -> RaceShape
     requires { members ≤ 128 }
     ensures shape { result ≡ shape_of layout members }
     ensures shaped { IsWholeShape result }
 {
     let (regions, cards, slots) = layout.counts();
     let row = ((regions * cards) as usize + 63) / 64;
-    Shape {
+    RaceShape {
         slots: (regions * cards * slots) as usize,
         cards: (regions * cards) as usize,
         size: slots as usize,

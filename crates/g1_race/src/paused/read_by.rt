@@ -1,15 +1,16 @@
 //! How readers are made at a pause, and handed in again.
 ghost use Rattle.std.specs.Prelude.{◌≡◌, ◌+◌, ◌≤◌};
-ghost use Rattle.g1_race.specs.{All, vec_len, vec_capacity, start_of, IsLent, race_id, race_layout};
-ghost use Rattle.g1_race.specs.{race_words, table_at, IsReaderOf, Known, known, table_read};
+ghost use Rattle.g1_race.specs.{All, vec_len, vec_capacity, start_of, IsAtPause, race_id};
+ghost use Rattle.g1_race.specs.{race_layout, race_words, table_at, IsReaderOf, Known, known};
+ghost use Rattle.g1_race.specs.{table_read};
 
 use crate::paused::Paused;
-use crate::paused::holds::Holds;
+use crate::paused::holds::HoldsRace;
 use crate::paused::reading::{Reader, Reading};
 use crate::race::Race;
 use g1_race_words::{RaceSeat, RaceTable};
 
-impl<R: Holds> Paused<R> {
+impl<R: HoldsRace> Paused<R> {
     /// Returns how many readers a pause can have at most: as many as the race has racers and
     /// sweepers.
     pub fn reader_limit(&self) -> usize
@@ -36,7 +37,7 @@ impl<R: Holds> Paused<R> {
     {
         let Paused {
             race,
-            mut seat,
+            reader: Reader { mut seat },
             racers,
             sweepers,
         } = self;
@@ -50,7 +51,7 @@ impl<R: Holds> Paused<R> {
     }
 }
 
-impl<R: Holds> Reading<R> {
+impl<R: HoldsRace> Reading<R> {
     /// Returns the race, which readers pass to their calls. Threads share it by `&`. What a reader
     /// of this pause knows of the race is the table of the pause.
     pub fn race(&self) -> &Race
@@ -66,8 +67,7 @@ impl<R: Holds> Reading<R> {
     /// Ends the reading, and returns the pause as it was. All readers must be handed in. The list
     /// is then empty, and keeps its room for the next time.
     ///
-    /// Takes no memory and cannot fail. The only steps that it makes are those that join the seats,
-    /// and one more.
+    /// Takes no memory and cannot fail. The only steps that it makes are those that join the seats.
     pub fn pause(self, readers: &mut Vec<Reader>) -> Paused<R>
         requires count { vec_len readers.old ≡ self.readers }
         requires readers { All (IsReaderOf self) readers.old.items }
@@ -83,10 +83,9 @@ impl<R: Holds> Reading<R> {
         } = self;
         let table = &race.race().table;
         join_readers(table, &mut seat, readers);
-        table.freeze(&mut seat);
         Paused {
             race,
-            seat,
+            reader: Reader { seat },
             racers,
             sweepers,
         }
@@ -100,11 +99,11 @@ fn seat_readers(
     readers: &mut Vec<Reader>,
     count: usize,
 )
-    requires seat { IsLent table.now.table_id table.now.shape pause_seat.old }
+    requires seat { IsAtPause table.now.table_id table.now.shape pause_seat.old }
     requires weight { count ≤ pause_seat.old.me.0.weight }
     requires empty { vec_len readers.old ≡ 0 }
     requires room { count ≤ vec_capacity readers.old }
-    ensures seat { IsLent table.now.table_id table.now.shape pause_seat.new }
+    ensures seat { IsAtPause table.now.table_id table.now.shape pause_seat.new }
     ensures start { start_of pause_seat.new.me.0 ≡ start_of pause_seat.old.me.0 }
     ensures weight { pause_seat.new.me.0.weight + count ≡ pause_seat.old.me.0.weight }
     ensures count { vec_len readers.new ≡ count }
@@ -122,10 +121,10 @@ fn seat_readers(
 
 // Joins the readers' seats to the one that they were split from.
 fn join_readers(table: &RaceTable, pause_seat: &mut RaceSeat, readers: &mut Vec<Reader>)
-    requires seat { IsLent table.now.table_id table.now.shape pause_seat.old }
+    requires seat { IsAtPause table.now.table_id table.now.shape pause_seat.old }
     requires readers { let begin = start_of pause_seat.old.me.0 in
         All (λ r. r ≡ known table.now.table_id begin) readers.old.items }
-    ensures seat { IsLent table.now.table_id table.now.shape pause_seat.new }
+    ensures seat { IsAtPause table.now.table_id table.now.shape pause_seat.new }
     ensures start { start_of pause_seat.new.me.0 ≡ start_of pause_seat.old.me.0 }
     ensures weight { pause_seat.new.me.0.weight ≡ pause_seat.old.me.0.weight + vec_len readers.old }
     ensures empty { vec_len readers.new ≡ 0 }

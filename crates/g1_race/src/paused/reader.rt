@@ -1,15 +1,16 @@
 //! What a reader reads at a pause.
-ghost use Rattle.std.specs.Prelude.{◌≡◌, ◌<◌, ◌↔◌};
+ghost use Rattle.std.specs.Prelude.{◌≡◌, ◌<◌, ◌≤◌, ◌↔◌};
 ghost use Rattle.g1_race.specs.{ℕ, IsTrue, IfOk, IfSome, slot_count, card_count, target_of};
 ghost use Rattle.g1_race.specs.{AreMembers, IsRecorded, IsStep, target_entry, pending_entry};
 ghost use Rattle.g1_race.specs.{members_entry, race_id, race_layout, IsNextMember, IsNextPending};
-ghost use Rattle.g1_race.specs.{reader_race, table_read};
+ghost use Rattle.g1_race.specs.{reader_race, table_read, length, HasBit, IsPair};
 ghost use Rattle.std.specs.FinSet as set;
 
-use crate::paused::access::{is_dirty, target_of};
-use crate::paused::listed::{is_recorded, members_of, next_dirty_from, next_member_from};
+use crate::bits::bit_of;
+use crate::paused::next::{Sought, card_at};
 use crate::paused::reading::Reader;
 use crate::race::Race;
+use crate::word::refers_to;
 use g1_core::CardList;
 use g1_layout::{Card, NoMemory, Region, Slot};
 use std::alloc::Global;
@@ -26,7 +27,8 @@ impl Reader {
             IsStep table (target_entry caller slot result) table }
         ensures same { self.new ≡ self.old }
     {
-        target_of(race, &mut self.seat, slot)
+        let word = self.see(race, slot.number() as usize);
+        refers_to(race.layout, word)
     }
 
     /// Returns whether a card is pending: dirty, by a store or from the beginning. Reads one word.
@@ -39,7 +41,7 @@ impl Reader {
             IsStep table (pending_entry caller card result) table }
         ensures same { self.new ≡ self.old }
     {
-        is_dirty(race, &mut self.seat, card)
+        self.see(race, race.shape.slots + card.number() as usize) == 1
     }
 
     /// Returns whether a pair is recorded. Reads one word. The reader must be of this race.
@@ -48,7 +50,15 @@ impl Reader {
         ensures has { IsTrue result ↔ IsRecorded (table_read race.now self.old) card region }
         ensures same { self.new ≡ self.old }
     {
-        is_recorded(race, &mut self.seat, card, region)
+        let _seat = &self.seat;
+        let (card, region) = (card.number() as usize, region.number() as usize);
+        if card >= race.shape.cards {
+            return false;
+        }
+        if region >= race.shape.regions {
+            return false;
+        }
+        self.is_set(race, card, region)
     }
 
     /// Returns the cards of a region's remembered set as it is recorded, ascending, each once.
@@ -57,6 +67,7 @@ impl Reader {
     /// race.
     ///
     /// Returns `NoMemory` if the room for the list was refused.
+    #[tactic(auto, using(crate::proofs::few))]
     pub fn members(
         &mut self,
         race: &Race,
@@ -70,9 +81,15 @@ impl Reader {
         ensures step { let table = table_read race.now self.old in
             IfOk result (λ cards. (caller : ℕ) →
             IsStep table (members_entry caller region cards) table) }
+        ensures few { IfOk result (λ cards. length cards ≤ card_count (race_layout race.now)) }
         ensures same { self.new ≡ self.old }
     {
-        members_of(race, &mut self.seat, alloc, region)
+        let _seat = &self.seat;
+        let sought = Sought::Of(region.number() as usize);
+        let count = self.count(race, sought);
+        let mut cards = Vec::with_capacity(alloc, count)?;
+        self.list(race, sought, &mut cards);
+        Ok(CardList::of(cards))
     }
 
     /// Returns the least dirty card from the number `from` on, as [`Paused::next_dirty`] does. So
@@ -80,12 +97,17 @@ impl Reader {
     /// must be of this race.
     ///
     /// [`Paused::next_dirty`]: crate::Paused::next_dirty
+    #[tactic(auto, using(crate::proofs::of_a_mark))]
     pub fn next_dirty(&mut self, race: &Race, from: u32) -> Option<Card>
         requires reader { reader_race self.old ≡ race_id race.now }
         ensures dirty { IsNextPending (table_read race.now self.old) from result }
         ensures same { self.new ≡ self.old }
     {
-        next_dirty_from(race, &mut self.seat, from)
+        let _seat = &self.seat;
+        let Some(card) = self.next_marked(race, from as usize) else {
+            return None;
+        };
+        Some(card_at(race, card))
     }
 
     /// Returns the least card from the number `from` on that is recorded for a region, as
@@ -99,6 +121,22 @@ impl Reader {
         ensures within { IfSome result (λ card. card < card_count (race_layout race.now)) }
         ensures same { self.new ≡ self.old }
     {
-        next_member_from(race, &mut self.seat, region, from)
+        let _seat = &self.seat;
+        let number = region.number() as usize;
+        let Some(card) = self.next_in_row(race, from as usize, number) else {
+            return None;
+        };
+        Some(card_at(race, card))
+    }
+
+    // Whether the pair's bit is set.
+    fn is_set(&mut self, race: &Race, card: usize, region: usize) -> bool
+        requires reader { reader_race self.old ≡ race_id race.now }
+        requires pair { IsPair race.now.shape (card, region) }
+        ensures set { IsTrue result ↔ HasBit race.now.shape self.old.start.words (card, region) }
+        ensures same { self.new ≡ self.old }
+    {
+        let (at, place) = bit_of(race.shape, card, region);
+        (self.see(race, at) >> place) & 1 == 1
     }
 }

@@ -6,14 +6,15 @@ ghost use Rattle.g1_race.specs.{race_layout, race_shape, race_words, racer_log, 
 ghost use Rattle.g1_race.specs.{AreFreshSweepers, HaveBegunWith, IsNewRacer, IsNewSweeper};
 
 use crate::paused::Paused;
-use crate::paused::holds::Holds;
+use crate::paused::holds::HoldsRace;
+use crate::paused::reading::Reader;
 use crate::race::{Race, Racer, Sweeper};
 use g1_core::Core;
 use g1_layout::NoMemory;
 use g1_race_words::{RaceSeat, RaceTable};
 use std::alloc::Global;
 
-impl<R: Holds> Paused<R> {
+impl<R: HoldsRace> Paused<R> {
     /// Lets the race go on, and returns it with its racers and its sweepers. The racers get their
     /// logs back, which are empty if all was refined. They have stored nothing, and the sweepers
     /// have swept nothing: the race begins with the table as the pause left it. A racer has a
@@ -37,10 +38,11 @@ impl<R: Holds> Paused<R> {
     {
         let Paused {
             race,
-            mut seat,
+            reader,
             mut racers,
             mut sweepers,
         } = self;
+        let Reader { mut seat } = reader;
         let table = &race.race().table;
         table.thaw(&mut seat);
         seat_racers(table, &mut seat, &mut racers);

@@ -27,7 +27,7 @@ impl Paused {
     {
         let Paused {
             race,
-            seat,
+            reader,
             racers,
             sweepers,
         } = self;
@@ -35,7 +35,7 @@ impl Paused {
         let share = Arc::try_clone(&race)?;
         let paused = Paused {
             race,
-            seat,
+            reader,
             racers,
             sweepers,
         };

@@ -6,11 +6,11 @@ ghost use Rattle.g1_race.specs.{Differs, table_at};
 
 use crate::paused::Paused;
 use crate::paused::copy::slot_behind;
-use crate::paused::holds::Holds;
+use crate::paused::holds::HoldsRace;
 use g1_core::verify::Reference;
 use g1_layout::Slot;
 
-impl<R: Holds> Paused<R> {
+impl<R: HoldsRace> Paused<R> {
     /// Returns the least slot that refers to something else than a runtime's memory does, or `None`
     /// if there is none. `memory` is what that has in as many slots from `first` on. A slot with
     /// data refers to nothing.

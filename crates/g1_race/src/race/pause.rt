@@ -1,12 +1,13 @@
 //! How a race comes to a pause, and what holds then.
 ghost use Rattle.std.specs.Prelude.{◌≡◌, ◌+◌, ◌<◌, ◌↔◌};
-ghost use Rattle.g1_race.specs.{IsCovered, IsPairOf, ℕ, [], All, Contains, map, vec_len, table_at};
+ghost use Rattle.g1_race.specs.{IsCovered, IsPairOf, ℕ, All, Contains, map, vec_len, table_at};
 ghost use Rattle.g1_race.specs.{ended_of, IsOver, IsKnown, collected, race_id, race_layout};
 ghost use Rattle.g1_race.specs.{race_shape, race_words, race_begun, racer_race, sweeper_race};
 ghost use Rattle.g1_race.specs.{racer_view, sweeper_view, racer_log, RacerOf, SweeperOf};
 
 use crate::paused::Paused;
-use crate::paused::holds::Holds;
+use crate::paused::holds::HoldsRace;
+use crate::paused::reading::Reader;
 use crate::race::{Race, Racer, Sweeper};
 use g1_race_words::{RaceSeat, RaceTable};
 use std::mem::replace;
@@ -55,7 +56,7 @@ impl Race {
     }
 }
 
-impl<R: Holds> Paused<R> {
+impl<R: HoldsRace> Paused<R> {
     /// Pauses a race in place, as [`Race::pause`] does, that is held by value or by a share. While
     /// it is paused the other shares can do nothing to its words, since each call takes a racer or
     /// a sweeper, and all of these are in the pause. So threads may keep their shares over it, and
@@ -88,7 +89,7 @@ impl<R: Holds> Paused<R> {
         table.freeze(&mut seat);
         Paused {
             race,
-            seat,
+            reader: Reader { seat },
             racers,
             sweepers,
         }

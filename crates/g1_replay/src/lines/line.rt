@@ -1,5 +1,4 @@
 //! One line of a trace at a time, of at most 64 bytes before its line feed.
-
 ghost use Rattle.std.specs.Prelude.{◌≡◌, ◌≤◌, ◌<◌, ◌^◌, ◌+◌};
 ghost use Rattle.g1_replay.specs.Prelude.{ℕ, List, [], length, Ok, true, Option, IfErr, Consumes};
 ghost use Rattle.g1_replay.specs.Prelude.{IsPart};

@@ -1,5 +1,4 @@
 //! A line of a trace that the reader does not show as a whole.
-
 ghost use Rattle.std.specs.Prelude.{◌≤◌, ◌*◌, ◌^◌};
 ghost use Rattle.g1_replay.specs.Prelude.{[], ℕ, List, Option, Some, IfOk, IfErr};
 ghost use Rattle.g1_replay.specs.Lines.{HasPart};

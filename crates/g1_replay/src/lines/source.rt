@@ -1,5 +1,4 @@
 //! How far a replay has come in its input.
-
 ghost use Rattle.std.specs.Prelude.{◌≡◌, ◌≤◌, ◌+◌, ◌*◌, ◌^◌};
 
 /// How many reads of the input are made at most (docs/traces.md, Ends).

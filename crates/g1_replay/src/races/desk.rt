@@ -186,49 +186,40 @@ impl<'a, R: Wait> Desk for RaceDesk<'a, R> {
     ghost may_store = { λ s. is_racer s.member };
 
     fn store(&mut self, slot: Slot, target: Option<Slot>) -> Result<StoreReply, Refusal> {
-        match &mut self.member {
-            Member::Racing(racer, sender) => {
-                let kind = racer.store(self.race, slot, target);
-                let fill = match kind {
-                    Kind::Null | Kind::SameRegion | Kind::AlreadyDirty => Fill::No,
-                    Kind::Logged => {
-                        if self.logged + 1 == self.fill {
-                            self.logged = 0;
-                            hand_over(self.rt, self.line, racer, sender).1
-                        } else {
-                            self.logged += 1;
-                            Fill::No
-                        }
-                    }
-                };
-                Ok(stored(self.alloc, kind, fill))
-            }
-            Member::Sweeping(_, _) => Ok(stored(self.alloc, Kind::Null, Fill::No)),
-        }
+        let Member::Racing(racer, sender) = &mut self.member else {
+            return Ok(stored(self.alloc, Kind::Null, Fill::No));
+        };
+        let kind = racer.store(self.race, slot, target);
+        let fill = if kind != Kind::Logged {
+            Fill::No
+        } else if self.logged + 1 < self.fill {
+            self.logged += 1;
+            Fill::No
+        } else {
+            self.logged = 0;
+            hand_over(self.rt, self.line, racer, sender).1
+        };
+        Ok(stored(self.alloc, kind, fill))
     }
 
     fn flush(&mut self) -> Result<FlushReply, Refusal> {
-        match &mut self.member {
-            Member::Racing(racer, sender) => {
-                let (cards, fill) = hand_over(self.rt, self.line, racer, sender);
-                self.logged = 0;
-                Ok(flushed(self.alloc, cards, fill))
-            }
-            Member::Sweeping(_, _) => Ok(flushed(self.alloc, 0, Fill::No)),
-        }
+        let Member::Racing(racer, sender) = &mut self.member else {
+            return Ok(flushed(self.alloc, 0, Fill::No));
+        };
+        let (cards, fill) = hand_over(self.rt, self.line, racer, sender);
+        self.logged = 0;
+        Ok(flushed(self.alloc, cards, fill))
     }
 
     fn work(&mut self) -> Result<RefineReply, Refusal> {
-        match &mut self.member {
-            Member::Racing(_, _) => Ok(worked(self.alloc, 0)),
-            Member::Sweeping(sweeper, taker) => {
-                let Some(parcel) = self.line.take(self.rt, taker) else {
-                    return Ok(worked(self.alloc, 0));
-                };
-                refine_all(self.race, sweeper, parcel.buffer.cards())?;
-                Ok(worked(self.alloc, 1))
-            }
-        }
+        let Member::Sweeping(sweeper, taker) = &mut self.member else {
+            return Ok(worked(self.alloc, 0));
+        };
+        let Some(parcel) = self.line.take(self.rt, taker) else {
+            return Ok(worked(self.alloc, 0));
+        };
+        refine_all(self.race, sweeper, parcel.buffer.cards())?;
+        Ok(worked(self.alloc, 1))
     }
 
     ghost none = { λ s. member_did_none s.member };

@@ -1,14 +1,14 @@
 //! What a race prints: how many stores were made, and a drain of each region of the core that the
 //! race has become.
 ghost use Rattle.std.specs.Prelude.{◌≡◌};
-ghost use Rattle.g1_replay.specs.{ℕ, count_by, drain_reply, Ended, table_of, core_drained_none};
-ghost use Rattle.g1_replay.specs.{core_drained_then, core_drained_in, CoreDrained, WritesSome};
+ghost use Rattle.g1_replay.specs.{ℕ, count_by, Ended, table_of, core_drained_none};
+ghost use Rattle.g1_replay.specs.{core_drained_then, CoreDrained, WritesSome};
 ghost use Rattle.g1_replay.specs.{is_store_command, RaceRan, IsTableLeftBy};
 
 use crate::calls::put_call;
 use crate::drains::{Drains, put_drains};
 use crate::stop::Stop;
-use g1_core::{Call, Core, Drained, Reply};
+use g1_core::{Call, Core, Reply};
 use g1_layout::Region;
 use g1_trace::{Command, put_stores};
 use std::io::Write;
@@ -26,16 +26,6 @@ fn count_stores(commands: &[Command]) -> u64
     count
 }
 
-// What a drain replies.
-fn reply_of(answer: Drained) -> Reply
-    ensures { result ≡ drain_reply answer }
-{
-    match answer {
-        Drained::Cards { cards, refined: _ } => Reply::Cards(cards),
-        Drained::Short { refined: _ } => Reply::Short,
-    }
-}
-
 impl Drains for Core {
     ghost layout = { λ core. core.state.table.layout };
 
@@ -45,7 +35,7 @@ impl Drains for Core {
 
     fn put_drain<W: Write>(&mut self, region: Region, output: &mut W) -> Result<(), Stop> {
         let answer = self.drain(region)?;
-        put_call(output, &Call::Drain(region), &reply_of(answer))?;
+        put_call(output, &Call::Drain(region), &Reply::from(answer))?;
         Ok(())
     }
 
@@ -53,7 +43,7 @@ impl Drains for Core {
 
     ghost then = { core_drained_then };
 
-    ghost stays = { core_drained_in };
+    ghost stays = { λ s t cs text h. h.heap };
 }
 
 /// Writes what comes of the stores of these commands, by the core that the race has become.

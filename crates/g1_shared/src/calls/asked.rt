@@ -3,8 +3,8 @@ ghost use Rattle.std.specs.Prelude.{◌≢◌, ◌<◌};
 ghost use Rattle.g1_shared.specs.{IfOk, slot_count, card_count, target_entry, pending_entry};
 ghost use Rattle.g1_shared.specs.{members_entry, status_entry, drain_entry, clear_entry};
 ghost use Rattle.g1_shared.specs.{redirect_entry, DoesTarget, DoesPending, DoesMembers, DoesStatus};
-ghost use Rattle.g1_shared.specs.{DoesDrain, DoesClear, DoesRedirect, IsAsked, MadeAsked, Made};
-ghost use Rattle.g1_shared.specs.{AnswersBy, RefusesBy, CallsOnce};
+ghost use Rattle.g1_shared.specs.{DoesDrain, DoesClear, DoesRedirect, IsAsked, MakesCall};
+ghost use Rattle.g1_shared.specs.{MadeAsked, AnswersBy, RefusesBy, CallsOnce};
 
 use crate::caller::Caller;
 use crate::calls::stores::raise_made;
@@ -23,10 +23,9 @@ impl<M: Terms, S: Ledger, H: Keeps> Counted<M, S, H> {
     /// Returns what a slot refers to, as `Book::target` does, for this caller.
     pub fn target(&mut self, caller: &mut Caller<M, S>, slot: Slot) -> Result<Option<Slot>, Refusal>
         requires { slot < slot_count M.terms.layout }
-        ensures made { IfOk result (λ target. Made H.KEEPS self.old
-            (target_entry caller.old.counts.number slot target) (DoesTarget slot target) self.new) }
-        ensures called { CallsOnce caller.old result caller.new }
-        ensures kept { RefusesBy H.KEEPS self.old result self.new }
+        ensures call { MakesCall H.KEEPS self.old (target_entry caller.old.counts.number slot)
+            (DoesTarget slot) result self.new }
+        ensures counts { CallsOnce caller.old result caller.new }
     {
         let target = self.book.target(caller.counts.number(), slot)?;
         raise_made(&self.book, &mut self.made, &mut caller.counts);
@@ -36,11 +35,9 @@ impl<M: Terms, S: Ledger, H: Keeps> Counted<M, S, H> {
     /// Returns whether a card is pending, as `Book::is_pending` does, for this caller.
     pub fn is_pending(&mut self, caller: &mut Caller<M, S>, card: Card) -> Result<bool, Refusal>
         requires { card < card_count M.terms.layout }
-        ensures made { IfOk result (λ answer. Made H.KEEPS self.old
-            (pending_entry caller.old.counts.number card answer)
-            (DoesPending card answer) self.new) }
-        ensures called { CallsOnce caller.old result caller.new }
-        ensures kept { RefusesBy H.KEEPS self.old result self.new }
+        ensures call { MakesCall H.KEEPS self.old (pending_entry caller.old.counts.number card)
+            (DoesPending card) result self.new }
+        ensures counts { CallsOnce caller.old result caller.new }
     {
         let answer = self.book.is_pending(caller.counts.number(), card)?;
         raise_made(&self.book, &mut self.made, &mut caller.counts);
@@ -54,11 +51,9 @@ impl<M: Terms, S: Ledger, H: Keeps> Counted<M, S, H> {
         region: Region,
     ) -> Result<CardList, Refusal>
         requires { region < M.terms.layout.regions }
-        ensures made { IfOk result (λ cards. Made H.KEEPS self.old
-            (members_entry caller.old.counts.number region cards)
-            (DoesMembers region cards) self.new) }
-        ensures called { CallsOnce caller.old result caller.new }
-        ensures kept { RefusesBy H.KEEPS self.old result self.new }
+        ensures call { MakesCall H.KEEPS self.old (members_entry caller.old.counts.number region)
+            (DoesMembers region) result self.new }
+        ensures counts { CallsOnce caller.old result caller.new }
     {
         let cards = self.book.members(caller.counts.number(), region)?;
         raise_made(&self.book, &mut self.made, &mut caller.counts);
@@ -67,10 +62,9 @@ impl<M: Terms, S: Ledger, H: Keeps> Counted<M, S, H> {
 
     /// Returns how much is pending and recorded, as `Book::status` does, for this caller.
     pub fn status(&mut self, caller: &mut Caller<M, S>) -> Result<Status, Refusal>
-        ensures made { IfOk result (λ status. Made H.KEEPS self.old
-            (status_entry caller.old.counts.number status) (DoesStatus status) self.new) }
-        ensures called { CallsOnce caller.old result caller.new }
-        ensures kept { RefusesBy H.KEEPS self.old result self.new }
+        ensures call { MakesCall H.KEEPS self.old (status_entry caller.old.counts.number)
+            DoesStatus result self.new }
+        ensures counts { CallsOnce caller.old result caller.new }
     {
         let status = self.book.status(caller.counts.number())?;
         raise_made(&self.book, &mut self.made, &mut caller.counts);
@@ -80,12 +74,10 @@ impl<M: Terms, S: Ledger, H: Keeps> Counted<M, S, H> {
     /// Drains a region, as `Book::drain` does, for this caller. The list of a whole drain is exact.
     pub fn drain(&mut self, caller: &mut Caller<M, S>, region: Region) -> Result<Drained, Refusal>
         requires { region < M.terms.layout.regions }
-        ensures made { IfOk result (λ answer. Made H.KEEPS self.old
-            (drain_entry caller.old.counts.number region answer)
-            (DoesDrain region answer) self.new) }
-        ensures exact { IfOk result (λ answer. AnswersBy H.KEEPS self.old region answer) }
-        ensures called { CallsOnce caller.old result caller.new }
-        ensures kept { RefusesBy H.KEEPS self.old result self.new }
+        ensures call { MakesCall H.KEEPS self.old (drain_entry caller.old.counts.number region)
+            (DoesDrain region) result self.new }
+        ensures counts { CallsOnce caller.old result caller.new }
+        ensures exact { IfOk result (AnswersBy H.KEEPS self.old region) }
     {
         let answer = self.book.drain(caller.counts.number(), region)?;
         raise_made(&self.book, &mut self.made, &mut caller.counts);
@@ -99,11 +91,9 @@ impl<M: Terms, S: Ledger, H: Keeps> Counted<M, S, H> {
         region: Region,
     ) -> Result<ClearReply, Refusal>
         requires { region < M.terms.layout.regions }
-        ensures made { IfOk result (λ answer. Made H.KEEPS self.old
-            (clear_entry caller.old.counts.number region answer)
-            (DoesClear region answer) self.new) }
-        ensures called { CallsOnce caller.old result caller.new }
-        ensures kept { RefusesBy H.KEEPS self.old result self.new }
+        ensures call { MakesCall H.KEEPS self.old (clear_entry caller.old.counts.number region)
+            (DoesClear region) result self.new }
+        ensures counts { CallsOnce caller.old result caller.new }
     {
         let answer = self.book.clear(caller.counts.number(), region)?;
         raise_made(&self.book, &mut self.made, &mut caller.counts);
@@ -120,11 +110,9 @@ impl<M: Terms, S: Ledger, H: Keeps> Counted<M, S, H> {
         requires from { from < M.terms.layout.regions }
         requires to { to < M.terms.layout.regions }
         requires apart { from ≢ to }
-        ensures made { IfOk result (λ answer. Made H.KEEPS self.old
-            (redirect_entry caller.old.counts.number from to answer)
-            (DoesRedirect from to answer) self.new) }
-        ensures called { CallsOnce caller.old result caller.new }
-        ensures kept { RefusesBy H.KEEPS self.old result self.new }
+        ensures call { MakesCall H.KEEPS self.old (redirect_entry caller.old.counts.number from to)
+            (DoesRedirect from to) result self.new }
+        ensures counts { CallsOnce caller.old result caller.new }
     {
         let answer = self.book.redirect(caller.counts.number(), from, to)?;
         raise_made(&self.book, &mut self.made, &mut caller.counts);
@@ -136,7 +124,7 @@ impl<M: Terms, S: Ledger, H: Keeps> Counted<M, S, H> {
         requires { IsAsked M.terms.layout call }
         ensures made { IfOk result (λ reply.
             MadeAsked H.KEEPS self.old caller.old.counts.number call reply self.new) }
-        ensures called { CallsOnce caller.old result caller.new }
+        ensures counts { CallsOnce caller.old result caller.new }
         ensures kept { RefusesBy H.KEEPS self.old result self.new }
     {
         let reply = self.book.ask(caller.counts.number(), call)?;
@@ -158,7 +146,7 @@ impl<M: Terms, S: Ledger, H: Keeps> Shared<M, S, H> {
         slot: Slot,
     ) -> Result<Option<Slot>, Refusal>
         requires { slot < slot_count M.terms.layout }
-        ensures called { CallsOnce caller.old result caller.new }
+        ensures counts { CallsOnce caller.old result caller.new }
     {
         self.counted.lock(rt).target(caller, slot)
     }
@@ -171,7 +159,7 @@ impl<M: Terms, S: Ledger, H: Keeps> Shared<M, S, H> {
         card: Card,
     ) -> Result<bool, Refusal>
         requires { card < card_count M.terms.layout }
-        ensures called { CallsOnce caller.old result caller.new }
+        ensures counts { CallsOnce caller.old result caller.new }
     {
         self.counted.lock(rt).is_pending(caller, card)
     }
@@ -185,14 +173,14 @@ impl<M: Terms, S: Ledger, H: Keeps> Shared<M, S, H> {
         region: Region,
     ) -> Result<CardList, Refusal>
         requires { region < M.terms.layout.regions }
-        ensures called { CallsOnce caller.old result caller.new }
+        ensures counts { CallsOnce caller.old result caller.new }
     {
         self.counted.lock(rt).members(caller, region)
     }
 
     /// Returns how much is pending and recorded, by a call under the lock (`Counted::status`).
     pub fn status<R: Wait>(&self, rt: &R, caller: &mut Caller<M, S>) -> Result<Status, Refusal>
-        ensures called { CallsOnce caller.old result caller.new }
+        ensures counts { CallsOnce caller.old result caller.new }
     {
         self.counted.lock(rt).status(caller)
     }
@@ -206,7 +194,7 @@ impl<M: Terms, S: Ledger, H: Keeps> Shared<M, S, H> {
         region: Region,
     ) -> Result<Drained, Refusal>
         requires { region < M.terms.layout.regions }
-        ensures called { CallsOnce caller.old result caller.new }
+        ensures counts { CallsOnce caller.old result caller.new }
     {
         self.counted.lock(rt).drain(caller, region)
     }
@@ -219,7 +207,7 @@ impl<M: Terms, S: Ledger, H: Keeps> Shared<M, S, H> {
         region: Region,
     ) -> Result<ClearReply, Refusal>
         requires { region < M.terms.layout.regions }
-        ensures called { CallsOnce caller.old result caller.new }
+        ensures counts { CallsOnce caller.old result caller.new }
     {
         self.counted.lock(rt).clear(caller, region)
     }
@@ -235,7 +223,7 @@ impl<M: Terms, S: Ledger, H: Keeps> Shared<M, S, H> {
         requires from { from < M.terms.layout.regions }
         requires to { to < M.terms.layout.regions }
         requires apart { from ≢ to }
-        ensures called { CallsOnce caller.old result caller.new }
+        ensures counts { CallsOnce caller.old result caller.new }
     {
         self.counted.lock(rt).redirect(caller, from, to)
     }
@@ -249,7 +237,7 @@ impl<M: Terms, S: Ledger, H: Keeps> Shared<M, S, H> {
         call: Call,
     ) -> Result<Reply, Refusal>
         requires { IsAsked M.terms.layout call }
-        ensures called { CallsOnce caller.old result caller.new }
+        ensures counts { CallsOnce caller.old result caller.new }
     {
         self.counted.lock(rt).ask(caller, call)
     }

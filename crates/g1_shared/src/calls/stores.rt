@@ -3,7 +3,7 @@
 ghost use Rattle.std.specs.Prelude.{◌≡◌, ◌+◌, ◌<◌, ◌^◌};
 ghost use Rattle.g1_shared.specs.{IfOk, OnErr, OnOk, IfSome, IsNone, option_map, slot_count};
 ghost use Rattle.g1_shared.specs.{card_of, store_entry, refine_entry, IsLent, DoesStore};
-ghost use Rattle.g1_shared.specs.{DoesRefine, Made, RefusesBy, made_of, IsKindAt, IsReplyAt};
+ghost use Rattle.g1_shared.specs.{DoesRefine, MakesCall, made_of, IsKindAt, IsReplyAt};
 ghost use Rattle.g1_shared.specs.{one_call, one_store, CallsOnce, HandsOut};
 
 use crate::caller::{Caller, CallerCounts};
@@ -33,13 +33,12 @@ impl<M: Terms, S: Ledger, H: Keeps> Counted<M, S, H> {
         requires caller { caller.old.counts.number < M.terms.mutators }
         requires slot { slot < slot_count M.terms.layout }
         requires target { IfSome target (λ place. place < slot_count M.terms.layout) }
-        ensures made { IfOk result (λ answer. Made H.KEEPS self.old
-            (store_entry caller.old.counts.number slot target answer.0)
-            (DoesStore slot target answer.0) self.new) }
+        ensures call { MakesCall H.KEEPS self.old
+            (λ answer. store_entry caller.old.counts.number slot target answer.0)
+            (λ answer. DoesStore slot target answer.0) result self.new }
         ensures buffer { IfOk result (λ answer.
             HandsOut caller.old (card_of M.terms.layout slot) answer.0 answer.1 caller.new) }
         ensures counts { OnOk result (caller.new.counts ≡ one_store caller.old.counts) }
-        ensures kept { RefusesBy H.KEEPS self.old result self.new }
         ensures err { OnErr result (caller.new ≡ caller.old) }
     {
         let Some(mutator) = &mut caller.mutator else {
@@ -59,14 +58,13 @@ impl<M: Terms, S: Ledger, H: Keeps> Counted<M, S, H> {
         requires caller { counts.old.number < M.terms.mutators }
         requires places { (slot < slot_count M.terms.layout)
             × IfSome target (λ place. place < slot_count M.terms.layout) }
-        ensures made { IfOk result (λ answer. Made H.KEEPS self.old
-            (store_entry counts.old.number slot target answer.0)
-            (DoesStore slot target answer.0) self.new) }
+        ensures call { MakesCall H.KEEPS self.old
+            (λ answer. store_entry counts.old.number slot target answer.0)
+            (λ answer. DoesStore slot target answer.0) result self.new }
         ensures lent { IfOk result (λ answer. IsLent (card_of M.terms.layout slot)
             answer.0 mutator.old.log mutator.new.log answer.1) }
         ensures sender { mutator.new.sender ≡ mutator.old.sender }
         ensures counts { OnOk result (counts.new ≡ one_store counts.old) }
-        ensures kept { RefusesBy H.KEEPS self.old result self.new }
         ensures err { OnErr result ((counts.new ≡ counts.old)
             × (mutator.new.log ≡ mutator.old.log)) }
     {
@@ -89,14 +87,12 @@ impl<M: Terms, S: Ledger, H: Keeps> Counted<M, S, H> {
         requires empty { IsNone completed.old }
         requires places { (slot < slot_count M.terms.layout)
             × IfSome target (λ place. place < slot_count M.terms.layout) }
-        ensures made { IfOk result (λ reply. Made H.KEEPS self.old
-            (store_entry counts.old.number slot target reply)
-            (DoesStore slot target reply) self.new) }
+        ensures call { MakesCall H.KEEPS self.old (store_entry counts.old.number slot target)
+            (DoesStore slot target) result self.new }
         ensures lent { IfOk result (λ reply.
             IsLent (card_of M.terms.layout slot) reply log.old log.new completed.new
             × IsKindAt M.terms.layout slot target reply.kind) }
         ensures counts { OnOk result (counts.new ≡ one_store counts.old) }
-        ensures kept { RefusesBy H.KEEPS self.old result self.new }
         ensures err { OnErr result ((counts.new ≡ counts.old) × (log.new ≡ log.old)
             × (completed.new ≡ completed.old)) }
     {
@@ -119,11 +115,9 @@ impl<M: Terms, S: Ledger, H: Keeps> Counted<M, S, H> {
         caller: &mut Caller<M, S>,
         buffer: Option<&Buffer>,
     ) -> Result<RefineReply, Refusal>
-        ensures made { IfOk result (λ reply. Made H.KEEPS self.old
-            (refine_entry caller.old.counts.number reply)
-            (DoesRefine (option_map (λ b. b.now) buffer.entry) reply) self.new) }
-        ensures called { CallsOnce caller.old result caller.new }
-        ensures kept { RefusesBy H.KEEPS self.old result self.new }
+        ensures call { MakesCall H.KEEPS self.old (refine_entry caller.old.counts.number)
+            (DoesRefine (option_map (λ b. b.now) buffer.entry)) result self.new }
+        ensures counts { CallsOnce caller.old result caller.new }
     {
         self.refine_by(&mut caller.counts, buffer)
     }
@@ -134,13 +128,11 @@ impl<M: Terms, S: Ledger, H: Keeps> Counted<M, S, H> {
         counts: &mut CallerCounts<M, S>,
         buffer: Option<&Buffer>,
     ) -> Result<RefineReply, Refusal>
-        ensures made { IfOk result (λ reply. Made H.KEEPS self.old
-            (refine_entry counts.old.number reply)
-            (DoesRefine (option_map (λ b. b.now) buffer.entry) reply) self.new) }
-        ensures answer { IfOk result (λ reply.
-            IsReplyAt M.terms.layout (option_map (λ b. b.now) buffer.entry) reply) }
+        ensures call { MakesCall H.KEEPS self.old (refine_entry counts.old.number)
+            (DoesRefine (option_map (λ b. b.now) buffer.entry)) result self.new }
+        ensures answer { IfOk result
+            (IsReplyAt M.terms.layout (option_map (λ b. b.now) buffer.entry)) }
         ensures counts { OnOk result (counts.new ≡ one_call counts.old) }
-        ensures kept { RefusesBy H.KEEPS self.old result self.new }
         ensures err { OnErr result (counts.new ≡ counts.old) }
     {
         let reply = self.book.refine(counts.number(), buffer)?;

@@ -15,7 +15,6 @@ use g1_history::{Book, Keeps};
 use g1_layout::NoMemory;
 use g1_log::{Line, Taker};
 use g1_steps::{Mutator, open_line};
-use std::marker::PhantomData;
 use std::sync::ledger::{Blank, Ledger, Share};
 
 impl<M: Terms, S: Ledger, H: Keeps> Shared<M, S, H> {
@@ -63,12 +62,12 @@ impl<M: Terms, S: Ledger, H: Keeps> Shared<M, S, H> {
         let (stored, stored_share) = stored.open::<S>();
         let shares = (made_share, stored_share);
         let all = callers_of(&line, &config, callers, shares, (mutators, takers), room);
+        let counted = Counted { book, made, stored };
         let shared = Shared {
-            counted: Lock::new(Counted::new(book, made, stored), !H::KEEPS),
+            counted: Lock::new(counted, !H::KEEPS),
             line,
             alloc,
             start: config.start(),
-            of: PhantomData,
         };
         Ok((shared, all))
     }
@@ -93,20 +92,6 @@ impl<M: Terms, S: Ledger, H: Keeps> Shared<M, S, H> {
             (sum_by (λ caller. caller.counts.made) callers.items)
             (sum_by (λ caller. caller.counts.stored) callers.items) (table_in result) }
     {
-        let (counted, mut made, mut stored) = self.give_up(callers);
-        counted.audited(&mut made, &mut stored)
-    }
-
-    /// What was kept under the lock, and all callers' shares, merged.
-    fn give_up(self, callers: Vec<Caller<M, S>>) -> (Counted<M, S, H>, Share<M>, Share<S>)
-        requires some { 0 < vec_len callers }
-        requires made { vec_len callers ≡ M.parts }
-        requires stored { vec_len callers ≡ S.parts }
-        ensures made { (result.1.parts ≡ M.parts)
-            × (result.1.amount ≡ sum_by (λ caller. caller.counts.made) callers.items) }
-        ensures stored { (result.2.parts ≡ S.parts)
-            × (result.2.amount ≡ sum_by (λ caller. caller.counts.stored) callers.items) }
-    {
         let Shared { counted, .. } = self;
         let mut callers = callers;
         let last = callers.take_last();
@@ -116,7 +101,7 @@ impl<M: Terms, S: Ledger, H: Keeps> Shared<M, S, H> {
             made.merge(its_made);
             stored.merge(its_stored);
         }
-        (counted.into_inner(), made, stored)
+        counted.into_inner().audited(&mut made, &mut stored)
     }
 }
 

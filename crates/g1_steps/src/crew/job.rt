@@ -2,8 +2,7 @@
 ghost use Rattle.std.specs.Prelude.{◌≡◌, ◌<◌, ◌≤◌};
 ghost use Rattle.g1_steps.specs.Prelude.{ℕ, [], map, IfOk, IfErr, All, vec_len, vec_capacity};
 ghost use Rattle.g1_steps.specs.Prelude.{AllZip};
-ghost use Rattle.g1_steps.specs.Ask.{asks_in, ScriptFits};
-ghost use Rattle.g1_steps.specs.Ran.{Ran};
+ghost use Rattle.g1_steps.specs.Ask.{JobRan, JobFits};
 
 use crate::crew::desk::{Desk, Outcome, Script};
 use crate::crew::worker::{mutate, refiner};
@@ -33,9 +32,8 @@ pub struct NotStarted;
 
 /// Runs the script at the desk.
 fn run_job<D: Desk>(job: Job<D>) -> Job<D>
-    requires { ScriptFits (D.slots job.desk) (D.may_store job.desk) job.script }
-    ensures script { result.script ≡ job.script }
-    ensures ran { Ran D.did (asks_in job.script) job.desk result.outcome result.desk }
+    requires { JobFits D.slots D.may_store job }
+    ensures { JobRan D.did job result }
 {
     let Job {
         mut desk,
@@ -61,8 +59,7 @@ struct Begun<D>(Snapshot<Job<D>>);
 type Running<D> = PromisedHandle<Job<D>, Begun<D>>;
 
 impl<D: Desk> Promise<Job<D>> for Begun<D> {
-    ghost kept_by = { λ p r. (r.script ≡ p.0.value.script)
-        × Ran D.did (asks_in p.0.value.script) p.0.value.desk r.outcome r.desk };
+    ghost kept_by = { λ p r. JobRan D.did p.0.value r };
 }
 
 /// Starts a thread for each job, or gives back those that were started.
@@ -71,8 +68,7 @@ fn start_all<'s, E, D: Desk + Send + Drop + 's>(
     jobs: Vec<Job<D>>,
     room: Vec<Running<D>>,
 ) -> Result<Vec<Running<D>>, Vec<Running<D>>>
-    requires fits { All (λ job. ScriptFits (D.slots job.desk) (D.may_store job.desk) job.script)
-        jobs.items }
+    requires fits { All (JobFits D.slots D.may_store) jobs.items }
     requires empty { room.items ≡ [] }
     requires room { vec_len jobs ≤ vec_capacity room }
     ensures ok { IfOk result (λ all. map (λ h. h.promise.0.value) all.items ≡ jobs.items) }
@@ -82,9 +78,8 @@ fn start_all<'s, E, D: Desk + Send + Drop + 's>(
     for job in jobs {
         let begun = Begun(Snapshot::of(&job));
         let work = move || -> Job<D>
-            requires { ScriptFits (D.slots job.desk) (D.may_store job.desk) job.script }
-            ensures script { result.script ≡ job.script }
-            ensures ran { Ran D.did (asks_in job.script) job.desk result.outcome result.desk }
+            requires { JobFits D.slots D.may_store job }
+            ensures { JobRan D.did job result }
         { run_job(job) };
         match scope.spawn_with(begun, work) {
             Ok(handle) => running.push_reserved(handle),
@@ -103,9 +98,7 @@ fn join_all<D: Desk + Drop, R: Threads>(
 ) -> Vec<Job<D>>
     requires empty { room.items ≡ [] }
     requires room { vec_len running ≤ vec_capacity room }
-    ensures { AllZip (λ a b. (b.script ≡ a.script)
-        × Ran D.did (asks_in a.script) a.desk b.outcome b.desk)
-        (map (λ h. h.promise.0.value) running.items) result.items }
+    ensures { AllZip (JobRan D.did) (map (λ h. h.promise.0.value) running.items) result.items }
 {
     let mut done = room;
     for handle in running {
@@ -125,11 +118,8 @@ pub fn run_crew<D: Desk + Send + Drop, R: Threads + Wait + Sync>(
     alloc: Global,
     jobs: Vec<Job<D>>,
 ) -> Result<Vec<Job<D>>, NotStarted>
-    requires { All
-        (λ job. ScriptFits (D.slots job.desk) (D.may_store job.desk) job.script) jobs.items }
-    ensures { IfOk result (λ done.
-        AllZip (λ a b. (b.script ≡ a.script)
-        × Ran D.did (asks_in a.script) a.desk b.outcome b.desk) jobs.items done.items) }
+    requires { All (JobFits D.slots D.may_store) jobs.items }
+    ensures { IfOk result (λ done. AllZip (JobRan D.did) jobs.items done.items) }
 {
     let Ok(running) = Vec::with_capacity(alloc, jobs.len()) else {
         return Err(NotStarted);
@@ -141,15 +131,11 @@ pub fn run_crew<D: Desk + Send + Drop, R: Threads + Wait + Sync>(
         thread::scope_env(),
         rt,
         |scope| -> Result<Vec<Job<D>>, NotStarted>
-            requires fits { All
-                (λ job. ScriptFits (D.slots job.desk) (D.may_store job.desk) job.script)
-                jobs.items }
+            requires fits { All (JobFits D.slots D.may_store) jobs.items }
             requires empty { (running.items ≡ []) × (done.items ≡ []) }
             requires room { (vec_len jobs ≤ vec_capacity running)
                 × (vec_len jobs ≤ vec_capacity done) }
-            ensures { IfOk result (λ done.
-                AllZip (λ a b. (b.script ≡ a.script)
-                × Ran D.did (asks_in a.script) a.desk b.outcome b.desk) jobs.items done.items) }
+            ensures { IfOk result (λ done. AllZip (JobRan D.did) jobs.items done.items) }
         {
             match start_all(scope, jobs, running) {
                 Ok(running) => Ok(join_all(rt, running, done)),

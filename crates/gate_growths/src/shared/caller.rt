@@ -32,16 +32,26 @@ impl<M: Terms, S: Ledger> SharedCaller<'_, M, S> {
         plan: &Plan,
         calls: &[Call],
     ) -> Result<(), Failure> {
-        for step in plan.steps {
+        self.take(rt, plan.first)?;
+        self.take(rt, plan.then)?;
+        for call in calls {
+            self.made(rt, *call)?;
+        }
+        Ok(())
+    }
+
+    fn take<R: Wait + Eprint>(&mut self, rt: &R, steps: &[Step]) -> Result<(), Failure> {
+        for step in steps {
             match step {
-                Step::Store(reference, fill, cards) => self.stored(rt, *reference, *fill, cards)?,
+                Step::Store(references, fill, cards) => {
+                    for reference in *references {
+                        self.stored(rt, *reference, *fill, cards)?;
+                    }
+                }
                 Step::Flush(cards) => self.flushed(rt, cards)?,
                 Step::Refine(cards, left) => self.refined(rt, cards, *left)?,
                 Step::Work(cards) => self.worked(rt, cards)?,
             }
-        }
-        for (ask, order, answer) in calls {
-            self.made(rt, *ask, order, *answer)?;
         }
         Ok(())
     }
@@ -185,30 +195,20 @@ impl<M: Terms, S: Ledger> SharedCaller<'_, M, S> {
 impl<M: Terms, S: Ledger> SharedCaller<'_, M, S> {
     // Makes a call that refines these cards in this order. A refused one leaves the caller's
     // counts, and a short one is entered; either is made again, and takes up where it stopped.
-    fn made<R: Wait + Eprint>(
-        &mut self,
-        rt: &R,
-        ask: Ask<'_>,
-        order: &[u32],
-        answer: Answer<'_>,
-    ) -> Result<(), Failure> {
-        let Some(done) = self.attempt(rt, ask, order, answer)? else {
+    fn made<R: Wait + Eprint>(&mut self, rt: &R, call: Call) -> Result<(), Failure> {
+        let Some(done) = self.attempt(rt, call)? else {
             return Ok(());
         };
+        let (ask, order, answer) = call;
         let (_, rest) = order.split_at_checked(done).ok_or(Failure::Wrong)?;
-        let again = self.attempt(rt, ask, rest, answer)?;
+        let again = self.attempt(rt, (ask, rest, answer))?;
         check(rt, again.is_none(), "a call was refused twice")
     }
 
     // Makes the call once. Answers `None` where it was whole, and else how many cards were refined,
     // which are the first ones.
-    fn attempt<R: Wait + Eprint>(
-        &mut self,
-        rt: &R,
-        ask: Ask<'_>,
-        order: &[u32],
-        answer: Answer<'_>,
-    ) -> Result<Option<usize>, Failure> {
+    fn attempt<R: Wait + Eprint>(&mut self, rt: &R, call: Call) -> Result<Option<usize>, Failure> {
+        let (ask, order, answer) = call;
         let (_, name) = ask.names();
         let before = self.counts();
         match self.call(rt, ask) {

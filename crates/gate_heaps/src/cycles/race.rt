@@ -1,111 +1,79 @@
 //! A race up to its next pause.
-ghost use Rattle.std.specs.Prelude.{◌≡◌, ◌+◌, ◌<◌, All, vec_len};
-ghost use Rattle.g1_race.specs.Members.{race_id, race_shape, racer_race, sweeper_race};
+ghost use Rattle.std.specs.Prelude.{◌≡◌, ◌<◌, All};
+ghost use Rattle.g1_race.specs.Members.{race_id, racer_race, sweeper_race};
 
-use g1_layout::Layout;
+use crate::cycles::plan::{Plan, Way};
 use g1_race::{Paused, Race, Racer, Sweeper};
 use std::thread::{self, Threads};
 
-/// Each racer stores and each sweeper refines in a thread of its own.
-pub fn race<R: Threads + Sync>(rt: &R, paused: Paused, stores: u32, number: u32) -> Paused {
-    let (race, racers, sweepers) = paused.resume();
-    run(rt, race, racers, sweepers, stores, number)
-}
-
-/// The same calls in one thread.
-pub fn race_alone<R: Threads + Sync>(rt: &R, paused: Paused, stores: u32, number: u32) -> Paused {
-    let (race, racers, sweepers) = paused.resume();
-    run_alone(rt, race, racers, sweepers, stores, number)
+/// Each racer stores and each sweeper refines, in a thread of its own or all in this one.
+pub fn race<R: Threads + Sync>(rt: &R, paused: Paused, plan: Plan, number: u32) -> Paused {
+    let (race, mut racers, mut sweepers) = paused.resume();
+    run(
+        rt,
+        &race,
+        racers.as_mut_slice(),
+        sweepers.as_mut_slice(),
+        plan,
+        number,
+    );
+    race.pause(racers, sweepers)
 }
 
 fn run<R: Threads + Sync>(
     rt: &R,
-    race: Race,
-    racers: Vec<Racer>,
-    sweepers: Vec<Sweeper>,
-    stores: u32,
+    race: &Race,
+    racers: &mut [Racer],
+    sweepers: &mut [Sweeper],
+    plan: Plan,
     number: u32,
-) -> Paused
-    requires count { vec_len racers + vec_len sweepers ≡ (race_shape race).members }
-    requires racers { All (λ r. racer_race r ≡ race_id race) racers.items }
-    requires sweepers { All (λ s. sweeper_race s ≡ race_id race) sweepers.items }
+)
+    requires racers { All (λ r. racer_race r ≡ race_id race.now) racers.old }
+    requires sweepers { All (λ s. sweeper_race s ≡ race_id race.now) sweepers.old }
+    ensures racers { All (λ r. racer_race r ≡ race_id race.now) racers.new }
+    ensures sweepers { All (λ s. sweeper_race s ≡ race_id race.now) sweepers.new }
 {
-    let shared = &race;
-    let (racers, sweepers) = thread::join(
-        rt,
-        move || -> Vec<Racer>
-            requires { All (λ r. racer_race r ≡ race_id shared.now) racers.items }
-            ensures all { All (λ r. racer_race r ≡ race_id shared.entry.now) result.items }
-            ensures len { vec_len result ≡ vec_len racers }
-        { store_all(rt, shared, racers, stores, number, 8) },
-        move || -> Vec<Sweeper>
-            requires { All (λ s. sweeper_race s ≡ race_id shared.now) sweepers.items }
-            ensures all { All (λ s. sweeper_race s ≡ race_id shared.entry.now) result.items }
-            ensures len { vec_len result ≡ vec_len sweepers }
-        { refine_all(rt, shared, sweepers, 4) },
-    );
-    race.pause(racers, sweepers)
+    if plan.way == Way::Alone {
+        store_all(rt, race, racers, plan.stores, number, 1);
+        refine_all(rt, race, sweepers, 1);
+        return;
+    }
+    let mut store = ||
+        requires { All (λ r. racer_race r ≡ race_id race.now) racers.now }
+        ensures { All (λ r. racer_race r ≡ race_id race.entry.now) racers.exit.now }
+    { store_all(rt, race, racers, plan.stores, number, 8) };
+    let mut refine = ||
+        requires { All (λ s. sweeper_race s ≡ race_id race.now) sweepers.now }
+        ensures { All (λ s. sweeper_race s ≡ race_id race.entry.now) sweepers.exit.now }
+    { refine_all(rt, race, sweepers, 4) };
+    thread::join_mut(rt, &mut store, &mut refine);
 }
 
 // The racers store, in at most so many threads.
 fn store_all<R: Threads + Sync>(
     rt: &R,
     race: &Race,
-    mut racers: Vec<Racer>,
+    racers: &mut [Racer],
     stores: u32,
     number: u32,
     threads: usize,
-) -> Vec<Racer>
+)
     requires threads { 0 < threads }
-    requires racers { All (λ r. racer_race r ≡ race_id race.now) racers.items }
-    ensures all { All (λ r. racer_race r ≡ race_id race.now) result.items }
-    ensures len { vec_len result ≡ vec_len racers }
+    requires racers { All (λ r. racer_race r ≡ race_id race.now) racers.old }
+    ensures { All (λ r. racer_race r ≡ race_id race.now) racers.new }
 {
-    thread::for_each_mut(
-        rt,
-        racers.as_mut_slice(),
-        threads,
-        &|k, racer| store_each(race, racer, stores, seed_of(number, k)),
-    );
-    racers
+    let store = |k: usize, racer: &mut Racer| store_each(race, racer, stores, seed_of(number, k));
+    thread::for_each_mut(rt, racers, threads, &store);
 }
 
 // The sweepers refine, in at most so many threads.
-fn refine_all<R: Threads + Sync>(
-    rt: &R,
-    race: &Race,
-    mut sweepers: Vec<Sweeper>,
-    threads: usize,
-) -> Vec<Sweeper>
+fn refine_all<R: Threads + Sync>(rt: &R, race: &Race, sweepers: &mut [Sweeper], threads: usize)
     requires threads { 0 < threads }
-    requires sweepers { All (λ s. sweeper_race s ≡ race_id race.now) sweepers.items }
-    ensures all { All (λ s. sweeper_race s ≡ race_id race.now) result.items }
-    ensures len { vec_len result ≡ vec_len sweepers }
+    requires sweepers { All (λ s. sweeper_race s ≡ race_id race.now) sweepers.old }
+    ensures { All (λ s. sweeper_race s ≡ race_id race.now) sweepers.new }
 {
-    thread::for_each_mut(
-        rt,
-        sweepers.as_mut_slice(),
-        threads,
-        &|k, sweeper| refine_each(race, sweeper, k),
-    );
-    sweepers
-}
-
-fn run_alone<R: Threads + Sync>(
-    rt: &R,
-    race: Race,
-    racers: Vec<Racer>,
-    sweepers: Vec<Sweeper>,
-    stores: u32,
-    number: u32,
-) -> Paused
-    requires count { vec_len racers + vec_len sweepers ≡ (race_shape race).members }
-    requires racers { All (λ r. racer_race r ≡ race_id race) racers.items }
-    requires sweepers { All (λ s. sweeper_race s ≡ race_id race) sweepers.items }
-{
-    let racers = store_all(rt, &race, racers, stores, number, 1);
-    let sweepers = refine_all(rt, &race, sweepers, 1);
-    race.pause(racers, sweepers)
+    let refine = |k: usize, sweeper: &mut Sweeper| refine_each(race, sweeper, k);
+    thread::for_each_mut(rt, sweepers, threads, &refine);
 }
 
 // A racer's seed in a cycle.

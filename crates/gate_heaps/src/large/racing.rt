@@ -1,5 +1,5 @@
 //! The stores and refinements of a race.
-ghost use Rattle.std.specs.Prelude.{◌≡◌, ◌<◌, [], vec_len, vec_capacity};
+ghost use Rattle.std.specs.Prelude.{◌≡◌};
 ghost use Rattle.g1_race.specs.Members.{race_id, race_shape, racer_race, sweeper_race};
 ghost use Rattle.g1_race.specs.Members.{AreFreshRacers, AreFreshSweepers};
 
@@ -51,32 +51,8 @@ fn raced(
     requires racers { AreFreshRacers race 1 racers }
     requires sweepers { AreFreshSweepers race 1 sweepers }
 {
-    let mut racer = racers.take_last();
-    racers.clear();
-    let mut sweeper = sweepers.take_last();
-    sweepers.clear();
-    store_all(&race, &mut racer, &mut sweeper, cards)?;
-    Ok(closed(race, racers, racer, sweepers, sweeper))
-}
-
-// Closes the race, in the room of the racers and sweepers that it began with.
-fn closed(
-    race: Race,
-    mut racers: Vec<Racer>,
-    racer: Racer,
-    mut sweepers: Vec<Sweeper>,
-    sweeper: Sweeper,
-) -> Closed
-    requires members { (race_shape race).members ≡ 2 }
-    requires racers { (racers.items ≡ []) × (vec_len racers ≡ 0) × (0 < vec_capacity racers) }
-    requires racer { racer_race racer ≡ race_id race }
-    requires sweepers { (sweepers.items ≡ []) × (vec_len sweepers ≡ 0)
-        × (0 < vec_capacity sweepers) }
-    requires sweeper { sweeper_race sweeper ≡ race_id race }
-{
-    racers.push_reserved(racer);
-    sweepers.push_reserved(sweeper);
-    race.close(racers, sweepers)
+    store_all(&race, &mut racers[0], &mut sweepers[0], cards)?;
+    Ok(race.close(racers, sweepers))
 }
 
 fn store_all(race: &Race, racer: &mut Racer, sweeper: &mut Sweeper, cards: u32) -> Result<()>

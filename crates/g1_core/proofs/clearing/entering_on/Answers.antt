@@ -1,5 +1,5 @@
 use Rattle.std.specs.Prelude.{◌∷◌}
-use Rattle.g1_core.specs.{ℕ, [], Option, sym, ap, ◌∙◌, subst, not, eqb-true, Shape, region_of_card, slot_at, table_from, IsLeastOn}
+use Rattle.g1_core.specs.{◌∙◌, ℕ, [], Option, sym, ap, subst, not, eqb-true, Shape, region_of_card, slot_at, table_from, IsLeastOn}
 use Rattle.g1_core.proofs.{own_card, lies_outside}
 use Rattle.g1_core.proofs.EnteringLemmas.{least_none, least_next}
 use Rattle.g1_core.proofs.clearing.entering_on.Goals as goal

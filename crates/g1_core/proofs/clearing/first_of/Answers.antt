@@ -1,5 +1,5 @@
 use Rattle.std.specs.Prelude.{◌≡◌, ◌≤◌, ◌+◌, ◌∷◌, ◌++◌}
-use Rattle.g1_core.specs.{inl, inr, ℕ, List, [], length, Some, refl, sym, ◌∙◌, subst, arith, take, All, Contains, slice_get, cases_lt, All-push, Contains-append_left, Contains-append_right, slice_get_read}
+use Rattle.g1_core.specs.{◌∙◌, inl, inr, ℕ, List, [], length, Some, refl, sym, subst, arith, take, All, Contains, slice_get, cases_lt, All-push, Contains-append_left, Contains-append_right, slice_get_read}
 use Rattle.g1_core.proofs.{itself, take_next}
 use Rattle.g1_core.proofs.clearing.first_of.Goals as goal
 

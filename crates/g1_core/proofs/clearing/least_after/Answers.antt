@@ -1,6 +1,5 @@
-use Rattle.std.specs.Prelude.{◌≡◌, ◌<◌, ◌*◌, ◌+◌, ◌∷◌}
-use Rattle.g1_core.specs.{inl, inr, List, ℕ, [], Some, None, length, refl, ap, subst, sym, ◌∙◌, arith, not, slice_get, cases_eq, eqb-false, ne_eqb, not-true, true≢false, slice_get_read, Shape, card_count, Cells, table_from, IsLeastOn, AreRead}
-use Rattle.std.proofs.Common.{take_all}
+use Rattle.std.specs.Prelude.{◌≡◌, ◌<◌, ◌*◌, ◌∷◌}
+use Rattle.g1_core.specs.{◌∙◌, inl, inr, List, ℕ, [], Some, None, length, refl, ap, subst, sym, arith, not, slice_get, cases_eq, eqb-false, ne_eqb, not-true, true≢false, slice_get_read, Shape, card_count, table_from, IsLeastOn, AreRead, take_all}
 use Rattle.g1_core.proofs.{IsLeastFrom, from_all, next_past, next_none, next_known, next_some, read_other, read_skipped, read_but_one, read_layout, before_but}
 use Rattle.g1_core.proofs.clearing.least_after.Goals as goal
 use Rattle.g1_core.proofs.clearing.least_after.Goals.{then-ne+then-number-past+in-Some, then-ne+then-number-past+in_default, else-ne, else-ne-via-then-ne+else-number-past, else-ne-via-else-ne}
@@ -14,15 +13,13 @@ loop-card-preserved c =
         least = λ pairs. next_some c.args.heap.now c.loop-card.heap _ was pairs c.layout-layout.ensures.cells.shape c.args.region c.args.cards.now c.loop-card.card-index c.card-item.result at
             c.loop-card.past c.loop-card.least (c.loop-card.invariant.least pairs) c.if-ne.past c.if-ne.least
             (omega (arith, w.number.ensures, w.if-number-past.true)) w.in-Some.slot w.in-Some.ensures.on w.in-Some.ensures.least (w.past-is ∙ w.number-past.ensures) w.least-is;
-        read = λ first. subst (λ (h : Cells). AreRead c.args.heap.now h (before_but (c.loop-card.card-index + 1) first.0 * c.args.heap.now.layout.slots)) (sym w.heap-is)
-            (read_other c.args.heap.now c.loop-card.heap c.args.cards.now c.args.first first c.loop-card.card-index (c.loop-card.invariant.read first) c.card-item.result w.entering_on.new.heap at
+        read = λ first. rw w.heap-is (read_other c.args.heap.now c.loop-card.heap c.args.cards.now c.args.first first c.loop-card.card-index (c.loop-card.invariant.read first) c.card-item.result w.entering_on.new.heap at
             (λ e. eqb-false c.card-item.result c.args.first (not-true _ (sym c.ne.ensures ∙ w.if-ne.true)) e) w.entering_on.ensures.heap);
       }
       | then-ne+then-number-past+in_default w ↦ record {
         least = λ pairs. next_none c.args.heap.now c.loop-card.heap _ was pairs c.layout-layout.ensures.cells.shape c.args.region c.args.cards.now c.loop-card.card-index c.card-item.result at
             c.loop-card.past c.loop-card.least (c.loop-card.invariant.least pairs) c.if-ne.past c.if-ne.least w.in_default.ensures.least w.past-is w.least-is;
-        read = λ first. subst (λ (h : Cells). AreRead c.args.heap.now h (before_but (c.loop-card.card-index + 1) first.0 * c.args.heap.now.layout.slots)) (sym w.heap-is)
-            (read_other c.args.heap.now c.loop-card.heap c.args.cards.now c.args.first first c.loop-card.card-index (c.loop-card.invariant.read first) c.card-item.result w.entering_on.new.heap at
+        read = λ first. rw w.heap-is (read_other c.args.heap.now c.loop-card.heap c.args.cards.now c.args.first first c.loop-card.card-index (c.loop-card.invariant.read first) c.card-item.result w.entering_on.new.heap at
             (λ e. eqb-false c.card-item.result c.args.first (not-true _ (sym c.ne.ensures ∙ w.if-ne.true)) e) w.entering_on.ensures.heap);
       }
       | else-ne w ↦ record {
@@ -38,8 +35,7 @@ loop-card-preserved c =
               c.loop-card.past c.loop-card.least (c.loop-card.invariant.least pairs) c.if-ne.past c.if-ne.least
               (subst (λ (k : ℕ). IsLeastOn (table_from c.args.heap.now pairs) (k ∷ []) c.args.region None) (sym same) (c.requires.none pairs)) w.past-is w.least-is
         ];
-        read = λ first. subst (λ (h : Cells). AreRead c.args.heap.now h (before_but (c.loop-card.card-index + 1) first.0 * c.args.heap.now.layout.slots)) (sym w.heap-is)
-            (read_skipped c.args.heap.now c.loop-card.heap c.args.cards.now c.args.first first c.loop-card.card-index (c.loop-card.invariant.read first));
+        read = λ first. rw w.heap-is (read_skipped c.args.heap.now c.loop-card.heap c.args.cards.now c.args.first first c.loop-card.card-index (c.loop-card.invariant.read first));
       }
     ]
 

@@ -1,12 +1,11 @@
 use Rattle.std.specs.Prelude.{◌∷◌}
-use Rattle.g1_core.specs.{ℕ, List, [], Some, None, sym, subst, table_from, IsLeastOn}
+use Rattle.g1_core.specs.{[], None, sym, subst, IsLeastOn}
 use Rattle.g1_core.specs.Table.{Table}
 use Rattle.g1_core.proofs.{least_first, read_table}
 use Rattle.g1_core.proofs.clearing.least_entering.Goals as goal
 
 pub returns-in-Some-clause-least : goal.returns-in-Some-clause-least
-returns-in-Some-clause-least c = subst (λ (cards : List ℕ). IsLeastOn (table_from c.args.heap.now c.args.sets.now.pairs) cards c.args.region (Some c.in-Some.slot)) c.members-members.ensures.cards
-    (least_first (table_from c.args.heap.now c.args.sets.now.pairs) c.layout-layout.ensures.cells.shape c.args.region c.members-members.result.now c.in_ok-first.first c.in-Some.slot
+returns-in-Some-clause-least c = rw (← c.members-members.ensures.cards) (least_first _ c.layout-layout.ensures.cells.shape c.args.region c.members-members.result.now c.in_ok-first.first c.in-Some.slot
     c.in_ok-first.ensures.least c.in-Some.ensures.on (c.in-Some.ensures.least c.args.sets.now.pairs))
 
 pub least_after-requires-clause-none : goal.least_after-requires-clause-none
@@ -14,6 +13,4 @@ least_after-requires-clause-none c = λ pairs. subst (λ (t : Table). IsLeastOn 
     (sym (read_table c.args.heap.now c.entering_on.new.heap _ pairs c.entering_on.ensures.heap)) (c.in_default.ensures.least pairs)
 
 pub returns-clause-least : goal.returns-clause-least
-returns-clause-least c = subst (λ (cards : List ℕ). IsLeastOn (table_from c.args.heap.now c.args.sets.now.pairs) cards c.args.region c.least_after.result) c.members-members.ensures.cards
-    (subst (λ (t : Table). IsLeastOn t c.members-members.result.now c.args.region c.least_after.result)
-    (read_table c.args.heap.now c.entering_on.new.heap _ c.args.sets.now.pairs c.entering_on.ensures.heap) (c.least_after.ensures.least c.args.sets.now.pairs))
+returns-clause-least c = rw (← c.members-members.ensures.cards, ← read_table c.args.heap.now c.entering_on.new.heap _ c.args.sets.now.pairs c.entering_on.ensures.heap) (c.least_after.ensures.least c.args.sets.now.pairs)

@@ -1,4 +1,4 @@
-use Rattle.g1_core.specs.{ap, ◌∙◌, arith, not, Shape, region_of_card, slot_at, same_offset, Cells}
+use Rattle.g1_core.specs.{◌∙◌, ap, arith, not, Shape, slot_at, same_offset, Cells}
 use Rattle.g1_core.proofs.{lies_outside}
 use Rattle.g1_core.proofs.EnteringLemmas.{walked, card_next, card_end}
 use Rattle.g1_core.proofs.redirection.add_changes_on.Goals as goal

@@ -1,7 +1,6 @@
 use Rattle.std.specs.Prelude.{◌≡◌, ◌<◌, ◌+◌}
-use Rattle.g1_core.specs.{ℕ, List, length, ap, sym, ◌∙◌, subst, arith, vec_items, All, All-push, card_count, list_at, changes_of, slots_of, AreGaining}
-use Rattle.std.proofs.Common.{take_all}
-use Rattle.g1_core.proofs.{read_next, read_one_more, read_layout, references_next, card_changes, gains_next, gains_none, lies_outside, lies_inside, member_below}
+use Rattle.g1_core.specs.{◌∙◌, length, ap, arith, vec_items, All-push, card_count, list_at, changes_of, slots_of, take_all}
+use Rattle.g1_core.proofs.{read_next, references_next, card_changes, gains_next, gains_none, lies_outside, lies_inside, member_below}
 use Rattle.g1_core.proofs.redirection.changes_into.Goals as goal
 use Rattle.g1_core.proofs.redirection.changes_into.Goals.{then-len-before+then-ne+in_ok-push, else-len-before, else-len-before-via-then-len-before+else-ne, else-len-before-via-else-len-before}
 
@@ -31,27 +30,12 @@ loop-index-preserved c =
       ];
       within = elim c.if-len-before.branch [
         | then-len-before+then-ne+in_ok-push w ↦
-            subst (λ (cards : List ℕ). All (λ card. card < card_count c.args.heap.now.layout) cards) (sym (ap vec_items w.cards-is ∙ w.in_ok-push.ensures.items))
-            (All-push (λ card. card < card_count c.args.heap.now.layout) c.loop-index.cards.items c.at-card.result c.loop-index.invariant.within
+            rw (w.cards-is, w.in_ok-push.ensures.items) (All-push (λ card. card < card_count c.args.heap.now.layout) c.loop-index.cards.items c.at-card.result c.loop-index.invariant.within
             (member_below c.args.sets.now c.args.heap.now.layout c.args.from c.loop-index.index c.at-card.result c.len-members.ensures.tied c.requires.layouts c.at-card.ensures))
-        | else-len-before w ↦ subst (λ (cards : List ℕ). All (λ card. card < card_count c.args.heap.now.layout) cards) (sym (ap vec_items w.cards-is)) c.loop-index.invariant.within
+        | else-len-before w ↦ rw w.cards-is c.loop-index.invariant.within
       ];
       read = read_next c.args.heap.now c.loop-index.heap c.add_changes_on.new.heap c.loop-index.index c.loop-index.invariant.read c.in_ok-add_changes_on.ensures.heap;
     }
 
 pub returns-clause-cards : goal.returns-clause-cards
-returns-clause-cards c = subst (λ (cards : List ℕ). AreGaining c.args.heap.now.layout c.args.heap.now.refs c.args.from c.args.to cards c.loop-index.cards.items)
-    (take_all c.loop-index.index (list_at c.args.sets.now.lists c.args.from) (omega (arith, c.len-members.ensures.len, c.loop-index-test.false))) c.loop-index.invariant.cards
-
--- one that fails has read at most one card more
-pub returns-in_err-add_changes_on-clause-heap : goal.returns-in_err-add_changes_on-clause-heap
-returns-in_err-add_changes_on-clause-heap c = read_one_more c.args.heap.now c.loop-index.heap c.add_changes_on.new.heap c.loop-index.index (length (list_at c.args.sets.now.lists c.args.from)) c.loop-index.invariant.read
-    c.in_err-add_changes_on.ensures.heap (subst (λ (many : ℕ). c.loop-index.index < many) c.len-members.ensures.len c.loop-index-test.true)
-
-pub returns-in_err-push-clause-heap : goal.returns-in_err-push-clause-heap
-returns-in_err-push-clause-heap c = read_one_more c.args.heap.now c.loop-index.heap c.add_changes_on.new.heap c.loop-index.index (length (list_at c.args.sets.now.lists c.args.from)) c.loop-index.invariant.read
-    c.in_ok-add_changes_on.ensures.heap (subst (λ (many : ℕ). c.loop-index.index < many) c.len-members.ensures.len c.loop-index-test.true)
-
-pub add_changes_on-requires-clause-card : goal.add_changes_on-requires-clause-card
-add_changes_on-requires-clause-card c = member_below c.args.sets.now c.loop-index.heap.layout c.args.from c.loop-index.index c.at-card.result c.len-members.ensures.tied
-    (c.requires.layouts ∙ read_layout c.args.heap.now c.loop-index.heap _ c.loop-index.invariant.read) c.at-card.ensures
+returns-clause-cards c = rw (take_all c.loop-index.index (list_at c.args.sets.now.lists c.args.from) (omega (arith, c.len-members.ensures.len, c.loop-index-test.false))) at c.loop-index.invariant.cards

@@ -1,7 +1,6 @@
 -- The first i places have the first i numbers, and the others are as they were.
 use Rattle.std.specs.Prelude.{◌≡◌}
-use Rattle.g1_handles.specs.{length, take}
-use Rattle.std.proofs.Common.{drop}
+use Rattle.g1_handles.specs.{length, take, drop}
 use Rattle.g1_handles.proofs.list.write_list.Given as goal
 
 abbrev pub invariant-loop-i : goal.invariant-loop-i

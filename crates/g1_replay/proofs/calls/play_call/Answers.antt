@@ -1,18 +1,16 @@
-use Rattle.g1_replay.specs.{ap, Err, err_from_is_err_and, Call}
+use Rattle.g1_replay.specs.{ap, Err, Call}
 use Rattle.g1_replay.proofs.{call_says, call_refused, does_answer, does_front, does_refused}
 use Rattle.g1_replay.proofs.calls.play_call.Goals as goal
 
 pub returns-in_err-reply-clause-played : goal.returns-in_err-reply-clause-played
 returns-in_err-reply-clause-played g c =
-    let p = err_from_is_err_and c.from_residual.result c.from_residual.ensures.1 in
     let refused = call_refused _ _ _ c.in_err-reply.ensures.err.1 (λ e. c.in_err-reply.ensures.err.0.0 (ap Err e)) in
-    rw (p.1, p.2) (does_refused (λ s. s) _ _ (Call c.args.call) _ _ refused)
+    does_refused (λ s. s) _ _ (Call c.args.call) _ _ _ c.from_residual.ensures.1 refused
 
 pub returns-in_err-put_call-clause-played : goal.returns-in_err-put_call-clause-played
 returns-in_err-put_call-clause-played g c =
-    let p = err_from_is_err_and c.from_residual-in_err-put_call.result c.from_residual-in_err-put_call.ensures.1 in
     let says = call_says _ _ c.args.call _ c.in_ok-reply.ensures.made in
-    rw (p.1, p.2) (does_front (λ s. s) _ _ (Call c.args.call) _ _ _ says c.in_err-put_call.ensures)
+    does_front (λ s. s) _ _ (Call c.args.call) _ _ _ _ c.from_residual-in_err-put_call.ensures.1 says c.in_err-put_call.ensures
 
 pub returns-clause-played : goal.returns-clause-played
 returns-clause-played g c =

@@ -4,26 +4,31 @@
 //! those from `8 * r` on.
 ghost use Rattle.std.specs.Prelude.{◌≡◌, ◌<◌, ◌≤◌, true, nat_lt};
 ghost use Rattle.g1_layout.specs.Shape.{slot_count};
+ghost use Rattle.g1_log.specs.Ends.{IsSenderOf, IsTakerOf};
 ghost use Rattle.g1_history.specs.History.{layout_in};
 
 use super::*;
 use crate::tests::replies::{assert_flushed, assert_round, assert_stored, whole};
-use g1_book::{Desk, Ends, LentBook, LocalDesk, Outcome, mutate, refiner};
+use g1_book::{Desk, LentBook, LocalDesk, Outcome, mutate, refiner};
 use std::sync::Wait;
 use std::test::Fail;
 
 /// The desk of caller 0 at the book, whose rounds begin at `start` completed buffers.
 fn desk_at<'a, R>(
     rt: &'a R,
-    ends: Ends<'a>,
+    line: &'a Line,
+    mutator: Mutator,
+    taker: Taker,
     book: &'a mut Book,
     start: usize,
 ) -> LocalDesk<'a, R, LentBook<'a>>
-    requires { book.old.mutators ≡ 1 }
+    requires sender { IsSenderOf line.now mutator.sender }
+    requires taker { IsTakerOf line.now taker }
+    requires mutators { book.old.mutators ≡ 1 }
     ensures may { nat_lt result.calls.caller result.calls.book.now.mutators ≡ true }
     ensures layout { layout_in result.calls.book.now ≡ layout_in book.old }
 {
-    LocalDesk::new(rt, ends, LentBook::new(book, 0), start)
+    LocalDesk::new(rt, line, mutator, taker, LentBook::new(book, 0), start)
 }
 
 /// Stores a reference and flushes the log: its card goes into the line.
@@ -55,8 +60,7 @@ fn two_flushes<R: Abort + Wait>(rt: &R, alloc: Global, book: &mut Book) -> Resul
 {
     let layout = book.layout();
     let (line, mutator, taker) = ends(rt, alloc, book.config())?;
-    let own = Ends::new(&line, mutator, taker);
-    let mut desk = desk_at(rt, own, book, 2);
+    let mut desk = desk_at(rt, &line, mutator, taker, book, 2);
     flush_two(rt, &mut desk, layout)?;
     assert_round(rt, &desk.work()?, whole(2, &[0, 1], 0));
     Ok(())
@@ -81,8 +85,7 @@ fn worked<R: Abort + Wait>(
     let steps = steps_of(rt, alloc, book.layout(), wishes)?;
     let config = book.config();
     let (line, mutator, taker) = ends(rt, alloc, config)?;
-    let own = Ends::new(&line, mutator, taker);
-    let mut desk = desk_at(rt, own, book, config.start());
+    let mut desk = desk_at(rt, &line, mutator, taker, book, config.start());
     let made = mutate(&mut desk, steps.as_slice());
     Ok((made, refiner(&mut desk, 3)))
 }

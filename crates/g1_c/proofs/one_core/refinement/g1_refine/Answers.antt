@@ -1,5 +1,5 @@
 -- The reply is what the words and the array tell.
-use Rattle.g1_c.specs.{rules, subst, ◌∙◌, Between, RefinesTo}
+use Rattle.g1_c.specs.{◌∙◌, rules, subst, Between, RefinesTo}
 use Rattle.g1_core.specs.declared.reply.RefineReply.{RefineReply}
 use Rattle.g1_c.proofs.one_core.refinement.g1_refine.Goals as goal
 

@@ -1,8 +1,6 @@
 use Rattle.std.specs.Prelude.{◌≡◌}
-use Rattle.g1_core.specs.{ap, ◌∙◌, sym, List, ℕ, length, of_card}
-use Rattle.std.proofs.Common.{eqb-true}
-use Rattle.std.specs.FinSet as set
-use Rattle.g1_core.proofs.GainLemmas.{gained_is, gained_nothing}
+use Rattle.g1_core.specs.{◌∙◌, ap, sym, length, eqb-true}
+use Rattle.g1_core.proofs.RefinedLemmas.{gained_is, gained_nothing}
 use Rattle.g1_core.proofs.heap_and_sets.HeapAndSets.record.Goals as goal
 
 pub returns-then-is_empty-clause-pairs : goal.returns-then-is_empty-clause-pairs
@@ -11,6 +9,4 @@ returns-then-is_empty-clause-pairs c =
     gained_nothing c.args.self.now.heap c.args.self.now.sets.pairs c.args.card c.regions_of-known.result.now c.regions_of-known.ensures c.list_targets.new.targets.items none c.list_targets.ensures.holds
 
 pub returns-clause-pairs : goal.returns-clause-pairs
-returns-clause-pairs c = c.in_ok-record.ensures.pairs
-    ∙ ap (λ (rs : List ℕ). set.union c.args.self.now.sets.pairs (of_card c.args.card rs)) c.as_slice-2.ensures.value
-    ∙ gained_is c.args.self.now.heap c.args.self.now.sets.pairs c.args.card c.regions_of-known.result.now c.regions_of-known.ensures c.list_targets.new.targets.items c.list_targets.ensures.holds
+returns-clause-pairs c = rw (c.in_ok-record.ensures.pairs, c.as_slice-2.ensures.value) (gained_is c.args.self.now.heap c.args.self.now.sets.pairs c.args.card c.regions_of-known.result.now c.regions_of-known.ensures c.list_targets.new.targets.items c.list_targets.ensures.holds)

@@ -1,5 +1,5 @@
 use Rattle.std.specs.Prelude.{◌≡◌, ◌+◌, ◌-◌}
-use Rattle.g1_core.specs.{ℕ, Bool, true, false, leb, ap, ◌∙◌, subst, arith, leb-false, leb-true, slot_count, reads_after, target_of, stored, copied}
+use Rattle.g1_core.specs.{◌∙◌, ℕ, Bool, true, false, leb, ap, subst, arith, leb-false, leb-true, slot_count, reads_after, target_of, stored, copied}
 use Rattle.g1_core.specs.Table.{Table}
 use Rattle.g1_core.proofs.CopyLemmas.{copied_on, first_of, later_then, table_down, table_up}
 use Rattle.g1_core.proofs.machinery.Core.copy_slots.Goals.{else-upwards, then-upwards}

@@ -1,5 +1,5 @@
 use Rattle.g1_core.specs.{ap, arith, length, sym}
-use Rattle.g1_core.proofs.DrainLoopLemmas.{ring_none, ring_more}
+use Rattle.g1_core.proofs.DrainLemmas.{ring_none, ring_more}
 use Rattle.g1_core.proofs.machinery.Core.drain_ring.Goals as goal
 
 pub loop-self-init : goal.loop-self-init

@@ -21,26 +21,15 @@ make_changes-requires-clause-places c = reference_places c.self.inside.memory.he
 pub overflow_cast-result : goal.overflow_cast-result
 overflow_cast-result c = omega (arith, few_references c.self.inside.memory.heap c.self.inside.memory.sets c.self.inside.hot c.self.inside.memory.pending c.self.inside.config c.args.self.now c.self.invariant c.self.view_is c.args.from c.args.to c.requires.to c.requires.apart c.requires.nothing c.changes_into.new.heap c.in_ok-changes.ensures.tied c.in_ok-changes.ensures.heap c.in_ok-changes.changes.references.items c.in_ok-changes.ensures.references, c.len.ensures, c.in_ok-changes.changes.references.ok.0)
 
+-- what is left once all are moved
+moved : (c : goal.After-drop-changes-3) → IsMovedTo c.args.self.now c.args.from c.args.to c.len.result c.make_changes.new.heap c.clear.new.self c.self.inside.hot c.self.inside.memory.pending c.self.inside.config
+moved c =
+    moved_at c.self.inside.memory.heap c.self.inside.memory.sets c.self.inside.hot c.self.inside.memory.pending c.self.inside.config c.args.self.now c.self.invariant c.self.view_is c.args.from c.args.to c.requires.to c.requires.apart c.requires.nothing c.changes_into.new.heap c.in_ok-changes.ensures.tied c.in_ok-changes.ensures.heap
+    c.in_ok-changes.changes.references.items c.in_ok-changes.ensures.references c.in_ok-changes.changes.cards.items c.as_slice.result.now c.as_slice-2.result.now c.make_changes.new.heap c.record_many.new.self c.clear.new.self c.len.result
+    c.in_ok-changes.ensures.cards c.as_slice.ensures.value c.in_ok-record_many.ensures.layout c.in_ok-record_many.ensures.pairs c.clear.ensures.layout c.clear.ensures.pairs c.as_slice-2.ensures.value c.make_changes.ensures (c.len.ensures ∙ c.in_ok-changes.changes.references.ok.0)
+
 pub invariant_of-self-2 : goal.invariant_of-self-2
-invariant_of-self-2 c =
-    let t : IsMovedTo c.args.self.now c.args.from c.args.to c.len.result c.make_changes.new.heap c.clear.new.self c.self.inside.hot c.self.inside.memory.pending c.self.inside.config =
-    moved_at c.self.inside.memory.heap c.self.inside.memory.sets c.self.inside.hot c.self.inside.memory.pending c.self.inside.config c.args.self.now c.self.invariant c.self.view_is c.args.from c.args.to c.requires.to c.requires.apart c.requires.nothing c.changes_into.new.heap c.in_ok-changes.ensures.tied c.in_ok-changes.ensures.heap
-    c.in_ok-changes.changes.references.items c.in_ok-changes.ensures.references c.in_ok-changes.changes.cards.items c.as_slice.result.now c.as_slice-2.result.now c.make_changes.new.heap c.record_many.new.self c.clear.new.self c.len.result
-    c.in_ok-changes.ensures.cards c.as_slice.ensures.value c.in_ok-record_many.ensures.layout c.in_ok-record_many.ensures.pairs c.clear.ensures.layout c.clear.ensures.pairs c.as_slice-2.ensures.value c.make_changes.ensures (c.len.ensures ∙ c.in_ok-changes.changes.references.ok.0) in
-    t.core
+invariant_of-self-2 c = (moved c).core
 
-pub returns-clause-count : goal.returns-clause-count
-returns-clause-count c =
-    let t : IsMovedTo c.args.self.now c.args.from c.args.to c.len.result c.make_changes.new.heap c.clear.new.self c.self.inside.hot c.self.inside.memory.pending c.self.inside.config =
-    moved_at c.self.inside.memory.heap c.self.inside.memory.sets c.self.inside.hot c.self.inside.memory.pending c.self.inside.config c.args.self.now c.self.invariant c.self.view_is c.args.from c.args.to c.requires.to c.requires.apart c.requires.nothing c.changes_into.new.heap c.in_ok-changes.ensures.tied c.in_ok-changes.ensures.heap
-    c.in_ok-changes.changes.references.items c.in_ok-changes.ensures.references c.in_ok-changes.changes.cards.items c.as_slice.result.now c.as_slice-2.result.now c.make_changes.new.heap c.record_many.new.self c.clear.new.self c.len.result
-    c.in_ok-changes.ensures.cards c.as_slice.ensures.value c.in_ok-record_many.ensures.layout c.in_ok-record_many.ensures.pairs c.clear.ensures.layout c.clear.ensures.pairs c.as_slice-2.ensures.value c.make_changes.ensures (c.len.ensures ∙ c.in_ok-changes.changes.references.ok.0) in
-    t.counted
-
-pub returns-clause-moved : goal.returns-clause-moved
-returns-clause-moved c =
-    let t : IsMovedTo c.args.self.now c.args.from c.args.to c.len.result c.make_changes.new.heap c.clear.new.self c.self.inside.hot c.self.inside.memory.pending c.self.inside.config =
-    moved_at c.self.inside.memory.heap c.self.inside.memory.sets c.self.inside.hot c.self.inside.memory.pending c.self.inside.config c.args.self.now c.self.invariant c.self.view_is c.args.from c.args.to c.requires.to c.requires.apart c.requires.nothing c.changes_into.new.heap c.in_ok-changes.ensures.tied c.in_ok-changes.ensures.heap
-    c.in_ok-changes.changes.references.items c.in_ok-changes.ensures.references c.in_ok-changes.changes.cards.items c.as_slice.result.now c.as_slice-2.result.now c.make_changes.new.heap c.record_many.new.self c.clear.new.self c.len.result
-    c.in_ok-changes.ensures.cards c.as_slice.ensures.value c.in_ok-record_many.ensures.layout c.in_ok-record_many.ensures.pairs c.clear.ensures.layout c.clear.ensures.pairs c.as_slice-2.ensures.value c.make_changes.ensures (c.len.ensures ∙ c.in_ok-changes.changes.references.ok.0) in
-    t.moved
+pub returns : goal.returns
+returns c = record { count = (moved c).counted; moved = (moved c).moved; err = tt }

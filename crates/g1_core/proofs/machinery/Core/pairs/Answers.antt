@@ -1,4 +1,4 @@
-use Rattle.g1_core.specs.{ap, ◌∙◌, subst, AreOutside}
+use Rattle.g1_core.specs.{◌∙◌, ap, subst, AreOutside}
 use Rattle.g1_core.specs.Machine.{Machine}
 use Rattle.g1_core.proofs.AdoptionLemmas.{pairs_of_heap}
 use Rattle.g1_core.proofs.machinery.Core.pairs.Goals as goal

@@ -17,9 +17,7 @@ returns-in_default-clause-later c = same_later c.args.self.now c.args.self.now r
     (seen_sound c.self.inside.memory.heap c.self.inside.memory.sets c.self.inside.hot c.self.inside.memory.pending c.self.invariant c.self.inside.config c.args.self.now c.self.view_is) (omega arith)
 
 pub returns-clause-later : goal.returns-clause-later
-returns-clause-later c = step_later c.args.self.now c.turn_all.new.self (refine_entry 0 c.in_ok-reply.reply)
-    (turned_step 0 c.args.self.now.state c.turn_all.new.self.state c.cards.result.now c.in_ok-reply.reply
-    (subst (λ (m : Machine). IsPlaced m.state) c.self.view_is (parts_placed c.self.inside.memory.heap c.self.inside.memory.sets.pairs c.self.inside.hot c.self.inside.memory.pending c.self.invariant.parts)) c.in_ok-reply.ensures.turned)
+returns-clause-later c = step_later c.args.self.now c.turn_all.new.self (refine_entry 0 c.in_ok-reply.reply) (returns-clause-step c 0)
     c.turn_all.ensures.settings c.layout-after.ensures.sound (reads_grow _ _ _ c.reads-reads.ensures.bound c.in_ok-reply.ensures.reads.reads)
 
 pub returns-in_err-reply-clause-later : goal.returns-in_err-reply-clause-later

@@ -1,7 +1,7 @@
 use Rattle.std.specs.Prelude.{◌≡◌}
-use Rattle.g1_core.specs.{ap, ◌∙◌, sym, subst, Shape, HasOnlyOutside}
-use Rattle.std.specs.FinSet as set
+use Rattle.g1_core.specs.{◌∙◌, ap, sym, subst, Shape, HasOnlyOutside}
 use Rattle.g1_core.specs.Machine.{Machine}
+use Rattle.std.specs.FinSet as set
 use Rattle.g1_core.proofs.{status_step}
 use Rattle.g1_core.proofs.machinery.Core.status.Goals as goal
 

@@ -1,7 +1,6 @@
 use Rattle.std.specs.Prelude.{◌≡◌}
-use Rattle.g1_core.specs.{ap, subst, sym, ◌∙◌, Cells, reads_after, target_of, table_from, state_from, machine_from, IsStep, target_entry}
-use Rattle.g1_core.specs.Table.{Table}
-use Rattle.g1_core.specs.Machine.{Machine}
+use Rattle.g1_core.specs.{◌∙◌, ap, subst, sym, Cells, reads_after, target_of, table_from, state_from, machine_from, IsStep, target_entry}
+use Rattle.g1_core.specs.Machine.{Machine, Table}
 use Rattle.g1_core.proofs.{target_step, reads_grow, same_later, seen_sound}
 use Rattle.g1_core.proofs.machinery.Core.target.Goals as goal
 

@@ -1,4 +1,4 @@
-use Rattle.g1_core.specs.{ap, ◌∙◌, sym, refl, Some, true≢false, Out, Held, Cells, with_mark}
+use Rattle.g1_core.specs.{rules, ◌∙◌, ap, sym, refl, Some, true≢false, Out, Held, Cells, with_mark}
 use Rattle.g1_core.proofs.{none_offered, dirty_pending, turned_cold, turned_kept, turned_out, IsTurnedTo}
 use Rattle.g1_core.proofs.machinery.Core.turn.Goals as goal
 
@@ -19,11 +19,8 @@ cold c = turned_cold c.self.inside.memory.heap c.self.inside.memory.sets c.self.
 pub invariant_of-self-in-Cold : goal.invariant_of-self-in-Cold
 invariant_of-self-in-Cold c = (cold c).core
 
-pub returns-in-Cold-clause-offer : goal.returns-in-Cold-clause-offer
-returns-in-Cold-clause-offer c = (cold c).offer
-
-pub returns-in-Cold-clause-state : goal.returns-in-Cold-clause-state
-returns-in-Cold-clause-state c = (cold c).state
+pub returns-in-Cold : goal.returns-in-Cold
+returns-in-Cold c = record { offer = (cold c).offer; state = (cold c).state; reads = search rules; err = search rules; tried = search rules; settings = search rules }
 
 kept : (c : goal.After-offer-in-Kept) → IsTurnedTo c.args.self.now c.args.card (Some c.would-offer.result) c.set_mark.new.self c.self.inside.memory.sets c.offer-in-Kept.new.self c.self.inside.memory.pending
 kept c = turned_kept c.self.inside.memory.heap c.self.inside.memory.sets c.self.inside.hot c.self.inside.memory.pending c.self.inside.config c.args.self.now c.self.invariant c.self.view_is c.args.card (c.is_dirty-dirty.ensures.dirty.0 c.if-not-dirty.false) c.would-offer.result c.would-offer.ensures.answer c.set_mark.new.self c.self.inside.memory.sets c.offer-in-Kept.new.self c.self.inside.memory.pending c.offer-in-Kept.ensures.ring
@@ -32,11 +29,8 @@ kept c = turned_kept c.self.inside.memory.heap c.self.inside.memory.sets c.self.
 pub invariant_of-self-in-Kept : goal.invariant_of-self-in-Kept
 invariant_of-self-in-Kept c = (kept c).core
 
-pub returns-in-Kept-clause-offer : goal.returns-in-Kept-clause-offer
-returns-in-Kept-clause-offer c = (kept c).offer
-
-pub returns-in-Kept-clause-state : goal.returns-in-Kept-clause-state
-returns-in-Kept-clause-state c = (kept c).state
+pub returns-in-Kept : goal.returns-in-Kept
+returns-in-Kept c = record { offer = (kept c).offer; state = (kept c).state; reads = search rules; err = search rules; tried = search rules; settings = search rules }
 
 out : (c : goal.After-offer-in-Out) → IsTurnedTo c.args.self.now c.args.card (Some (Out c.in-Out.oldest)) c.set_mark-in-Out.new.self c.refine-in-Out.new.self.sets c.offer-in-Out.new.self c.refine-in-Out.new.self.pending
 out c = turned_out c.self.inside.memory.heap c.self.inside.memory.sets c.self.inside.hot c.self.inside.memory.pending c.self.inside.config c.args.self.now c.self.invariant c.self.view_is c.args.card (c.is_dirty-dirty.ensures.dirty.0 c.if-not-dirty.false) (Out c.in-Out.oldest) (sym c.in-Out.is ∙ c.would-offer.ensures.answer) c.set_mark-in-Out.new.self c.refine-in-Out.new.self.sets c.offer-in-Out.new.self c.refine-in-Out.new.self.pending c.offer-in-Out.ensures.ring
@@ -45,8 +39,5 @@ out c = turned_out c.self.inside.memory.heap c.self.inside.memory.sets c.self.in
 pub invariant_of-self-in-Out : goal.invariant_of-self-in-Out
 invariant_of-self-in-Out c = (out c).core
 
-pub returns-in-Out-clause-offer : goal.returns-in-Out-clause-offer
-returns-in-Out-clause-offer c = (out c).offer
-
-pub returns-in-Out-clause-state : goal.returns-in-Out-clause-state
-returns-in-Out-clause-state c = (out c).state
+pub returns-in-Out : goal.returns-in-Out
+returns-in-Out c = record { offer = (out c).offer; state = (out c).state; reads = search rules; err = search rules; tried = search rules; settings = search rules }

@@ -1,5 +1,5 @@
 use Rattle.std.specs.Prelude.{◌≡◌, ◌+◌, if◌then◌else◌}
-use Rattle.g1_core.specs.{ℕ, List, length, ap, refl, ◌∙◌, arith, Bool, true, length-append, Shape, State}
+use Rattle.g1_core.specs.{◌∙◌, ℕ, List, length, ap, refl, arith, Bool, true, length-append, Shape, State}
 use Rattle.g1_core.proofs.{one_read, more_read, turns_more}
 use Rattle.g1_core.proofs.machinery.Core.turn_all.Goals as goal
 

@@ -6,4 +6,4 @@ pub returns-clause-cleared : goal.returns-clause-cleared
 returns-clause-cleared c =
     subst (λ (reply : ClearReply). ClearsAt c.args.heap.now c.args.region reply c.clear.new.self) (sym c.words_of.ensures.reply)
     (subst (λ (region : ℕ). ClearsAt c.args.heap.now region c.clear.result c.clear.new.self) c.in-Some.ensures.1
-    (record { race = c.clear.ensures.race; words = c.clear.ensures.words; step = c.clear.ensures.step; refused = c.clear.ensures.refused }))
+    c.clear.ensures)

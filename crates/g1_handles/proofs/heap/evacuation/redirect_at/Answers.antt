@@ -9,4 +9,4 @@ returns-clause-redirected c =
     let slots = c.redirect_in_place.result in
     subst (λ (to : ℕ). Redirects old c.args.from to slots new) c.in-Some-region.ensures.1
     (subst (λ (from : ℕ). Redirects old from c.in-Some-region.to slots new) c.in-Some.ensures.1
-    (record { race = c.redirect_in_place.ensures.race; words = c.redirect_in_place.ensures.words; step = c.redirect_in_place.ensures.step }))
+    c.redirect_in_place.ensures)

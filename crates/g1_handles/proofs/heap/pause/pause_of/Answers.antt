@@ -1,8 +1,9 @@
 -- A look at the members finds a handle with none, or a member of another race.
 use Rattle.std.specs.Prelude.{◌≡◌, ◌⊎◌}
-use Rattle.g1_handles.specs.{inl, inr, Some, Any, SaysNoMember, IsPauseRefused, held_racers, held_sweepers}
-use Rattle.g1_handles.specs.declared.code.Refusal.TheVariants as refusal
-use Rattle.g1_handles.proofs.{passed}
+use Rattle.g1_handles.specs.{◌∙◌, ℕ, List, arith, rules, All, length, map, refl, ap, subst, arc_value, View, racer_view, sweeper_view, racer_log, log_of, role_in, role_view, counts_of, IsOf, AreFor, OfPaused, IsPauseOf, inl, inr, Some, Any, SaysNoMember, IsPauseRefused, held_racers, held_sweepers}
+use Rattle.g1_handles.specs.declared.code.Reason.TheVariants as refusal
+use Rattle.std.proofs.lemmas.Grind.{common_steps}
+use Rattle.g1_handles.proofs.{passed, seen_alike}
 use Rattle.g1_handles.proofs.heap.pause.pause_of.Goals as goal
 
 pub returns-in_err-look_at-clause-why : goal.returns-in_err-look_at-clause-why
@@ -20,3 +21,43 @@ returns-in_err-look_at-2-clause-why c =
     let ss = held_sweepers c.args.sweepers.now in
     passed (λ r. (r ≡ refusal.OtherRace) ⊎ Any (λ m. SaysNoMember m r) ss) (IsPauseRefused h rs ss) c.look_at-2.result _ _ c.in_err-look_at-2.was c.look_at-2.ensures.why c.from_residual-in_err-look_at-2.ensures.1
     (λ w. elim w [ inl other ↦ inr (inr (inr (inr (inr other)))) | inr none ↦ inr (inr (inr (inr (inl none)))) ])
+
+pub replace_with-requires : goal.replace_with-requires
+replace_with-requires c =
+    let b = c.in-Racing-heap.under_way in
+    let race = arc_value b.race in
+    let rs = c.share_of_race-share.new.racers in
+    let ss = c.share_of_race-share.new.sweepers in
+    let of : All (IsOf race) (held_racers rs) = first_of (search rules, grind (arith, common_steps)) in
+    let too : All (IsOf race) (held_sweepers ss) = first_of (search rules, grind (arith, common_steps)) in
+    let racers : length rs ≡ b.racers.count = first_of (search rules, grind (arith, common_steps)) in
+    let sweepers : length ss ≡ b.sweepers.count = first_of (search rules, grind (arith, common_steps)) in (
+      first_of (search rules, grind (arith, common_steps)),
+      subst (λ (n : ℕ). AreFor race n c.gather.new.boxes c.gather.new.roles) racers (c.gather.ensures.members race of),
+      subst (λ (n : ℕ). AreFor race n c.gather-2.new.boxes c.gather-2.new.roles) sweepers (c.gather-2.ensures.members race too),
+    )
+
+pub returns-clause-paused : goal.returns-clause-paused
+returns-clause-paused c =
+    let race = arc_value c.in-Racing-heap.under_way.race in
+    let rs = held_racers c.args.racers.now in
+    let ss = held_sweepers c.args.sweepers.now in
+    let came = c.gather.ensures in
+    let too = c.gather-2.ensures in
+    let racers : held_racers c.share_of_race-share.new.racers ≡ rs = c.share_of_race-share.ensures.same.0 ∙ c.look_at.ensures.same in
+    let sweepers : held_sweepers c.share_of_race-share.new.sweepers ≡ ss = c.share_of_race-share.ensures.same.1 ∙ c.look_at-2.ensures.same in
+    let given = came.roles ∙ ap (map role_in) racers in
+    let lent = too.roles ∙ ap (map role_in) sweepers in
+    let paused = subst (λ (x : List View × List View × List (List ℕ)). OfPaused (Some c.replace_with.new.dest) (IsPauseOf race x.0 x.1 x.2)) (λ i. (
+      seen_alike role_in racer_view (role_view racer_view) (λ r. refl) rs _ given i,
+      seen_alike role_in sweeper_view (role_view sweeper_view) (λ w. refl) ss _ lent i,
+      seen_alike role_in racer_log log_of (λ r. refl) rs _ given i,
+    )) c.replace_with.ensures.0 in
+    record {
+      paused = rw c.in-Racing-heap.is paused;
+      race = first_of (search rules, grind (arith, common_steps));
+      counts = c.replace_with.ensures.1.1.1 ∙ ((λ i. (came.counts i, too.counts i)) ∙ (λ i. (map counts_of (racers i), map counts_of (sweepers i))));
+      members = first_of (search rules, grind (arith, common_steps));
+      like = first_of (search rules, grind (arith, common_steps));
+      closed = first_of (search rules, grind (arith, common_steps));
+    }

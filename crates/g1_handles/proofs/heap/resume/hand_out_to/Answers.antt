@@ -1,7 +1,6 @@
 -- The next handle from the end has the role and the box that were last in the lists.
 use Rattle.std.specs.Prelude.{◌≡◌, ◌<◌, ◌-◌}
-use Rattle.g1_handles.specs.{rules, All, Some, Box, length, map, sym, ap, ◌∙◌, subst, arith, Global, arc_value, length-set, Member, counts_of, role_in, IsOf}
-use Rattle.std.proofs.Common.{drop}
+use Rattle.g1_handles.specs.{rules, All, Some, Box, length, map, sym, ap, ◌∙◌, subst, arith, Global, arc_value, length-set, Member, counts_of, role_in, IsOf, drop}
 use Rattle.std.proofs.lemmas.List.{drop_all}
 use Rattle.std.proofs.lemmas.List.Elements.{All-cons, All-nil}
 use Rattle.g1_handles.proofs.{popped, still, from_set, seen_too}

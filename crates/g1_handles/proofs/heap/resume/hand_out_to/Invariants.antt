@@ -1,7 +1,6 @@
 -- The handles from this one on have their roles, and the others' are still in the lists.
 use Rattle.std.specs.Prelude.{◌≡◌, ◌<◌, ◌≤◌}
-use Rattle.g1_handles.specs.{ℕ, All, Some, Box, length, map, slice_index_or, vec_len, vec_capacity, Global, arc_value, Race, Member, counts_of, role_in, IsOf}
-use Rattle.std.proofs.Common.{drop}
+use Rattle.g1_handles.specs.{ℕ, All, Some, Box, length, map, slice_index_or, vec_len, vec_capacity, Global, arc_value, Race, Member, counts_of, role_in, IsOf, drop}
 use Rattle.g1_handles.proofs.heap.resume.hand_out_to.Given as goal
 
 abbrev pub invariant-loop-left : goal.invariant-loop-left

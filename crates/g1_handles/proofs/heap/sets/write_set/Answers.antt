@@ -1,7 +1,6 @@
 -- The next card of the set goes behind those that are written.
 use Rattle.std.specs.Prelude.{◌≡◌, ◌+◌, ◌<◌, ◌≤◌}
-use Rattle.g1_handles.specs.{ℕ, List, Some, None, ◌∙◌, sym, ap, subst, arith, drop-set-lt, length, length-set, card_count, Pause, table_at, IsNextMember}
-use Rattle.std.proofs.Common.{drop}
+use Rattle.g1_handles.specs.{ℕ, List, Some, None, ◌∙◌, sym, ap, subst, arith, drop-set-lt, length, length-set, card_count, Pause, table_at, IsNextMember, drop}
 use Rattle.g1_handles.proofs.{Shows, shows_next, shows_all, shows_first}
 use Rattle.g1_handles.proofs.heap.sets.write_set.Goals as goal
 

@@ -1,7 +1,6 @@
 -- So many of the set's cards are below the next number, and the array has the first of them.
 use Rattle.std.specs.Prelude.{◌≡◌, ◌-◌, ◌≤◌}
-use Rattle.g1_handles.specs.{ℕ, length, card_count, table_at}
-use Rattle.std.proofs.Common.{drop}
+use Rattle.g1_handles.specs.{ℕ, length, card_count, table_at, drop}
 use Rattle.g1_handles.proofs.SetLemmas.{Shows}
 use Rattle.g1_handles.proofs.heap.sets.write_set.Given as goal
 

@@ -6,4 +6,4 @@ pub returns-clause-stored : goal.returns-clause-stored
 returns-clause-stored c =
     subst (λ (slot : ℕ). StoresAt c.args.heap.now slot (reference_of c.args.target) c.store.result c.store.new.self) c.in-Some.ensures.1
     (subst (λ (target : Option ℕ). StoresAt c.args.heap.now c.in-Some.slot target c.store.result c.store.new.self) c.in-Some-reference.ensures.value
-    (record { race = c.store.ensures.race; words = c.store.ensures.words; kind_is = c.store.ensures.kind; table = c.store.ensures.table; step = c.store.ensures.step }))
+    c.store.ensures)

@@ -1,14 +1,9 @@
 -- `into_raw_box` gives what is owned to a raw box, where there is something.
 use Rattle.std.specs.Prelude.{◌≡◌, ◌∷◌, ◌++◌}
 use Rattle.g1_handles.specs.{List, [], refl, subst, lit<, Some, None, SProp, emp, WpFn, fact, fact_i, tables, Ptr, block_ptr, ptr_val, tests_null, ghosts}
-use Rattle.g1_handles.proofs.{Fn, a_type, dcons, dnil, inst_fn, Val, vptr, vnull, vcons, vnil, ‵, raw, ◌⊛◌, prop, at_ret, ◌$◌, ◌∵◌, !, qed, by, move, keep, drop, use0, use1, split, regoal, fsplit, fjoin, whole, sub, agg, stop, fld, lit, of_opd, bin, no_more, and_then, first, branches, exec, returns, enter, alloc_all, pass_all, free_all, look_at, get, get_in, sets, sets_last, env, RattleType, owns, types_at, type_at, nothing, param, layout, bounded, Good, after, and_tt, both, RawBox, raw_box_good, raw_box_in, Z, closed_good, words_out, either}
+use Rattle.g1_handles.proofs.{Fn, a_type, dcons, dnil, inst_fn, Val, vptr, vnull, vcons, vnil, ‵, raw, ◌⊛◌, prop, at_ret, ◌$◌, ◌∵◌, !, qed, by, move, keep, drop, use0, use1, split, regoal, fsplit, fjoin, whole, sub, agg, stop, fld, lit, of_opd, bin, no_more, and_then, first, branches, exec, returns, enter, alloc_all, pass_all, free_all, look_at, get, get_in, sets, sets_last, env, RattleType, owns, types_at, type_at, nothing, param, layout, bounded, Good, after, and_tt, both, RawBox, raw_box_good, raw_box_in, Z, closed_good, words_out, either, plain, alive, Stays, stay_dropped, walk_of, Goes-blank, proved_at, leaves}
 use types.Match.{live}
-use denote.Signature.{plain}
-use denote.Triple.Entry.{alive}
-use denote.Triple.Walked.{Stays, stay_dropped, walk_of}
-use Rattle.std.proofs.alloc.Calls.{Goes-blank}
 use Rattle.core.proofs.option.Made.{Some-of, none_of}
-use Rattle.std.proofs.raw_atomic.Walks.{proved_at, leaves}
 use Rattle.std.proofs.alloc.Global.TheLaws as laws
 use Rattle.g1_handles.specs.contracts.nullable_box.NullableBox as boxed
 use Rattle.g1_handles.specs.contracts.nullable_box.NullableBox.into_raw_box.{ended, clauses}

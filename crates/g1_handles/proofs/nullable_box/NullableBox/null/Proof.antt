@@ -1,11 +1,7 @@
 -- `null` puts null and the allocator together.
 use Rattle.std.specs.Prelude.{◌≡◌, ◌∷◌, ◌++◌}
 use Rattle.g1_handles.specs.{List, [], refl, sym, subst, Option, None, SProp, ent, emp, id⊢, WpFn, fact, fact_i, tables, null_ptr}
-use Rattle.g1_handles.proofs.{Fn, a_type, dcons, dnil, inst_fn, Val, vnull, ‵, raw, ◌⊛◌, ◌$◌, ◌∵◌, !, qed, by, move, keep, drop, use0, split, suffices, fsplit, fjoin, feq_i, rewrite, agg, lit, no_more, and_then, returns, enter, alloc_all, pass_all, free_all, look_at, get, sets, RattleType, owns, types_at, nothing, param, layout, bounded, Goes-dropped, one, both, Z, closed_good, words_in}
-use denote.Signature.{plain}
-use denote.Triple.Entry.{alive}
-use denote.Triple.Walked.{Stays, stay_dropped, walk_of}
-use Rattle.std.proofs.raw_atomic.Walks.{proved_at, leaves}
+use Rattle.g1_handles.proofs.{Fn, a_type, dcons, dnil, inst_fn, Val, vnull, ‵, raw, ◌⊛◌, ◌$◌, ◌∵◌, !, qed, by, move, keep, drop, use0, split, suffices, fsplit, fjoin, feq_i, rewrite, agg, lit, no_more, and_then, returns, enter, alloc_all, pass_all, free_all, look_at, get, sets, RattleType, owns, types_at, nothing, param, layout, bounded, Goes-dropped, one, both, Z, closed_good, words_in, plain, alive, Stays, stay_dropped, walk_of, proved_at, leaves}
 use Rattle.std.proofs.alloc.Global.TheLaws as laws
 use Rattle.g1_handles.specs.contracts.nullable_box.NullableBox as boxed
 use Rattle.g1_handles.specs.contracts.nullable_box.NullableBox.null.{ended, clauses}

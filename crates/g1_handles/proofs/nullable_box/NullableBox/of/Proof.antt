@@ -1,12 +1,7 @@
 -- `of` takes over what a raw box owns.
 use Rattle.std.specs.Prelude.{◌≡◌, ◌∷◌, ◌++◌}
 use Rattle.g1_handles.specs.{List, [], refl, Some, SProp, emp, WpFn, fact, fact_i, tables, block_ptr, ghosts}
-use Rattle.g1_handles.proofs.{Fn, a_type, dcons, dnil, inst_fn, Val, vptr, ‵, raw, ◌⊛◌, prop, ◌$◌, ◌∵◌, !, qed, by, move, keep, drop, use0, split, regoal, fsplit, fjoin, whole, sub, agg, stop, fld, of_opd, no_more, and_then, returns, enter, alloc_all, pass_all, free_all, look_at, get, get_in, sets, RattleType, owns, types_at, nothing, param, bounded, both, RawBox, raw_box_good, raw_box_out, Z, some_in, words_in}
-use denote.Signature.{plain}
-use denote.Triple.Entry.{alive}
-use denote.Triple.Walked.{Stays, stay_dropped, walk_of}
-use Rattle.std.proofs.alloc.Calls.{Goes-blank}
-use Rattle.std.proofs.raw_atomic.Walks.{proved_at, leaves}
+use Rattle.g1_handles.proofs.{Fn, a_type, dcons, dnil, inst_fn, Val, vptr, ‵, raw, ◌⊛◌, prop, ◌$◌, ◌∵◌, !, qed, by, move, keep, drop, use0, split, regoal, fsplit, fjoin, whole, sub, agg, stop, fld, of_opd, no_more, and_then, returns, enter, alloc_all, pass_all, free_all, look_at, get, get_in, sets, RattleType, owns, types_at, nothing, param, bounded, both, RawBox, raw_box_good, raw_box_out, Z, some_in, words_in, plain, alive, Stays, stay_dropped, walk_of, Goes-blank, proved_at, leaves}
 use Rattle.std.proofs.alloc.Global.TheLaws as laws
 use Rattle.g1_handles.specs.contracts.nullable_box.NullableBox as boxed
 use Rattle.g1_handles.specs.contracts.nullable_box.NullableBox.of.{ended, clauses}

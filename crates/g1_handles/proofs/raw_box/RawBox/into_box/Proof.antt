@@ -1,15 +1,11 @@
 -- `into_box` makes the box again.
 use Rattle.std.specs.Prelude.{◌≡◌, ◌∷◌, ◌++◌}
 use Rattle.g1_handles.specs.{List, [], refl, sym, ap, subst, SProp, ent, id⊢, ftrue, flft, WpFn, fact, tables, block_ptr}
-use Rattle.g1_handles.proofs.{a_type, dcons, dnil, Val, vptr, inst_fn, ‵, raw, ◌⊛◌, some, later, at_ret, ◌$◌, ◌∵◌, !, qed, by, move, keep, drop, split, split3, join, fsplit, fjoin, pick, suffices, use1, await, rewrite, feq_i, stop, fld, of_opd, no_more, and_then, first, blocks, exec, returns, enter, alloc_all, pass_all, free_all, look_at, get, get_in, sets, lands_last, env, sub, whole, no, RattleType, owns, types_at, nothing, only, param, layout, bounded, param_laws, triple_of, calls_at_last, after, fm, box_out, box_in, both, RawBox, raw_box_good, raw_box_out}
+use Rattle.g1_handles.proofs.{a_type, dcons, dnil, Val, vptr, inst_fn, ‵, raw, ◌⊛◌, some, later, at_ret, ◌$◌, ◌∵◌, !, qed, by, move, keep, drop, split, split3, join, fsplit, fjoin, pick, suffices, use1, await, rewrite, feq_i, stop, fld, of_opd, no_more, and_then, first, blocks, exec, returns, enter, alloc_all, pass_all, free_all, look_at, get, get_in, sets, lands_last, env, sub, whole, no, RattleType, owns, types_at, nothing, only, param, layout, bounded, param_laws, triple_of, calls_at_last, after, fm, box_out, box_in, both, RawBox, raw_box_good, raw_box_out, plain, Stays, stay_dropped, walk_of, Goes-blank, proved_at, leaves}
 use contract.BorrowLft.{◌⊑◌}
-use denote.Signature.{plain}
 use denote.Triple.Clauses.{Lasts, lasts}
-use denote.Triple.Walked.{Stays, stay_dropped, walk_of}
-use Rattle.core.proofs.alloc.Calls.{Goes-blank}
 use Rattle.core.proofs.cell.Inside.{Good}
 use Rattle.std_alloc.proofs.BoxSteps.Form as box
-use Rattle.std.proofs.raw_atomic.Walks.{proved_at, leaves}
 use Rattle.std_alloc.specs.contracts.boxed.Box.from_raw as callee
 use Rattle.std_alloc.proofs.boxed.Box.from_raw.Met.{met}
 use Rattle.g1_handles.specs.contracts.raw_box.RawBox.into_box.{ended, clauses}

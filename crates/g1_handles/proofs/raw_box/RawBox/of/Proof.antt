@@ -1,14 +1,10 @@
 -- `of` takes the box apart.
 use Rattle.std.specs.Prelude.{◌≡◌, ◌∷◌, ◌++◌}
 use Rattle.g1_handles.specs.{List, [], refl, sym, ap, ◌∙◌, subst, SProp, ent, emp, never, id⊢, fst∗, ftrue, fsep, flft, WpFn, fact, fact_i, tables, RawPtr, Ptr, block_ptr, null_ptr, ptr_val, in_a_block, box_owns}
-use Rattle.g1_handles.proofs.{a_type, dcons, dnil, Val, vptr, vstruct, of_list, inst_fn, sem, ‵, raw, ◌⊛◌, some, later, ◌$◌, ◌∵◌, !, qed, by, move, keep, drop, split, split3, join, fsplit, fjoin, fpick, pick, suffices, use0, use1, await, rewrite, feq_l, stop, fld, of_opd, no_more, and_then, returns, enter, alloc_all, pass_all, free_all, look_at, get, get_in, sets, lands_as, agg, sub, whole, no, RattleType, owns, types_at, nothing, only, heard, param, layout, bounded, param_laws, triple_of, calls_at, handle_tells, fm, box_out, box_in, both, raw_box_good, raw_box_in}
+use Rattle.g1_handles.proofs.{a_type, dcons, dnil, Val, vptr, vstruct, of_list, inst_fn, sem, ‵, raw, ◌⊛◌, some, later, ◌$◌, ◌∵◌, !, qed, by, move, keep, drop, split, split3, join, fsplit, fjoin, fpick, pick, suffices, use0, use1, await, rewrite, feq_l, stop, fld, of_opd, no_more, and_then, returns, enter, alloc_all, pass_all, free_all, look_at, get, get_in, sets, lands_as, agg, sub, whole, no, RattleType, owns, types_at, nothing, only, heard, param, layout, bounded, param_laws, triple_of, calls_at, handle_tells, fm, box_out, box_in, both, raw_box_good, raw_box_in, plain, Stays, stay_dropped, walk_of, Goes-blank, proved_at, leaves}
 use mir.Raw.{raw as bare}
-use denote.Signature.{plain}
 use denote.Struct.Tuple.{Tuple}
-use denote.Triple.Walked.{Stays, stay_dropped, walk_of}
-use Rattle.core.proofs.alloc.Calls.{Goes-blank}
 use Rattle.std_alloc.proofs.BoxSteps.Form as box
-use Rattle.std.proofs.raw_atomic.Walks.{proved_at, leaves}
 use Rattle.std_alloc.specs.contracts.boxed.Box.into_raw_with_allocator as callee
 use Rattle.std_alloc.proofs.boxed.Box.into_raw_with_allocator.Met.{met}
 use Rattle.g1_handles.specs.contracts.raw_box.RawBox.of.{ended, clauses}

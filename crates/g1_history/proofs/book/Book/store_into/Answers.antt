@@ -2,7 +2,7 @@ use Rattle.g1_history.proofs.{call_kept, call_made}
 use Rattle.g1_history.proofs.book.Book.store_into.Goals as goal
 
 pub invariant_of-self-2 : goal.invariant_of-self-2
-invariant_of-self-2 g c = call_kept _ _ _ _ _ _ _ _ _ c.self.invariant c.in_ok-make_room.ensures.room (c.store_into-reply.ensures.step c.args.caller) c.make_room.ensures.same c.enter.ensures cc
+invariant_of-self-2 g c = call_kept _ _ _ _ _ _ _ _ _ c.self.invariant c.in_ok-make_room.ensures.room (c.store_into-reply.ensures.step c.args.caller) c.make_room.ensures.same c.enter.ensures (λ _. cc) (cc)
 
-pub returns-clause-made : goal.returns-clause-made
-returns-clause-made g c = call_made _ _ _ _ _ _ _ _ _ _ _ c.self.view_is (c.store_into-reply.ensures.step c.args.caller) c.make_room.ensures.same c.enter.ensures (cc) c.store_into-reply.ensures.later c.store_into-reply.ensures.did
+pub returns-clause-call : goal.returns-clause-call
+returns-clause-call g c = call_made _ _ _ _ _ _ _ _ _ _ _ _ c.self.view_is c.in_ok-make_room.ensures.room (c.store_into-reply.ensures.step c.args.caller) c.make_room.ensures.same c.enter.ensures (λ _. cc) (cc) c.store_into-reply.ensures.later c.store_into-reply.ensures.did

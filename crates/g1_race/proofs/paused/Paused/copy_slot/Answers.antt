@@ -1,6 +1,6 @@
 use Rattle.std.proofs.Common.{rules}
 use Rattle.std.specs.Prelude.{◌≡◌, ◌^◌, ◌<◌}
-use Rattle.g1_race.specs.{ℕ, None, sym, ap, ◌∙◌, subst, arith, some, get_elem?, slot_count, target_of, stored, Shape, read_is, shape_of, word_of, Pause, table_at, SlotsBecome, one_word}
+use Rattle.g1_race.specs.{ℕ, None, sym, ap, ◌∙◌, subst, arith, some, get_elem?, slot_count, target_of, stored, RaceShape, read_is, shape_of, word_of, Pause, table_at, SlotsBecome, one_word}
 use Rattle.g1_race.specs.Over as over
 use Rattle.g1_race.proofs.{target_data, target_word, slot_gives, lent_view}
 use Rattle.g1_race.proofs.paused.Paused.copy_slot.Goals as goal
@@ -10,7 +10,7 @@ IsLaid pause = pause.shape ≡ shape_of pause.layout pause.shape.members
 
 -- what the slot refers to
 reads : (pause : Pause) → IsLaid pause → (slot word : ℕ) → slot < slot_count pause.layout → get_elem? pause.words slot ≡ some word → target_of (table_at pause) slot ≡ over.target_of_word word
-reads pause laid slot word lt at = slot_gives pause.shape pause.layout pause.words slot word laid (let e : pause.shape.slots ≡ slot_count pause.layout = ap (λ (k : Shape). k.slots) laid in omega (arith, e, lt)) at
+reads pause laid slot word lt at = slot_gives pause.shape pause.layout pause.words slot word laid (let e : pause.shape.slots ≡ slot_count pause.layout = ap (λ (k : RaceShape). k.slots) laid in omega (arith, e, lt)) at
 
 -- the word that is stored is the slot's
 stores : (old read new : Pause) (to word stored : ℕ) → read ≡ old → stored ≡ word → SlotsBecome (one_word to stored) read new → SlotsBecome (one_word to word) old new

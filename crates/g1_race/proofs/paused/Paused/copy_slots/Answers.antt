@@ -1,5 +1,5 @@
 use Rattle.std.specs.Prelude.{◌≡◌, ◌+◌, ◌-◌, ◌≤◌}
-use Rattle.g1_race.specs.{ℕ, Bool, true, false, leb, length, sym, ap, ◌∙◌, subst, arith, leb-false, leb-true, slot_count, Shape, Pause, copied_all, copied_on, first_of}
+use Rattle.g1_race.specs.{ℕ, Bool, true, false, leb, length, sym, ap, ◌∙◌, subst, arith, leb-false, leb-true, slot_count, RaceShape, Pause, copied_all, copied_on, first_of}
 use Rattle.g1_race.proofs.Copying.{Copied, CopiesOne, copied_down, copied_up}
 use Rattle.g1_race.proofs.{lent_begun, lent_view}
 use Rattle.g1_race.proofs.paused.Paused.copy_slots.Goals.{else-upwards, then-upwards}
@@ -11,7 +11,7 @@ loop-i-preserved g c =
     let old : Pause = c.args.self.now in
     let view = lent_view c.race.ensures c.self.view_is in
     let begun = lent_begun c.race.ensures c.self.invariant.0.begun in
-    let slots : old.shape.slots ≡ slot_count old.layout = ap (λ (h : Pause). h.shape.slots) (sym view) ∙ (ap (λ (k : Shape). k.slots) race.laid ∙ ap (λ (h : Pause). slot_count h.layout) view) in
+    let slots : old.shape.slots ≡ slot_count old.layout = ap (λ (h : Pause). h.shape.slots) (sym view) ∙ (ap (λ (k : RaceShape). k.slots) race.laid ∙ ap (λ (h : Pause). slot_count h.layout) view) in
     let full : old.shape.slots ≤ length old.words = subst (λ (h : Pause). h.shape.slots ≤ length h.words) view (omega (arith, begun.sized)) in
     let upwards : Bool = leb c.number.result c.number-2.result in
     let next : ℕ = c.if-upwards.distance in
@@ -27,5 +27,7 @@ loop-i-preserved g c =
       | else-upwards w ↦ on (λ e. absurd (omega (arith, leb-true c.number.result c.number-2.result e, w.if-upwards.false))) (λ e. w.distance-is)
     ]
 
-pub returns-clause-words : goal.returns-clause-words
-returns-clause-words g c = (copied_all (Copied c.args.self.now c.loop-i.self) (leb c.number.result c.number-2.result) c.args.from c.args.to c.args.count c.loop-i.i (omega (arith, c.loop-i-test.false)) c.loop-i.invariant).words
+pub returns : goal.returns
+returns g c =
+    let all = copied_all (Copied c.args.self.now c.loop-i.self) (leb c.number.result c.number-2.result) c.args.from c.args.to c.args.count c.loop-i.i (omega (arith, c.loop-i-test.false)) c.loop-i.invariant in
+    record { race = all.race; words = all.words; table = all.table }

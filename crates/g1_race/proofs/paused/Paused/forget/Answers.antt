@@ -1,20 +1,25 @@
 -- The cards from the first of the region on are the region's.
+use Rattle.std.proofs.Common.{arith, rules}
 use Rattle.std.specs.Prelude.{◌≢◌}
 use Rattle.g1_race.specs.{ℕ, sym, ◌∙◌, subst, region_of, Crosses, forgotten, Pause, table_at}
-use Rattle.g1_race.proofs.{held_table, lent_begun, lent_region, lent_view}
+use Rattle.g1_race.proofs.{front_words, held_table, lent_begun, lent_region, lent_view}
 use Rattle.g1_race.proofs.ForgottenTable.{closed_words, forgotten_is}
 use Rattle.g1_race.proofs.paused.Paused.forget.Goals as goal
 
 pub forget_cards-requires-clause-closed : goal.forget_cards-requires-clause-closed
 forget_cards-requires-clause-closed g c =
     let race = c.race-race.result.now in
-    closed_words race.shape race.layout race.laid race.shaped c.number.result (lent_region c.race-race.ensures c.self.view_is c.number.ensures c.requires.region) c.self.inside.seat.me.0.began_words
+    closed_words race.shape race.layout race.laid race.shaped c.number.result (lent_region c.race-race.ensures c.self.view_is c.number.ensures c.requires.region) c.self.inside.reader.start.words
     (subst (λ (h : Pause). (slot place : ℕ) → Crosses (table_at h) slot place → region_of h.layout slot ≢ c.number.result) (sym (lent_view c.race-race.ensures c.self.view_is))
     (subst (λ (r : ℕ). (slot place : ℕ) → Crosses (table_at c.args.self.now) slot place → region_of c.args.self.now.layout slot ≢ r) (sym c.number.ensures) c.requires.closed))
 
-pub returns-clause-table : goal.returns-clause-table
-returns-clause-table g c =
+pub returns : goal.returns
+returns g c =
     let race = c.race-race.result.now in
-    let new = c.forget_cards.new.seat.me.0.began_words in
-    sym (held_table new c.race-race.ensures) ∙ (forgotten_is race.shape race.layout race.laid race.shaped c.number.result (lent_region c.race-race.ensures c.self.view_is c.number.ensures c.requires.region) c.self.inside.seat.me.0.began_words new
-    (lent_begun c.race-race.ensures c.self.invariant.0.begun) c.forget_cards.ensures.seat.begun c.forget_cards.ensures.unset ∙ (λ i. forgotten (c.number.ensures i) (table_at ((lent_view c.race-race.ensures c.self.view_is) i))))
+    let new = c.forget_cards.new.self.start.words in
+    record {
+      race = search rules;
+      words = grind (arith, front_words, lent_view);
+      table = sym (held_table new c.race-race.ensures) ∙ (forgotten_is race.shape race.layout race.laid race.shaped c.number.result (lent_region c.race-race.ensures c.self.view_is c.number.ensures c.requires.region) c.self.inside.reader.start.words new
+          (lent_begun c.race-race.ensures c.self.invariant.0.begun) c.forget_cards.ensures.reader.begun c.forget_cards.ensures.unset ∙ (λ i. forgotten (c.number.ensures i) (table_at ((lent_view c.race-race.ensures c.self.view_is) i))));
+    }

@@ -3,8 +3,8 @@ use Rattle.g1_race.proofs.{lent_view, read_table}
 use Rattle.g1_race.proofs.paused.Paused.target.Goals as goal
 
 pub returns-clause-target : goal.returns-clause-target
-returns-clause-target g c = c.target_of.ensures.target ∙ ap (λ (h : Pause). target_of (table_at h) c.args.slot) (lent_view c.race.ensures c.self.view_is)
+returns-clause-target g c = c.target.ensures.target ∙ ap (λ (h : Pause). target_of (table_at h) c.args.slot) (lent_view c.race.ensures c.self.view_is)
 
 pub returns-clause-step : goal.returns-clause-step
 returns-clause-step g c = λ caller.
-    subst (λ (t : Table). IsStep (table_at c.args.self.now) (target_entry caller c.args.slot c.target_of.result) t) (sym (read_table (g.R.Holds.held c.self.inside.race) (ap (λ m. m.0.began_words) c.target_of.ensures.seat.1) c.self.view_is)) (target_step caller (table_at c.args.self.now) c.args.slot c.target_of.result c.requires (returns-clause-target g c))
+    subst (λ (t : Table). IsStep (table_at c.args.self.now) (target_entry caller c.args.slot c.target.result) t) (sym (read_table (g.R.HoldsRace.held c.self.inside.race) (ap (λ r. r.start.words) c.target.ensures.same) c.self.view_is)) (target_step caller (table_at c.args.self.now) c.args.slot c.target.result c.requires (returns-clause-target g c))

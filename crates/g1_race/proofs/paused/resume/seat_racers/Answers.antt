@@ -1,5 +1,4 @@
 use Rattle.std.proofs.Common.{rules}
-use Rattle.std.specs.Prelude.{◌-◌}
 use Rattle.g1_race.specs.{length, ap, arith, map-set_same, AllWithin-more_set, start_of, racer_log}
 use Rattle.g1_race.proofs.{after_split_is, new_racer_fresh, new_racer_of}
 use Rattle.g1_race.proofs.paused.resume.seat_racers.Goals as goal

@@ -2,7 +2,7 @@ use Rattle.std.specs.Prelude.{◌^◌, ◌≡◌, ◌+◌, ◌<◌}
 use Rattle.g1_replay.specs.{List, length, map, ap, refl, sym, subst, ◌∙◌, arith, All, sum_by, All-contains, slot_count, in_contains, IsCommandOf, Store, IsPairOf, Sender, Taker, sender_rights, taker_rights, IsSenderOf, IsTakerOf, Racer, Sweeper, Begun, beginning, null_of, IsKnown, IsOver, shape_of, null_begun, race_begun, race_id, racer_race, racer_start, racer_view, sweeper_race, sweeper_start, sweeper_view, Member, member_rights, IsMemberOf, racer_in, sweeper_in, sender_in, taker_in}
 use Rattle.g1_layout.specs.Shape as layout
 use Rattle.g1_race.proofs.StoreCalls.{word_fits}
-use Rattle.g1_race_words.specs.declared.view.Shape.{Shape}
+use Rattle.g1_race_words.specs.declared.view.RaceShape.{RaceShape}
 use Rattle.g1_race.proofs.Fresh.{begun_as}
 use Rattle.g1_race.proofs.Opening.{begins_null}
 use Rattle.g1_replay.proofs.LeftLemmas.{table_left}
@@ -77,9 +77,9 @@ returns-clause-left g c =
     let sweeping = subst (λ (xs : List Sweeper). All (λ w. sweeper_start w ≡ null_of race.shape) xs) (sym c.in_ok-returned.ensures.back.sweepers) (λ k d lt. (all_chosen (IsMemberOf race line) (λ w. (sweeper_race w ≡ race_id c.in_ok-race.race) × (sweeper_start w ≡ null_of c.in_ok-race.race.shape)) sweeper_in (sweeper_of race line) ms run.of k d lt).1) in
     let some : 0 < length rs + length ws = omega (arith, ap (λ (xs : List Racer). length xs) c.in_ok-returned.ensures.back.racers, ap (λ (xs : List Sweeper). length xs) c.in_ok-returned.ensures.back.sweepers, sorted_length ms, run.len, members, c.in_ok-members.ensures.len, c.in_ok-race.ensures.racers.0, c.in_ok-members.members.ok.0, c.args.options.now.mutators_in) in
     let begun : race_begun race (map racer_view rs) sweepers ≡ null_begun closed.layout count =
-    begun_as race (null_of race.shape) rs ws racing sweeping refl some ∙ (ap (λ (k : Shape). beginning (null_of k)) (c.in_ok-race.ensures.shape ∙ ap (λ (l : layout.Shape). shape_of l count) (sym laid)) ∙ begins_null closed.layout count) in
+    begun_as race (null_of race.shape) rs ws racing sweeping refl some ∙ (ap (λ (k : RaceShape). beginning (null_of k)) (c.in_ok-race.ensures.shape ∙ ap (λ (l : layout.Shape). shape_of l count) (sym laid)) ∙ begins_null closed.layout count) in
     let over = subst (λ (xs : List Racer). IsOver (null_begun closed.layout count) closed.words (map racer_view xs) sweepers) c.in_ok-returned.ensures.back.racers (subst (λ (b : Begun). IsOver b closed.words (map racer_view rs) sweepers) begun c.close.ensures.over) in
-    let low : slot_count c.args.layout < 2 ^ 32 = subst (λ (l : layout.Shape). slot_count l < 2 ^ 32) c.in_ok-race.ensures.layout (subst (λ (k : Shape). k.slots < 2 ^ 32) race.laid race.shaped.3) in
+    let low : slot_count c.args.layout < 2 ^ 32 = subst (λ (l : layout.Shape). slot_count l < 2 ^ 32) c.in_ok-race.ensures.layout (subst (λ (k : RaceShape). k.slots < 2 ^ 32) race.laid race.shaped.3) in
     table_left closed count mutators commands (views_of ms) sweepers over
     (each_own mutators commands 0 ms run.run)
     (λ m lt. every_own mutators commands 0 ms run.run m (omega arith) lt

@@ -3,4 +3,4 @@ use Rattle.g1_shared.proofs.{call_counted}
 use Rattle.g1_shared.proofs.counted.Counted.drain.Goals as goal
 
 pub invariant_of-self-2 : goal.invariant_of-self-2
-invariant_of-self-2 g c = call_counted _ g.M.Terms.terms _ _ _ _ _ _ c.self.invariant c.in_ok-answer.ensures.made.entered refl c.raise_made.ensures.total
+invariant_of-self-2 g c = call_counted _ g.M.Terms.terms _ _ _ _ _ _ c.self.invariant c.in_ok-answer.ensures.call.made.entered refl c.raise_made.ensures.total

@@ -1,4 +1,4 @@
-use Rattle.g1_shared.specs.{refl, ap, Terms}
+use Rattle.g1_shared.specs.{refl, ap, BookTerms}
 use Rattle.g1_shared.proofs.{call_counted}
 use Rattle.g1_shared.proofs.counted.Counted.refine_by.Goals as goal
 
@@ -8,4 +8,4 @@ invariant_of-self-2 g c = call_counted _ g.M.Terms.terms _ _ _ _ _ _ c.self.inva
 -- the reply is one of the book's state
 pub returns-clause-answer : goal.returns-clause-answer
 returns-clause-answer g c =
-    (c.self.inside.book.machine.state, c.refine.new.self.machine.state, ap (λ (t : Terms). t.layout) c.self.invariant.kept, c.in_ok-reply.ensures.made.did.refined)
+    (c.self.inside.book.machine.state, c.refine.new.self.machine.state, ap (λ (t : BookTerms). t.layout) c.self.invariant.kept, c.in_ok-reply.ensures.made.did.refined)

@@ -1,6 +1,5 @@
 use Rattle.std.specs.Prelude.{◌≡◌, ◌+◌, ◌≤◌, ◌++◌}
-use Rattle.g1_steps.specs.{map, vec_len, vec_capacity, AllZip, into_iter_len, into_iter_items, asks_in}
-use Rattle.g1_steps.specs.Ran.{Ran}
+use Rattle.g1_steps.specs.{map, vec_len, vec_capacity, AllZip, JobRan, into_iter_len, into_iter_items}
 use Rattle.g1_steps.proofs.crew.job.join_all.Given as goal
 
 abbrev pub invariant-loop-handle : goal.invariant-loop-handle
@@ -8,4 +7,4 @@ invariant-loop-handle g l =
     (l.yielded ++ into_iter_items l.handle-iterator ≡ l.fn.running.items)
     × (vec_len l.done + into_iter_len l.handle-iterator ≡ vec_len l.fn.running)
     × (vec_len l.fn.running ≤ vec_capacity l.done)
-    × AllZip (λ a b. (b.script ≡ a.script) × Ran g.D.Desk.did (asks_in a.script) a.desk b.outcome b.desk) (map (λ h. h.promise.0.value) l.yielded) l.done.items
+    × AllZip (JobRan g.D.Desk.did) (map (λ h. h.promise.0.value) l.yielded) l.done.items

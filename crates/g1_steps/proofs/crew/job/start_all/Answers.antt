@@ -1,4 +1,4 @@
-use Rattle.g1_steps.specs.{arith, ap, ◌∙◌, ScriptFits, All-rest}
+use Rattle.g1_steps.specs.{arith, ap, ◌∙◌, JobFits, All-rest}
 use Rattle.g1_steps.proofs.{started_more}
 use Rattle.g1_steps.proofs.crew.job.start_all.Goals as goal
 
@@ -10,5 +10,5 @@ loop-job-preserved g c =
       started_more (λ h. h.promise.0.value) _ _ _ _ _ _ _ was.0 steps.0 c.push_reserved.ensures.items begun,
       omega arith,
       omega arith,
-      All-rest (λ job. ScriptFits (g.D.Desk.slots job.desk) (g.D.Desk.may_store job.desk) job.script) _ _ _ steps.0 was.3,
+      All-rest (JobFits g.D.Desk.slots g.D.Desk.may_store) _ _ _ steps.0 was.3,
     )

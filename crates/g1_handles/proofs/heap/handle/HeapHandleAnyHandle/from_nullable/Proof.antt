@@ -1,9 +1,9 @@
 -- The words of a nullable box.
-use Rattle.g1_handles.specs.Own.{heap_row as R}
+use Rattle.std.specs.Prelude.{◌∷◌}
 use Rattle.g1_handles.specs.contracts.nullable_box.NullableBox as from
 use Rattle.g1_handles.specs.contracts.heap.handle.HeapHandle as to
-use Rattle.std.specs.Prelude.{◌∷◌}
-use Rattle.g1_handles.proofs.{[], tables, plain, alive, Stays, stay_dropped, walk_of, Goes-blank, proved_at, leaves, moved}
+use Rattle.g1_handles.specs.{[], tables, heap_row as R}
+use Rattle.g1_handles.proofs.{plain, alive, Stays, stay_dropped, walk_of, Goes-blank, proved_at, leaves, moved}
 use Rattle.g1_handles.specs.contracts.heap.handle.HeapHandleAnyHandle.from_nullable.{ended, clauses}
 use Rattle.g1_handles.specs.contracts.heap.handle.HeapHandleAnyHandle.from_nullable.Key.{name as #self}
 use Rattle.g1_handles.proofs.heap.handle.HeapHandleAnyHandle.from_nullable.Statement.{statement}

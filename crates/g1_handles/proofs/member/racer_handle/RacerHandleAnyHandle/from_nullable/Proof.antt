@@ -1,9 +1,9 @@
 -- The words of a nullable box.
-use Rattle.g1_handles.specs.Own.{racer_row as R}
+use Rattle.std.specs.Prelude.{◌∷◌}
 use Rattle.g1_handles.specs.contracts.nullable_box.NullableBox as from
 use Rattle.g1_handles.specs.contracts.member.racer_handle.RacerHandle as to
-use Rattle.std.specs.Prelude.{◌∷◌}
-use Rattle.g1_handles.proofs.{[], tables, plain, alive, Stays, stay_dropped, walk_of, Goes-blank, proved_at, leaves, moved}
+use Rattle.g1_handles.specs.{[], tables, racer_row as R}
+use Rattle.g1_handles.proofs.{plain, alive, Stays, stay_dropped, walk_of, Goes-blank, proved_at, leaves, moved}
 use Rattle.g1_handles.specs.contracts.member.racer_handle.RacerHandleAnyHandle.from_nullable.{ended, clauses}
 use Rattle.g1_handles.specs.contracts.member.racer_handle.RacerHandleAnyHandle.from_nullable.Key.{name as #self}
 use Rattle.g1_handles.proofs.member.racer_handle.RacerHandleAnyHandle.from_nullable.Statement.{statement}

@@ -1,9 +1,9 @@
 -- The words of a handle.
-use Rattle.g1_handles.specs.Own.{reader_row as R}
+use Rattle.std.specs.Prelude.{◌∷◌}
 use Rattle.g1_handles.specs.contracts.member.reader_handle.ReaderHandle as from
 use Rattle.g1_handles.specs.contracts.nullable_box.NullableBox as to
-use Rattle.std.specs.Prelude.{◌∷◌}
-use Rattle.g1_handles.proofs.{[], tables, plain, alive, Stays, stay_dropped, walk_of, Goes-blank, proved_at, leaves, moved}
+use Rattle.g1_handles.specs.{[], tables, reader_row as R}
+use Rattle.g1_handles.proofs.{plain, alive, Stays, stay_dropped, walk_of, Goes-blank, proved_at, leaves, moved}
 use Rattle.g1_handles.specs.contracts.member.reader_handle.ReaderHandleAnyHandle.into_nullable.{ended, clauses}
 use Rattle.g1_handles.specs.contracts.member.reader_handle.ReaderHandleAnyHandle.into_nullable.Key.{name as #self}
 use Rattle.g1_handles.proofs.member.reader_handle.ReaderHandleAnyHandle.into_nullable.Statement.{statement}

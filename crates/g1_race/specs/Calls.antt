@@ -1,0 +1,72 @@
+-- What the collector's calls at a pause do, each from one pause to the next.
+use Rattle.std.specs.Prelude.{◌≡◌, ◌≢◌}
+use Rattle.g1_race.specs.Prelude.{ℕ, Option, None, Kind, Null, region_of, target_of, IsStep}
+use Rattle.g1_race.specs.Prelude.{kind_of}
+use Rattle.g1_race.specs.Prelude.{stored, copied, store_entry, clear_entry, redirect_entry}
+use Rattle.g1_race.specs.Prelude.{Moved, Cleared}
+use Rattle.g1_core.specs.declared.reply.ClearReply.{ClearReply}
+use Rattle.g1_race.specs.Race.{word_of}
+use Rattle.g1_race.specs.Over.{Pause, table_at}
+use Rattle.g1_race.specs.Telling.{marked_cards}
+use Rattle.g1_race.specs.Evacuating.{IsSameRace, IsRefinedRace, SlotsBecome, same_word, one_word}
+use Rattle.g1_race.specs.Evacuating.{wiped_word, copied_word, plain_reply, AreAllRefined, wiped}
+use Rattle.g1_race.specs.Evacuating.{forgotten}
+use Rattle.g1_race.specs.Moving.{word_after}
+
+-- the target is stored into the slot, by a store of this kind
+pub record StoresAt (old : Pause) (slot : ℕ) (target : Option ℕ) (kind : Kind) (new : Pause)
+    : Type 0 where
+  pub race : IsSameRace old new
+  pub words : SlotsBecome (one_word slot (word_of target)) old new
+  pub kind_is : kind ≡ kind_of (table_at old) slot target
+  pub table : table_at new ≡ stored (table_at old) slot target
+  pub step : (caller : ℕ)
+      → IsStep (table_at old) (store_entry caller slot target (plain_reply kind)) (table_at new)
+
+-- data is stored into the slot, which is a store of null to the table
+pub record StoresDataAt (old : Pause) (slot word : ℕ) (new : Pause) : Type 0 where
+  pub race : IsSameRace old new
+  pub words : SlotsBecome (one_word slot word) old new
+  pub table : table_at new ≡ stored (table_at old) slot None
+  pub step : (caller : ℕ)
+      → IsStep (table_at old) (store_entry caller slot None (plain_reply Null)) (table_at new)
+
+-- as many words, from the one slot on, are copied to as many slots from the other one on
+pub record Copies (old : Pause) (from to count : ℕ) (new : Pause) : Type 0 where
+  pub race : IsSameRace old new
+  pub words : SlotsBecome (copied_word old.words from to count) old new
+  pub table : table_at new ≡ copied from to count (table_at old)
+
+-- all is refined
+pub record Refines (old new : Pause) : Type 0 where
+  pub race : IsRefinedRace old new
+  pub words : SlotsBecome same_word old new
+  pub refined : AreAllRefined (table_at old) (marked_cards old.shape old.words) (table_at new)
+
+-- a clear of the region got the reply
+pub record ClearsAt (old : Pause) (region : ℕ) (reply : ClearReply) (new : Pause) : Type 0 where
+  pub race : IsSameRace old new
+  pub words : SlotsBecome same_word old new
+  pub step : (caller : ℕ) → IsStep (table_at old) (clear_entry caller region reply) (table_at new)
+  pub refused : reply ≢ Cleared → new ≡ old
+
+-- references into the one region are moved to the other, and as many slots have changed
+pub record Redirects (old : Pause) (from to slots : ℕ) (new : Pause) : Type 0 where
+  pub race : IsRefinedRace old new
+  pub words : SlotsBecome (word_after old.shape from to) old new
+  pub step : (caller : ℕ) → let refined = marked_cards old.shape old.words in
+      IsStep (table_at old) (redirect_entry caller from to (Moved slots refined)) (table_at new)
+
+-- null is stored to each slot of the region
+pub record Wipes (old : Pause) (region : ℕ) (new : Pause) : Type 0 where
+  pub race : IsSameRace old new
+  pub words : SlotsBecome (wiped_word old.shape region) old new
+  pub table : table_at new ≡ wiped region (table_at old)
+  pub null : (slot : ℕ) → region_of old.layout slot ≡ region
+      → target_of (table_at new) slot ≡ None
+
+-- the region's cards are removed from all remembered sets
+pub record Forgets (old : Pause) (region : ℕ) (new : Pause) : Type 0 where
+  pub race : IsSameRace old new
+  pub words : SlotsBecome same_word old new
+  pub table : table_at new ≡ forgotten region (table_at old)
