@@ -11,6 +11,6 @@
 pub use g1_history::{Book, Call, Entry, Keeps, Kept, Refusal, Reply, Tallied, cards_in};
 pub use g1_shared::{Caller, Counted, Shared, SharedCore, SharedDesk, Terms};
 pub use g1_steps::{
-    Calls, Desk, FlushReply, Job, LentBook, LocalDesk, Mutator, NotStarted, Outcome, Script,
-    Step, empty_line, mutate, open_line, refine, refiner, run_crew, stand_still, work,
+    Calls, Desk, FlushReply, Job, LentBook, LocalDesk, Mutator, NotStarted, Outcome, Script, Step,
+    empty_line, mutate, open_line, refine, refiner, run_crew, stand_still, work,
 };
