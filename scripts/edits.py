@@ -148,8 +148,8 @@ class Edit:
             self.fault = "it changes no function"
 
     def around(self, crate, file, old):
-        """The innermost function that a text is in."""
-        source = crate.sources.get(file, "")
+        """The innermost function that a text is in; none where it is in a proof."""
+        source = crate.text_of(file)
         if source.count(old) != 1:
             self.fault = f"its text stands {source.count(old)} times in {file}: {old.strip()}"
         row = source[: source.find(old)].count("\n")
@@ -187,7 +187,8 @@ class Crate:
     """A crate with its sources, its functions and its edits."""
 
     def __init__(self, name, wrong=None):
-        self.name, home = name, pathlib.Path("crates", name)
+        self.name, self.home = name, pathlib.Path("crates", name)
+        home = self.home
         files = sorted((home / "src").rglob("*.rt"))
         self.sources = {str(it.relative_to(home)): it.read_text(encoding="utf-8") for it in files}
         self.functions = [it for pair in self.sources.items() for it in functions(*pair)]
@@ -199,6 +200,13 @@ class Crate:
         self.edits, self.others = edits_of(wrong or home / "wrong"), edits_of(home / "must-fail")
         # the functions of the built library, once it is there
         self.built = set()
+
+    def text_of(self, file):
+        """What a file below src, specs or proofs says; nothing where there is none."""
+        path = self.home / (file or "")
+        if file not in self.sources and path.is_file():
+            return path.read_text(encoding="utf-8")
+        return self.sources.get(file, "")
 
     @property
     def names(self):
