@@ -29,6 +29,7 @@ mod race;
 mod sets;
 mod shared;
 mod shared_core;
+mod sharing;
 
 use outcome::{Failure, told};
 use std::process::ExitCode;

@@ -2,22 +2,19 @@
 //!
 //! The heap has 4 regions of 2 cards of 4 slots: card `c` has the slots from `4 * c` on, region `r`
 //! those from `8 * r` on.
-ghost use Rattle.std.specs.Prelude.{◌≡◌, [], IfOk, IfErr};
-ghost use Rattle.g1_shared.specs.Callers.{IsCallerOf};
-ghost use Rattle.g1_shared.specs.Counts.{shared_terms};
+ghost use Rattle.std.specs.Prelude.{◌≡◌, []};
 
 mod caller;
 
 use crate::books::{Answer, Ask, Kept, new_book, settings};
 use crate::outcome::{Failure, check, refused, told};
 use crate::plans::{FLUSH, FOUR_STORES, FOUR_TO_MOVE, HELP, OPEN, Plan, ROUND, TAKE};
+use crate::sharing::{Plays, share};
 use caller::{Call, SharedCaller};
 use g1_book::{Book, Caller, Shared, Terms};
-use g1_layout::NoMemory;
 use g1_log::Log;
-use std::marker::Brand;
 use std::sync::Wait;
-use std::sync::ledger::{Blank, Ledger};
+use std::sync::ledger::Ledger;
 
 // What the caller of a shared book does at its line.
 static PLANS: [(&str, Plan); 5] = [
@@ -120,73 +117,41 @@ fn played<R: Wait + Eprint>(
 ) -> Result<Book, Failure>
     requires { (book.entries ≡ []) × (book.mutators ≡ 1) }
 {
-    let book = match shared_once(rt, book, plan, calls)? {
-        Ok(played) => return Ok(played),
-        Err(book) => book,
+    let planned = PlannedCalls { plan, calls };
+    let (book, made) = match share(rt, book, &planned)? {
+        Ok(ended) => ended,
+        Err(book) => {
+            refused(rt, "Shared::open");
+            let is_new = book.entries().is_empty() && book.mutators() == 1;
+            check(rt, is_new, "what a refused sharing left")?;
+            let Ok(ended) = share(rt, book, &planned)? else {
+                return Err(Failure::NoMemory);
+            };
+            ended
+        }
     };
-    refused(rt, "Shared::open");
-    let is_new = book.entries().is_empty() && book.mutators() == 1;
-    check(rt, is_new, "what a refused sharing left")?;
-    match shared_once(rt, book, plan, calls)? {
-        Ok(played) => Ok(played),
-        Err(_) => Err(Failure::NoMemory),
-    }
-}
-
-// Shares the book once. Where that is refused, the book is the error.
-fn shared_once<R: Wait + Eprint>(
-    rt: &R,
-    book: Book,
-    plan: &Plan,
-    calls: &[Call],
-) -> Result<Result<Book, Book>, Failure>
-    requires { (book.entries ≡ []) × (book.mutators ≡ 1) }
-    ensures { IfOk result (λ ended. IfErr ended (λ back. back ≡ book)) }
-{
-    let (made, stored) = (Blank::new(1), Blank::new(1));
-    share::<Brand, Brand, R>(rt, made, stored, book, plan, calls)
-}
-
-// Shares the book with one caller, and ends the sharing.
-fn share<M: Terms, S: Ledger, R: Wait + Eprint>(
-    rt: &R,
-    made: Blank,
-    stored: Blank,
-    book: Book,
-    plan: &Plan,
-    calls: &[Call],
-) -> Result<Result<Book, Book>, Failure>
-    requires made { (made.name ≡ M.name) × (made.parts ≡ M.parts) × (made.parts ≡ 1) }
-    requires stored { (stored.name ≡ S.name) × (stored.parts ≡ S.parts) × (stored.parts ≡ 1) }
-    requires terms { shared_terms book ≡ M.terms }
-    requires book { (book.entries ≡ []) × (book.mutators ≡ 1) }
-    ensures { IfOk result (λ ended. IfErr ended (λ back. back ≡ book)) }
-{
-    let (shared, mut callers) = match Shared::<M, S>::open(made, stored, book, 1) {
-        Ok(opened) => opened,
-        Err((book, NoMemory)) => return Ok(Err(book)),
-    };
-    let caller = by_plan(rt, &shared, callers.take_last(), plan, calls)?;
-    let calls = caller.made();
-    callers.push_reserved(caller);
-    let book = shared.finish(callers);
-    let is = book.entries().len() as u64 == calls;
+    let is = book.entries().len() as u64 == made;
     check(rt, is, "how many entries came back")?;
-    Ok(Ok(book))
+    Ok(book)
 }
 
-// The caller, once it has made the calls of the plan.
-fn by_plan<M: Terms, S: Ledger, R: Wait + Eprint>(
-    rt: &R,
-    shared: &Shared<M, S>,
-    caller: Caller<M, S>,
-    plan: &Plan,
-    calls: &[Call],
-) -> Result<Caller<M, S>, Failure>
-    requires { IsCallerOf shared.now caller }
-{
-    let mut playing = SharedCaller { shared, caller };
-    playing.play(rt, plan, calls)?;
-    let SharedCaller { shared: _, caller } = playing;
-    Ok(caller)
+// The steps of a plan, and the calls then.
+#[derive(Clone, Copy)]
+struct PlannedCalls<'a> {
+    plan: &'a Plan,
+    calls: &'a [Call],
+}
+
+impl Plays<g1_book::Kept> for PlannedCalls<'_> {
+    fn play<M: Terms, S: Ledger, R: Wait + Eprint>(
+        &self,
+        rt: &R,
+        shared: &Shared<M, S>,
+        caller: Caller<M, S>,
+    ) -> Result<Caller<M, S>, Failure> {
+        let mut playing = SharedCaller { shared, caller };
+        playing.play(rt, self.plan, self.calls)?;
+        let SharedCaller { shared: _, caller } = playing;
+        Ok(caller)
+    }
 }

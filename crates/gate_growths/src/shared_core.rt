@@ -1,20 +1,15 @@
 //! A core that is shared without a history: sharing it, and a question at its guard, take memory.
-ghost use Rattle.std.specs.Prelude.{◌≡◌, false, IfOk, IfErr};
-ghost use Rattle.g1_shared.specs.Counts.{AreNone, shared_terms};
-
 use crate::cores::steps::Step::{Refine, Store};
 use crate::cores::steps::take;
 use crate::cores::{is_left, new_core, state_of};
 use crate::numbers::{are_numbered, region};
 use crate::outcome::{Failure, check, refused};
 use crate::race::REFERENCES;
+use crate::sharing::{Plays, share};
 use g1_book::{Book, Caller, SharedCore, Tallied, Terms};
 use g1_core::{CardList, Core};
-use g1_layout::NoMemory;
-use std::alloc::Global;
-use std::marker::Brand;
 use std::sync::Wait;
-use std::sync::ledger::{Blank, Ledger};
+use std::sync::ledger::Ledger;
 
 /// A core whose three cards are recorded is shared, and asked for a region's members. It is as it
 /// was where the sharing is refused, and where it ends.
@@ -23,58 +18,37 @@ pub(crate) fn asked_and_ended<R: Wait + Eprint + AllocGlobal>(rt: &R) -> Result<
     let steps = [Store(&REFERENCES), Refine(&[0, 1, 2], &[0, 1, 2], 0)];
     take(rt, &mut core, &steps)?;
     let before = state_of(&mut core)?;
-    let mut core = match shared_once(rt, rt.alloc(), core)? {
-        Ok(core) => core,
-        Err(mut core) => {
+    let (book, made) = match share(rt, Book::over(rt.alloc(), core, 1, u64::MAX), &Asks)? {
+        Ok(ended) => ended,
+        Err(book) => {
             refused(rt, "SharedCore::open");
+            let mut core = book.into_core();
             is_left(rt, &mut core, &before, &[])?;
-            match shared_once(rt, rt.alloc(), core)? {
-                Ok(core) => core,
-                Err(_) => return Err(Failure::NoMemory),
-            }
+            let Ok(ended) = share(rt, Book::over(rt.alloc(), core, 1, u64::MAX), &Asks)? else {
+                return Err(Failure::NoMemory);
+            };
+            ended
         }
     };
-    is_left(rt, &mut core, &before, &[])
-}
-
-// Shares the core once. Where that is refused, the core is the error.
-fn shared_once<R: Wait + Eprint>(
-    rt: &R,
-    alloc: Global,
-    core: Core,
-) -> Result<Result<Core, Core>, Failure>
-    ensures { IfOk result (λ ended. IfErr ended (λ back. back ≡ core)) }
-{
-    let (made, stored) = (Blank::new(1), Blank::new(1));
-    let book = Book::over(alloc, core, 1, u64::MAX);
-    share::<Brand, Brand, R>(rt, made, stored, book)
-}
-
-// Shares the core with one caller, who asks once, and ends the sharing.
-fn share<M: Terms, S: Ledger, R: Wait + Eprint>(
-    rt: &R,
-    made: Blank,
-    stored: Blank,
-    book: Book<Tallied>,
-) -> Result<Result<Core, Core>, Failure>
-    requires made { (made.name ≡ M.name) × (made.parts ≡ M.parts) × (made.parts ≡ 1) }
-    requires stored { (stored.name ≡ S.name) × (stored.parts ≡ S.parts) × (stored.parts ≡ 1) }
-    requires terms { shared_terms book ≡ M.terms }
-    requires empty { AreNone false book }
-    requires mutators { book.mutators ≡ 1 }
-    ensures { IfOk result (λ ended. IfErr ended (λ back. back ≡ book.machine)) }
-{
-    let (shared, mut callers) = match SharedCore::<M, S>::open(made, stored, book, 1) {
-        Ok(opened) => opened,
-        Err((book, NoMemory)) => return Ok(Err(book.into_core())),
-    };
-    let mut caller = callers.take_last();
-    asked(rt, &shared, &mut caller)?;
-    callers.push_reserved(caller);
-    let book = shared.finish(callers);
-    let is_one = book.made() == 1 && book.stored() == 0;
+    let is_one = made == 1 && book.made() == 1 && book.stored() == 0;
     check(rt, is_one, "the totals of a shared core")?;
-    Ok(Ok(book.into_core()))
+    is_left(rt, &mut book.into_core(), &before, &[])
+}
+
+// The caller asks once.
+#[derive(Clone, Copy)]
+struct Asks;
+
+impl Plays<Tallied> for Asks {
+    fn play<M: Terms, S: Ledger, R: Wait + Eprint>(
+        &self,
+        rt: &R,
+        shared: &SharedCore<M, S>,
+        mut caller: Caller<M, S>,
+    ) -> Result<Caller<M, S>, Failure> {
+        asked(rt, shared, &mut caller)?;
+        Ok(caller)
+    }
 }
 
 // Asks for the members of the region that cards 0 and 2 refer into, again where that is refused,
