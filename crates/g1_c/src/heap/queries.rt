@@ -4,12 +4,14 @@ ghost use Rattle.std.specs.Prelude.{◌≡◌, ◌≢◌, ◌<◌, ◌≤◌, �
 ghost use Rattle.g1_c.specs.{take, table_at, SlotRefers, TellsPending};
 ghost use Rattle.g1_c.specs.{TellsStatus, TellsMembers, IsWritten, IsRefusal, reference_of};
 ghost use Rattle.g1_c.specs.{IsHeapRefused, IsSameHeap, HasFirst, LacksCard, LacksRegion};
-ghost use Rattle.g1_c.specs.{LacksSlot, IsNextMember, TellsRefusal, IsTold};
+ghost use Rattle.g1_c.specs.{LacksSlot, IsNextMember, IsRaceWith, IsTold};
 
 use crate::calling::on_heap;
 use crate::one_core::queries::Totals;
 use crate::tell::{tell, tell_whether};
+use g1_core::Status;
 use g1_handles::code::{DONE, NULL, Reason};
+use g1_handles::heap::at_pause::PausedHeap;
 use g1_handles::heap::handle::HeapHandle;
 use g1_handles::heap::queries::{is_pending_at, next_member_at, status_at, target_at};
 use g1_handles::heap::sets::{SetTold, Which, set_of_heap};
@@ -53,32 +55,31 @@ pub extern "C" fn g1_heap_is_pending(
 /// As in `g1.h`.
 #[unsafe(no_mangle)]
 pub extern "C" fn g1_heap_status(alloc: Global, heap: &mut HeapHandle, totals: &mut Totals) -> u32
-    ensures status { result ≡ 0 → IsSameHeap heap.old.value heap.new.value (λ old new.
-        TellsStatus (table_at old) (record {
-          pending = totals.new.pending;
-          recorded = totals.new.recorded;
-        })) }
-    ensures told { TellsRefusal 0 result heap.old.value heap.new.value
-        ((totals.new.pending ≡ 0) × (totals.new.recorded ≡ 0)) (IsHeapRefused heap.old.value
-        (λ old r. ⊥)) }
-    ensures same { heap.new.value ≡ heap.old.value }
+    ensures told { IsTold result totals.new (totals.new ≡ record { pending = 0; recorded = 0 })
+        heap.old.value heap.new.value (λ totals. IsSameHeap heap.old.value heap.new.value
+        (λ old new. TellsStatus (table_at old) (record {
+          pending = totals.pending;
+          recorded = totals.recorded;
+        })))
+        (IsHeapRefused heap.old.value (λ old r. ⊥)) }
 {
-    match on_heap!(alloc, heap, Ok(status_at())) {
-        Err(refusal) => {
-            *totals = Totals {
-                pending: 0,
-                recorded: 0,
-            };
-            refusal.word()
-        }
-        Ok(status) => {
-            *totals = Totals {
-                pending: status.pending,
-                recorded: status.recorded,
-            };
-            DONE
-        }
-    }
+    let none = Totals {
+        pending: 0,
+        recorded: 0,
+    };
+    let answer = on_heap!(alloc, heap, Ok(totals_at()));
+    tell(answer, none, totals)
+}
+
+// How much is pending and recorded at a pause.
+fn totals_at(heap: &mut PausedHeap) -> Totals
+    ensures status { TellsStatus (table_at heap.old)
+        (record { pending = result.pending; recorded = result.recorded }) }
+    ensures same { heap.new ≡ heap.old }
+    ensures kept { IsRaceWith heap.new.logs heap.old heap.new }
+{
+    let Status { pending, recorded } = status_at(heap);
+    Totals { pending, recorded }
 }
 
 /// As in `g1.h`.

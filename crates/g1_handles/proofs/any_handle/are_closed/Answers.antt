@@ -9,13 +9,12 @@ loop-i-preserved g c =
     let i = c.loop-i.invariant in
     let hs = c.loop-i.handles in
     let n = c.loop-i.i in
-    let h = c.index-handles-i.result in
     let put = c.is_closed.ensures in
     let value = g.H.AnyHandle.value in
     let below : n < length hs = omega (arith, c.loop-i-test.true, i.sized) in
     record {
       sized = length-set hs n _ ∙ i.sized;
-      same = map-set_same value hs n _ h put.same ∙ i.same;
+      same = map-set_same value hs n _ c.index-handles-i.result put.same ∙ i.same;
       closed = AllWithin-more_set hs n _ below (λ x. value x ≡ None) i.closed (put.same ∙ put.closed c.if-not-is_closed.false);
     }
 

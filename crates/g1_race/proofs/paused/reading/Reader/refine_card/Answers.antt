@@ -10,8 +10,7 @@ below c = slot_below c.args.race.now.shape c.args.card c.loop-i.i c.args.race.no
 
 pub loop-i-preserved : goal.loop-i-preserved
 loop-i-preserved c =
-    let race = c.args.race.now in
-    let k = race.shape in
+    let k = c.args.race.now.shape in
     let i = c.loop-i.invariant in
     let old = c.args.self.now.start.words in
     let mid = c.loop-i.self.start.words in
