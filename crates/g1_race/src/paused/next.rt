@@ -65,10 +65,11 @@ impl Reader {
             race.now.shape.cards from result }
         ensures same { self.new ≡ self.old }
     {
-        let cards = race.shape.cards;
+        let shape = race.shape;
+        let cards = shape.cards;
         let mut card = from;
         while card < cards {
-            let (at, place) = bit_of(race.shape, card, region);
+            let (at, place) = bit_of(shape, card, region);
             let rest = self.see(race, at) >> place;
             if rest != 0 {
                 let next = card + rest.trailing_zeros() as usize;
