@@ -123,7 +123,7 @@ impl Reader {
     {
         let _seat = &self.seat;
         let number = region.number() as usize;
-        let Some(card) = self.next_in_row(race, from as usize, number) else {
+        let Some(card) = self.next_in_row(race, from as usize, race.shape.cards, number) else {
             return None;
         };
         Some(card_at(race, card))

@@ -108,7 +108,7 @@ impl Reader {
     {
         let mut count = 0;
         let mut next = 0;
-        while let Some(card) = self.next_in_row(race, next, from) {
+        while let Some(card) = self.next_in_row(race, next, race.shape.cards, from) {
             count += self.move_on(race, card, from, to);
             next = card + 1;
         }
