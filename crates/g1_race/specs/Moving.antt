@@ -20,7 +20,7 @@ abbrev pub word_after : RaceShape → ℕ → ℕ → ℕ → ℕ → ℕ
 word_after heap from to slot word =
     if is_into heap from slot word then moved_word heap to word else word
 
--- how many of these slots, from one on, lie outside the region and refer into it
+-- how many of `count` slots at or after `first` lie outside the region and refer into it
 abbrev pub into_count : RaceShape → List ℕ → ℕ → ℕ → ℕ → ℕ
 into_count heap words region first zero = 0
 into_count heap words region first (suc count) = into_count heap words region first count
@@ -32,8 +32,8 @@ Acquires heap words from to pair =
     (p : ℕ) × (n : ℕ) × (p < heap.slots) × (get_elem? words p ≡ some n)
     × (is_into heap from p n ≡ true) × (p / heap.span ≢ to) × ((slot_card heap p, to) ≡ pair)
 
--- the references of these slots, from one on, are moved from the one region to the other, and
--- recorded for it
+-- the references of `count` slots at or after `first` are moved from the one region to the other,
+-- and recorded for it
 pub record AreMoved (heap : RaceShape) (old new : List ℕ) (from to first count : ℕ) : Type 0 where
   pub moved : (p n : ℕ) → first ≤ p → p < first + count → p < heap.slots →
       get_elem? old p ≡ some n → get_elem? new p ≡ some (word_after heap from to p n)

@@ -55,14 +55,15 @@ has_block heap words block region =
 abbrev pub block_regions : RaceShape → List ℕ → ℕ → ℕ → List ℕ
 block_regions heap words block count = cards_where (has_block heap words block) count
 
--- a card from one on, below a limit, and of none before it the test is true; or of none at all
+-- a card at or after `from`, below the limit, and of none between the two the test is true; or of
+-- none at all up to the limit
 abbrev pub SkipsNone : (ℕ → Bool) → ℕ → ℕ → Option ℕ → Type 0
 SkipsNone test limit from None = (card : ℕ) → from ≤ card → card < limit → test card ≡ false
 SkipsNone test limit from (Some card) =
     (from ≤ card) × (card < limit)
     × ((other : ℕ) → from ≤ other → other < card → test other ≡ false)
 
--- the least card from one on, below a limit, of which the test is true
+-- the least card at or after `from`, below the limit, of which the test is true
 abbrev pub IsNext : (ℕ → Bool) → ℕ → ℕ → Option ℕ → Type 0
 IsNext test limit from None = (card : ℕ) → from ≤ card → card < limit → test card ≡ false
 IsNext test limit from (Some card) =

@@ -18,7 +18,7 @@ pub(crate) enum Sought {
 }
 
 impl Reader {
-    // The least dirty card from one on.
+    // The least dirty card at or after `from`.
     pub(crate) fn next_marked(&mut self, race: &Race, from: usize) -> Option<usize>
         requires { reader_race self.old ≡ race_id race.now }
         ensures next { IsNext (is_marked race.now.shape self.old.start.words) race.now.shape.cards
@@ -35,8 +35,8 @@ impl Reader {
         None
     }
 
-    // A card from one on before which none is dirty: the first of the next eight that have their
-    // flag set, or the card itself where it is not the first of its eight.
+    // A card at or after `from` such that none between the two is dirty: the first of the next eight
+    // that have their flag set, or `from` itself where it is not the first of its eight.
     #[tactic(auto, using(crate::proofs::skips_none, crate::proofs::reader_begun))]
     fn next_flagged(&mut self, race: &Race, from: usize) -> Option<usize>
         requires { reader_race self.old ≡ race_id race.now }
@@ -55,8 +55,8 @@ impl Reader {
         }
     }
 
-    // The least card from one on that is of the region's set, or in the row of flags the least
-    // whose flag is set.
+    // The least card at or after `from` and before `end` that is of the region's set, or in the row
+    // of flags the least whose flag is set.
     #[tactic(auto, using(crate::proofs::next_past, crate::proofs::none_of_word))]
     pub(crate) fn next_in_row(
         &mut self,
@@ -86,7 +86,7 @@ impl Reader {
         None
     }
 
-    // The least of the cards from one on.
+    // The least of these cards at or after `from`.
     #[inline(always)]
     fn next_sought(&mut self, race: &Race, sought: Sought, from: usize) -> Option<usize>
         requires reader { reader_race self.old ≡ race_id race.now }

@@ -23,14 +23,15 @@ impl<R: HoldsRace> Paused<R> {
     ///
     /// Every dirty card is refined first, as in a drain, and the racers' logs are emptied. Then
     /// each slot outside `from` that refers into `from` refers to the same offset in `to`. If the
-    /// slot lies outside `to`, its card is recorded for `to`. Slots inside `from` stay, and so
-    /// do slots with data. `Moved` has
-    /// how many slots changed, and the cards that were refined, ascending.
+    /// slot lies outside `to`, its card is recorded for `to`. Slots inside `from` stay, and so do
+    /// slots with data. `Moved` has how many slots changed, and the cards that were refined,
+    /// ascending.
     ///
-    /// Once all is refined it reads a word for each 64 cards of the heap and the slots of each card
-    /// of the set of `from`. The room for the list of refined cards is asked for first, and nothing
-    /// else takes memory. Returns `NoMemory` if that room was refused: nothing has changed. A
-    /// redirect is never `Short`.
+    /// Once all is refined it reads a word for each 64 cards of the heap twice, one more for each
+    /// card of the set of `from`, that card's slots, and at most a word for each slot that changes.
+    /// The room for the list of refined cards is asked for first, and nothing else takes memory.
+    /// Returns `NoMemory` if that room was refused: nothing has changed. A redirect is never
+    /// `Short`.
     pub fn redirect(
         &mut self,
         alloc: Global,
