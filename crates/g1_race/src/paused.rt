@@ -47,7 +47,7 @@ use std::marker::Model;
 pub struct Paused<R: HoldsRace = Race> {
     pub(crate) race: R,
     pub(crate) reader: Reader,
-    // Their seats are spent: the reader has taken them in.
+    // Their seats are vacant: the reader has taken them in.
     pub(crate) racers: Vec<Racer>,
     pub(crate) sweepers: Vec<Sweeper>,
 }

@@ -36,8 +36,8 @@ impl Paused {
     {
         let shape = shape_of(layout, racers as usize + sweepers as usize);
         let (table, seat) = RaceTable::open(alloc, shape)?;
-        let racers = spent_racers(alloc, &table, racers as usize)?;
-        let sweepers = spent_sweepers(alloc, &table, sweepers as usize)?;
+        let racers = vacant_racers(alloc, &table, racers as usize)?;
+        let sweepers = vacant_sweepers(alloc, &table, sweepers as usize)?;
         let race = Race {
             table,
             layout,
@@ -81,13 +81,13 @@ impl Race {
 }
 
 // As many racers at a pause, whose logs are empty.
-fn spent_racers(alloc: Global, table: &RaceTable, count: usize) -> Result<Vec<Racer>, NoMemory>
+fn vacant_racers(alloc: Global, table: &RaceTable, count: usize) -> Result<Vec<Racer>, NoMemory>
     ensures len { IfOk result (λ racers. vec_len racers ≡ count) }
     ensures logs { IfOk result (λ racers. map racer_log racers.items ≡ replicate count []) }
 {
     let mut racers = Vec::with_capacity(alloc, count)?;
     for _i in 0..count {
-        let seat = table.spent();
+        let seat = table.vacant();
         let log = ArrayVec::new();
         racers.push(Racer { seat, log })?;
     }
@@ -95,12 +95,12 @@ fn spent_racers(alloc: Global, table: &RaceTable, count: usize) -> Result<Vec<Ra
 }
 
 // As many sweepers at a pause.
-fn spent_sweepers(alloc: Global, table: &RaceTable, count: usize) -> Result<Vec<Sweeper>, NoMemory>
+fn vacant_sweepers(alloc: Global, table: &RaceTable, count: usize) -> Result<Vec<Sweeper>, NoMemory>
     ensures { IfOk result (λ sweepers. vec_len sweepers ≡ count) }
 {
     let mut sweepers = Vec::with_capacity(alloc, count)?;
     for _i in 0..count {
-        let seat = table.spent();
+        let seat = table.vacant();
         sweepers.push(Sweeper { seat })?;
     }
     Ok(sweepers)

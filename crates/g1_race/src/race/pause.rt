@@ -114,7 +114,7 @@ fn join_racers(table: &RaceTable, pause_seat: &mut RaceSeat, racers: &mut Vec<Ra
     while left > 0 {
         left -= 1;
         let racer = &mut racers[left];
-        let seat = replace(&mut racer.seat, table.spent());
+        let seat = replace(&mut racer.seat, table.vacant());
         table.join(pause_seat, seat);
     }
 }
@@ -136,7 +136,7 @@ fn join_sweepers(table: &RaceTable, pause_seat: &mut RaceSeat, sweepers: &mut Ve
     while left > 0 {
         left -= 1;
         let sweeper = &mut sweepers[left];
-        let seat = replace(&mut sweeper.seat, table.spent());
+        let seat = replace(&mut sweeper.seat, table.vacant());
         table.join(pause_seat, seat);
     }
 }
