@@ -45,7 +45,7 @@ same_word slot word = word
 
 -- one slot's word becomes this
 abbrev pub one_word : ℕ → ℕ → ℕ → ℕ → ℕ
-one_word place new slot word = if slot == place then new else word
+one_word changed new slot word = if slot == changed then new else word
 
 -- those of the region's slots become null
 abbrev pub wiped_word : RaceShape → ℕ → ℕ → ℕ → ℕ

@@ -104,7 +104,7 @@ pub use Rattle.g1_race_words.proofs.Tallies.{tally_append, tally_in, tally_once,
 pub use Rattle.g1_race_words.proofs.Unchanged.{bounded_same, bounded_wrote, same_slots_at_mark}
 pub use Rattle.g1_race_words.specs.Begin.{Begun, Start}
 pub use Rattle.g1_race_words.specs.Rule.{AnswersFor, as_number, AtRest, BeganInto, BeganMarked}
-pub use Rattle.g1_race_words.specs.Rule.{beginning, bit_place, bit_word, Bounded, claims_at}
+pub use Rattle.g1_race_words.specs.Rule.{beginning, bit_index, bit_word, Bounded, claims_at}
 pub use Rattle.g1_race_words.specs.Rule.{claims_of, cleanings_at, cleanings_of, crosses, flag}
 pub use Rattle.g1_race_words.specs.Rule.{front, HasBit, Held, held_of, histories_of, history_count}
 pub use Rattle.g1_race_words.specs.Rule.{In, IsBegun, IsBlank, IsCrossing, IsFlagged, IsMarked}

@@ -130,12 +130,12 @@ impl Reader {
         ensures notes { Notes race.now.shape self.old.start.words self.new.start.words
             ((card, region) ∷ []) }
     {
-        let (at, place) = bit_of(race.shape, card, region);
+        let (at, index) = bit_of(race.shape, card, region);
         let found = self.see(race, at);
-        if (found >> place) & 1 == 1 {
+        if (found >> index) & 1 == 1 {
             return;
         }
-        self.put(race, at, found | (1 << place));
+        self.put(race, at, found | (1 << index));
     }
 }
 

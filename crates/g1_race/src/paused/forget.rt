@@ -80,8 +80,8 @@ impl Reader {
         ensures unset { AreUnset race.now.shape self.old.start.words self.new.start.words
             (λ x. x ≡ (card, region)) }
     {
-        let (at, place) = bit_of(race.shape, card, region);
+        let (at, index) = bit_of(race.shape, card, region);
         let found = self.see(race, at);
-        self.put(race, at, found & !(1 << place));
+        self.put(race, at, found & !(1 << index));
     }
 }

@@ -75,8 +75,8 @@ impl Reader {
         let shape = race.shape;
         let mut card = from;
         while card < end {
-            let (at, place) = bit_of(shape, card, region);
-            let rest = self.see(race, at) >> place;
+            let (at, index) = bit_of(shape, card, region);
+            let rest = self.see(race, at) >> index;
             if rest != 0 {
                 let next = card + rest.trailing_zeros() as usize;
                 return if next < end { Some(next) } else { None };

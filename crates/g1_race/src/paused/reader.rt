@@ -140,7 +140,7 @@ impl Reader {
         ensures set { IsTrue result ↔ HasBit race.now.shape self.old.start.words (card, region) }
         ensures same { self.new ≡ self.old }
     {
-        let (at, place) = bit_of(race.shape, card, region);
-        (self.see(race, at) >> place) & 1 == 1
+        let (at, index) = bit_of(race.shape, card, region);
+        (self.see(race, at) >> index) & 1 == 1
     }
 }

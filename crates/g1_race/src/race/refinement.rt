@@ -121,10 +121,10 @@ fn record_pair(race: &Race, seat: &mut RaceSeat, card: usize, region: usize)
     ensures seat { seat.new.me ≡ (recorded seat.old.me.0, seat.old.me.1) }
 {
     let words = &race.table;
-    let (at, place) = bit_of(race.shape, card, region);
+    let (at, index) = bit_of(race.shape, card, region);
     let found = words.seek(seat, at);
-    if (found >> place) & 1 == 1 {
+    if (found >> index) & 1 == 1 {
         return;
     }
-    words.record(seat, at, place);
+    words.record(seat, at, index);
 }
