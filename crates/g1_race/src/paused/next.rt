@@ -35,7 +35,7 @@ impl Reader {
         None
     }
 
-    // A card at or after `from` such that none between the two is dirty: the first of the next eight
+    // A card at or after `from`, and none between the two is dirty: the first of the next eight
     // that have their flag set, or `from` itself where it is not the first of its eight.
     #[tactic(auto, using(crate::proofs::skips_none, crate::proofs::reader_begun))]
     fn next_flagged(&mut self, race: &Race, from: usize) -> Option<usize>

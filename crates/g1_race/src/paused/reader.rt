@@ -16,8 +16,8 @@ use g1_layout::{Card, NoMemory, Region, Slot};
 use std::alloc::Global;
 
 impl Reader {
-    /// Returns what a slot refers to, as [`Paused::target`] does. The reader and the slot must be of
-    /// this race.
+    /// Returns what a slot refers to, as [`Paused::target`] does. The reader and the slot must be
+    /// of this race.
     ///
     /// [`Paused::target`]: crate::Paused::target
     pub fn target(&mut self, race: &Race, slot: Slot) -> Option<Slot>
@@ -48,7 +48,8 @@ impl Reader {
         self.see(race, race.shape.slots + card.number() as usize) == 1
     }
 
-    /// Returns whether a pair is recorded, as [`Paused::has`] does. The reader must be of this race.
+    /// Returns whether a pair is recorded, as [`Paused::has`] does. The reader must be of this
+    /// race.
     ///
     /// [`Paused::has`]: crate::Paused::has
     pub fn has(&mut self, race: &Race, card: Card, region: Region) -> bool

@@ -29,8 +29,8 @@ impl Race {
     ///   beginning. Its card lies outside its region.
     /// - A slot that refers into another region has its card dirty or its pair recorded.
     ///
-    /// Takes no memory and copies no word. It makes two loads, and two for each member; nothing uses
-    /// their values. Each log stays where it is, in its racer.
+    /// Takes no memory and copies no word. It makes two loads, and two for each member; nothing
+    /// uses their values. Each log stays where it is, in its racer.
     pub fn pause(self, racers: Vec<Racer>, sweepers: Vec<Sweeper>) -> Paused
         requires racers { (vec_len racers + vec_len sweepers ≡ (race_shape self).members)
             × All (λ r. racer_race r ≡ race_id self) racers.items }
