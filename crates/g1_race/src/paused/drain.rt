@@ -4,7 +4,7 @@ ghost use Rattle.g1_race.specs.{ℕ, [], IfOk, OnErr, length, map, replicate, ve
 ghost use Rattle.g1_race.specs.{IsStrictlyIncreasing, slot_count, card_count, IsStep, drain_cards};
 ghost use Rattle.g1_race.specs.{drain_entry, drain_refined, IsOfCrossing, IsWord, slot_card};
 ghost use Rattle.g1_race.specs.{pair_at, racer_log, table_at, Notes, RefinesCard, AreRefined};
-ghost use Rattle.g1_race.specs.{AreUnflagged, SlotsBecome, same_word, IsRefinedRace, IsWhole};
+ghost use Rattle.g1_race.specs.{AreUnflagged, IsWhole};
 ghost use Rattle.g1_race.specs.{IsExactAtPause, IsPauseReader, Refines};
 
 use crate::bits::bit_of;
@@ -31,8 +31,7 @@ impl<R: HoldsRace> Paused<R> {
     #[tactic(auto, using(crate::proofs::members_room))]
     pub fn drain(&mut self, alloc: Global, region: Region) -> Result<Drained, NoMemory>
         requires { region < self.old.layout.regions }
-        ensures race { IfOk result (λ answer. IsRefinedRace self.old self.new) }
-        ensures words { IfOk result (λ answer. SlotsBecome same_word self.old self.new) }
+        ensures refines { IfOk result (λ answer. Refines self.old self.new) }
         ensures whole { IfOk result IsWhole }
         ensures few { IfOk result (λ answer.
             length (drain_cards answer) ≤ card_count self.old.layout) }
