@@ -1,6 +1,6 @@
 //! Concurrent refinement, which races with stores.
 ghost use Rattle.std.specs.Prelude.{◌≡◌, ◌+◌, ◌-◌, ◌*◌, ◌<◌, ◌∷◌, if◌then◌else◌};
-ghost use Rattle.g1_race.specs.Prelude.{[], OnOk, OnErr, length, IsPair, IsWord, slot_card};
+ghost use Rattle.g1_race.specs.Prelude.{[], length, IsPair, IsWord, slot_card};
 ghost use Rattle.g1_race.specs.Prelude.{start_of, pair_at, recorded, slot_count, card_count};
 ghost use Rattle.std.specs.Result.{IsOk};
 ghost use Rattle.g1_race.specs.Members.{race_id, race_layout, sweeper_race, sweeper_start};
@@ -37,9 +37,7 @@ impl Sweeper {
         ensures done { IsOk result }
         ensures race { sweeper_race self.new ≡ sweeper_race self.old }
         ensures start { sweeper_start self.new ≡ sweeper_start self.old }
-        ensures swept { OnOk result
-            ((sweeper_view self.new).swept ≡ card ∷ (sweeper_view self.old).swept) }
-        ensures refused { OnErr result (sweeper_view self.new ≡ sweeper_view self.old) }
+        ensures swept { (sweeper_view self.new).swept ≡ card ∷ (sweeper_view self.old).swept }
     {
         let _swept = self.sweep(race, card);
         Ok(())
