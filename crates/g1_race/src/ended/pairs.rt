@@ -113,14 +113,14 @@ fn list_card(
 {
     for region in regions {
         if has_bit(words, shape, card, *region) {
-            pairs.push(pair_at(layout, shape, card, *region))?;
+            pairs.push(pair_numbered(layout, shape, card, *region))?;
         }
     }
     Ok(())
 }
 
 // The pair with these numbers.
-fn pair_at(layout: Layout, shape: RaceShape, card: usize, region: usize) -> (Card, Region)
+fn pair_numbered(layout: Layout, shape: RaceShape, card: usize, region: usize) -> (Card, Region)
     requires shape { IsWholeShape shape }
     requires laid { shape ≡ shape_of layout shape.members }
     requires pair { IsPair shape (card, region) }

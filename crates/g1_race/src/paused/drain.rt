@@ -12,7 +12,7 @@ use crate::paused::Paused;
 use crate::paused::holds::HoldsRace;
 use crate::paused::reading::Reader;
 use crate::race::{Race, Racer};
-use crate::word::pair_of;
+use crate::word::pair_at;
 use g1_core::{CardList, Drained};
 use g1_layout::{NoMemory, Region};
 use std::alloc::Global;
@@ -44,7 +44,7 @@ impl<R: HoldsRace> Paused<R> {
         ensures err { OnErr result (self.new ≡ self.old) }
     {
         let refined = self.dirty_cards(alloc)?;
-        let room = self.member_count(region) + refined.len();
+        let room = self.set_len(region) + refined.len();
         let mut cards = Vec::with_capacity(alloc, room)?;
         self.refine_all();
         self.gather(region, &mut cards);
@@ -112,7 +112,7 @@ impl Reader {
         ensures notes { Notes race.now.shape self.old.start.words self.new.start.words
             (pair_at race.now.shape slot word) }
     {
-        if let Some((card, region)) = pair_of(race, card, slot, word) {
+        if let Some((card, region)) = pair_at(race, card, slot, word) {
             self.set_bit(race, card, region);
         }
     }

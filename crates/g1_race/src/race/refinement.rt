@@ -8,7 +8,7 @@ ghost use Rattle.g1_race.specs.Members.{sweeper_view, IsSweeperSeat, Recording, 
 
 use crate::bits::bit_of;
 use crate::race::{Race, Sweeper};
-use crate::word::pair_of;
+use crate::word::pair_at;
 use g1_layout::{Card, NoMemory};
 use g1_race_words::RaceSeat;
 
@@ -104,7 +104,7 @@ fn note_slot(race: &Race, seat: &mut RaceSeat, card: usize, slot: usize, word: u
     ensures seat { seat.new.me ≡ (recorded seat.old.me.0, seat.old.me.1) }
     ensures pairs { length (pair_at race.now.shape slot word) ≡ (if result then 1 else 0) }
 {
-    let Some((card, region)) = pair_of(race, card, slot, word) else {
+    let Some((card, region)) = pair_at(race, card, slot, word) else {
         return false;
     };
     record_pair(race, seat, card, region);
