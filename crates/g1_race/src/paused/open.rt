@@ -2,7 +2,8 @@
 ghost use Rattle.std.specs.Prelude.{◌≡◌, ◌+◌, ◌≤◌};
 ghost use Rattle.g1_race.specs.{[], IfOk, replicate, map, vec_len, opening, IsWholeShape, null_of};
 ghost use Rattle.g1_race.specs.{shape_of, table_at, start_at, race_layout, race_shape, racer_log};
-ghost use Rattle.g1_race.specs.{AreFreshRacers, AreFreshSweepers, HaveBegun, HaveBegunWith};
+ghost use Rattle.g1_race.specs.{AreFreshRacers, AreFreshSweepers, HaveBegun, HaveBegunWith, All};
+ghost use Rattle.g1_race.specs.{race_id, racer_race, sweeper_race};
 
 use crate::paused::Paused;
 use crate::paused::reading::Reader;
@@ -74,6 +75,10 @@ impl Race {
         ensures began { IfOk result (λ r. HaveBegunWith (opening layout) r.0 r.1 r.2) }
         ensures racers { IfOk result (λ r. AreFreshRacers r.0 racers r.1) }
         ensures sweepers { IfOk result (λ r. AreFreshSweepers r.0 sweepers r.2) }
+        ensures all_racers { IfOk result (λ r.
+            All (λ x. racer_race x ≡ race_id r.0) r.1.items) }
+        ensures all_sweepers { IfOk result (λ r.
+            All (λ x. sweeper_race x ≡ race_id r.0) r.2.items) }
     {
         let paused = Paused::open(alloc, layout, racers, sweepers)?;
         Ok(paused.resume())
