@@ -977,7 +977,9 @@ uint32_t g1_heap_wipe(struct g1_heap *heap, uint32_t region);
  * Removes the cards of a region from the remembered sets of all regions, once no slot of the region
  * refers out of it, as after g1_heap_wipe. Later drains return no card of the region until one is
  * stored to. Cards that are dirty stay dirty, so a clear that follows needs a g1_heap_refine first.
- * It takes no memory, and reads the slots of the region.
+ * It takes no memory. It reads each slot of the region, and in the set of each region the words
+ * with the bits of the region's cards, 64 to a word, and at most two words more for each card that
+ * it removes there.
  *
  * Returns:
  *   - G1_DONE.

@@ -1,6 +1,6 @@
 -- The pairs of a card with the regions that have some card of its block.
 use Rattle.std.specs.Prelude.{◌≡◌, ◌/◌, ◌<◌, ◌∷◌, ◌++◌}
-use Rattle.g1_race.specs.{not-false, ℕ, zero, suc, false, List, [], Contains, length, get_or, refl, sym, ap, ◌∙◌, subst, inl, inr, arith, bit_at, flat_map, cases_Bool, eqb-true, append-nil, Contains-get_or, bit_at-zero, RaceShape, bit_place, bit_word, pairs_of_card, block_regions, has_block, one_pair, pair_clear}
+use Rattle.g1_race.specs.{not-false, ℕ, zero, suc, false, List, [], Contains, length, get_or, refl, sym, ap, ◌∙◌, subst, inl, inr, arith, bit_at, flat_map, cases_Bool, eqb-true, append-nil, Contains-get_or, bit_at-zero, RaceShape, bit_index, bit_word, pairs_of_card, block_regions, has_block, one_pair, pair_clear}
 use Rattle.std.proofs.lemmas.Grind.{flat_map-append}
 use Rattle.g1_race.proofs.Telling.{left_out, listed_below, put_in}
 
@@ -16,7 +16,7 @@ module _ (k : RaceShape) (words : List ℕ) (card : ℕ) where
   none_in : (r : ℕ) → has_block k words (card / 64) r ≡ false → one_pair k words (card, r) ≡ []
   none_in r e = pair_clear k words (card, r) (λ b.
       let zero_word : get_or words (bit_word k (card, r)) 0 ≡ 0 = eqb-true _ 0 (not-false _ e) in
-      let z : 0 ≡ 1 = sym (ap (λ (n : ℕ). bit_at n (bit_place k (card, r))) zero_word ∙ bit_at-zero (bit_place k (card, r))) ∙ b in
+      let z : 0 ≡ 1 = sym (ap (λ (n : ℕ). bit_at n (bit_index k (card, r))) zero_word ∙ bit_at-zero (bit_index k (card, r))) ∙ b in
       omega (arith, z))
 
   pub all_regions : (n : ℕ) → with_regions (block_regions k words (card / 64) n) ≡ pairs_of_card k words card n

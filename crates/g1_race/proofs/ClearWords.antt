@@ -1,6 +1,6 @@
 -- What a clear at a pause reads and does.
 use Rattle.std.specs.Prelude.{◌≡◌, ◌≢◌, ◌+◌, ◌-◌, ◌*◌, ◌/◌, ◌<◌, ◌≤◌}
-use Rattle.g1_race.specs.{ℕ, not, eqb, List, length, set, get_or, length-set, eq-eqb, Some, None, refl, sym, ap, ◌∙◌, subst, inl, inr, arith, some, get_elem?, cases_eq, eqb-true, not-false, take-set-le, get_or-set_same, get_or-set_other, div-mul-add, bit_at, set_else, Enters, Table, clear_entry, RaceShape, IsBegun, IsWholeShape, HasBit, bit_word, bit_place, slot_card, flag, front, mark_word, word_count, region_at, started, shape_of, ended, table_of, Clear, Cleared, Pending, StillReferenced, IsStep, settled, refined_none, none_refinable, Into, IsLeastInto, IsEmptied, marked_cards, no_bit, at_take, at_untake, reads_as, crosses_reference, card_in_row, crossing_pair, in_row, flag_card, word_in_row}
+use Rattle.g1_race.specs.{ℕ, not, eqb, List, length, set, get_or, length-set, eq-eqb, Some, None, refl, sym, ap, ◌∙◌, subst, inl, inr, arith, some, get_elem?, cases_eq, eqb-true, not-false, take-set-le, get_or-set_same, get_or-set_other, div-mul-add, bit_at, set_else, Enters, Table, clear_entry, RaceShape, IsBegun, IsWholeShape, HasBit, bit_word, bit_index, slot_card, flag, front, mark_word, word_count, region_at, started, shape_of, ended, table_of, Clear, Cleared, Pending, StillReferenced, IsStep, settled, refined_none, none_refinable, Into, IsLeastInto, IsEmptied, marked_cards, no_bit, at_take, at_untake, reads_as, crosses_reference, card_in_row, crossing_pair, in_row, flag_card, word_in_row}
 use Rattle.std.specs.FinSet as fin
 use Rattle.g1_layout.specs.Shape as layout
 use Rattle.g1_core.specs.declared.entry.Reply.TheVariants as reply
@@ -44,7 +44,7 @@ module _ (k : RaceShape) (words : List ℕ) (region i : ℕ) (h : IsBegun (start
   same_word x ne = get_or-set_other words (row_word k region i) (bit_word k x) 0 0 ne
 
   bit_on : (x : ℕ × ℕ) → bit_word k x ≢ row_word k region i → HasBit k words x → HasBit k less x
-  bit_on x ne b = ap (λ (n : ℕ). bit_at n (bit_place k x)) (same_word x ne) ∙ b
+  bit_on x ne b = ap (λ (n : ℕ). bit_at n (bit_index k x)) (same_word x ne) ∙ b
 
   gone : (x : ℕ × ℕ) → bit_word k x ≡ row_word k region i → HasBit k less x → ⊥
   gone x e = no_bit k less x (ap (λ (j : ℕ). get_or less j 0) e ∙ get_or-set_same words (row_word k region i) 0 0 (omega (arith, h.sized, row_below k region i h.shaped lt below)))
@@ -52,7 +52,7 @@ module _ (k : RaceShape) (words : List ℕ) (region i : ℕ) (h : IsBegun (start
   bit_back : (x : ℕ × ℕ) → HasBit k less x → HasBit k words x
   bit_back x b = elim (cases_eq (bit_word k x) (row_word k region i)) [
     | inl e ↦ absurd (gone x e b)
-    | inr ne ↦ ap (λ (n : ℕ). bit_at n (bit_place k x)) (sym (same_word x ne)) ∙ b
+    | inr ne ↦ ap (λ (n : ℕ). bit_at n (bit_index k x)) (sym (same_word x ne)) ∙ b
   ]
 
   pub begun_emptied : ((p : ℕ) → Into k words region p → ⊥) → (region ≡ k.regions → (c : ℕ) → c < k.cards → get_elem? words (mark_word k c) ≡ some 1 → ⊥) → IsBegun (started k less)

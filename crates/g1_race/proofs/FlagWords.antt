@@ -1,6 +1,6 @@
 -- The cards' flags at a pause.
 use Rattle.std.specs.Prelude.{◌≡◌, ◌≢◌, ◌+◌, ◌*◌, ◌/◌, ◌%◌, ◌<◌, ◌≤◌, ◌++◌, ◌∷◌}
-use Rattle.g1_race.specs.{cases_eq, ℕ, zero, suc, List, [], Option, false, Some, None, refl, sym, ap, ◌∙◌, subst, inl, inr, ⊎_elim, arith, eq-eqb, some, get_elem?, bit_at, slice_index, cases_Bool, cases_lt, true≢false, RaceShape, HasBit, In, IsBegun, IsPair, IsWholeShape, bit_place, bit_word, flag, front, mark_word, pairs_of_card, pairs_up_to, started, ended, IsEmptied, AreRefined, AreUnflagged, Notes, Acquires, AreMovedAway, IsNext, SkipsNone, is_marked, is_member, flag_card, card_in_row, one_pair, pair_clear, pair_set, take_at, take_same}
+use Rattle.g1_race.specs.{cases_eq, ℕ, zero, suc, List, [], Option, false, Some, None, refl, sym, ap, ◌∙◌, subst, inl, inr, ⊎_elim, arith, eq-eqb, some, get_elem?, bit_at, slice_index, cases_Bool, cases_lt, true≢false, RaceShape, HasBit, In, IsBegun, IsPair, IsWholeShape, bit_index, bit_word, flag, front, mark_word, pairs_of_card, pairs_up_to, started, ended, IsEmptied, AreRefined, AreUnflagged, Notes, Acquires, AreMovedAway, IsNext, SkipsNone, is_marked, is_member, flag_card, card_in_row, one_pair, pair_clear, pair_set, take_at, take_same}
 use Rattle.g1_layout.specs.Shape as layout
 use Rattle.g1_race.proofs.NextCards.{mark_is, mark_is_not, marked_word}
 
@@ -49,7 +49,7 @@ flag_only k old new c notes x pair b = ⊎_elim (λ (o : HasBit k old x). o) (λ
 -- words with the same bits of pairs have the same pairs
 module _ (k : RaceShape) (old new : List ℕ) (on : (x : ℕ × ℕ) → IsPair k x → HasBit k old x → HasBit k new x) (back : (x : ℕ × ℕ) → IsPair k x → HasBit k new x → HasBit k old x) where
   one_same : (x : ℕ × ℕ) → IsPair k x → one_pair k new x ≡ one_pair k old x
-  one_same x pair = elim (cases_eq (bit_at (slice_index old (bit_word k x)) (bit_place k x)) 1) [
+  one_same x pair = elim (cases_eq (bit_at (slice_index old (bit_word k x)) (bit_index k x)) 1) [
     | inl b ↦ pair_set k new x (on x pair b) ∙ sym (pair_set k old x b)
     | inr ne ↦ pair_clear k new x (λ b. ne (back x pair b)) ∙ sym (pair_clear k old x ne)
   ]

@@ -1,12 +1,12 @@
 -- Bits of pairs that are cleared, row by row.
 use Rattle.std.specs.Prelude.{◌≡◌, ◌⊎◌, ◌+◌, ◌*◌, ◌/◌, ◌%◌, ◌^◌, ◌<◌, ◌≤◌}
-use Rattle.g1_race.specs.{ℕ, true, false, List, set, get_or, bit_and, w64, length-set, sym, ap, ◌∙◌, subst, inl, inr, arith, eq-eqb, some, get_elem?, bit_at, bit_not, cases_eq, cases_lt, true≢false, get_or-set_same, get_or-set_other, take-set-le, bit_at_clear_same, bit_at_clear_other, set_else, RaceShape, IsBegun, IsPair, HasBit, bit_place, bit_word, slot_card, crosses, flag, front, region_at, started, AreUnset, is_member, reads_as, bit_apart, crossing_pair, bit_below, flag_card}
+use Rattle.g1_race.specs.{ℕ, true, false, List, set, get_or, bit_and, w64, length-set, sym, ap, ◌∙◌, subst, inl, inr, arith, eq-eqb, some, get_elem?, bit_at, bit_not, cases_eq, cases_lt, true≢false, get_or-set_same, get_or-set_other, take-set-le, bit_at_clear_same, bit_at_clear_other, set_else, RaceShape, IsBegun, IsPair, HasBit, bit_index, bit_word, slot_card, crosses, flag, front, region_at, started, AreUnset, is_member, reads_as, bit_apart, crossing_pair, bit_below, flag_card}
 use Rattle.g1_race.proofs.AtPause.{begun_front}
 use Rattle.g1_race.proofs.FlagWords.{front_at}
 
 module _ (k : RaceShape) (words : List ℕ) (x : ℕ × ℕ) where
   abbrev pub without_bit : ℕ
-  without_bit = bit_and (get_or words (bit_word k x) 0) (bit_not w64 (1 * 2 ^ bit_place k x % 2 ^ 64))
+  without_bit = bit_and (get_or words (bit_word k x) 0) (bit_not w64 (1 * 2 ^ bit_index k x % 2 ^ 64))
 
   abbrev pub without : List ℕ
   without = set words (bit_word k x) without_bit
@@ -15,20 +15,20 @@ module _ (k : RaceShape) (words : List ℕ) (x : ℕ × ℕ) where
     there : (y : ℕ × ℕ) → bit_word k y ≡ bit_word k x → get_or without (bit_word k y) 0 ≡ without_bit
     there y e = ap (λ (i : ℕ). get_or without i 0) e ∙ get_or-set_same words (bit_word k x) without_bit 0 (omega (arith, h.sized, bit_below k x h.shaped pair.0 (omega (arith, pair.1))))
 
-    low : (y : ℕ × ℕ) → bit_place k y < 64
+    low : (y : ℕ × ℕ) → bit_index k y < 64
     low y = omega arith
 
-    same_place : (y : ℕ × ℕ) → bit_word k y ≡ bit_word k x → bit_place k y ≡ bit_place k x → HasBit k without y → ⊥
-    same_place y e f b = absurd (let z : bit_at (get_or without (bit_word k y) 0) (bit_place k y) ≡ 0 = ap (λ (n : ℕ). bit_at n (bit_place k y)) (there y e) ∙ (ap (bit_at without_bit) f ∙ bit_at_clear_same w64 (get_or words (bit_word k x) 0) (bit_place k x) (low x)) in let o : bit_at (get_or without (bit_word k y) 0) (bit_place k y) ≡ 1 = b in omega (arith, z, o))
+    same_place : (y : ℕ × ℕ) → bit_word k y ≡ bit_word k x → bit_index k y ≡ bit_index k x → HasBit k without y → ⊥
+    same_place y e f b = absurd (let z : bit_at (get_or without (bit_word k y) 0) (bit_index k y) ≡ 0 = ap (λ (n : ℕ). bit_at n (bit_index k y)) (there y e) ∙ (ap (bit_at without_bit) f ∙ bit_at_clear_same w64 (get_or words (bit_word k x) 0) (bit_index k x) (low x)) in let o : bit_at (get_or without (bit_word k y) 0) (bit_index k y) ≡ 1 = b in omega (arith, z, o))
 
     -- another pair's bit is as it was
-    bit_cases : (y : ℕ × ℕ) → ((bit_word k y ≡ bit_word k x) × (bit_place k y ≡ bit_place k x)) ⊎ (bit_at (get_or without (bit_word k y) 0) (bit_place k y) ≡ bit_at (get_or words (bit_word k y) 0) (bit_place k y))
+    bit_cases : (y : ℕ × ℕ) → ((bit_word k y ≡ bit_word k x) × (bit_index k y ≡ bit_index k x)) ⊎ (bit_at (get_or without (bit_word k y) 0) (bit_index k y) ≡ bit_at (get_or words (bit_word k y) 0) (bit_index k y))
     bit_cases y = elim (cases_eq (bit_word k y) (bit_word k x)) [
-      | inl e ↦ elim (cases_eq (bit_place k y) (bit_place k x)) [
+      | inl e ↦ elim (cases_eq (bit_index k y) (bit_index k x)) [
         | inl f ↦ inl (e, f)
-        | inr apart ↦ inr (ap (λ (n : ℕ). bit_at n (bit_place k y)) (there y e) ∙ (bit_at_clear_other w64 (get_or words (bit_word k x) 0) (bit_place k x) (low x) (bit_place k y) (low y) apart ∙ ap (λ (i : ℕ). bit_at (get_or words i 0) (bit_place k y)) (sym e)))
+        | inr apart ↦ inr (ap (λ (n : ℕ). bit_at n (bit_index k y)) (there y e) ∙ (bit_at_clear_other w64 (get_or words (bit_word k x) 0) (bit_index k x) (low x) (bit_index k y) (low y) apart ∙ ap (λ (i : ℕ). bit_at (get_or words i 0) (bit_index k y)) (sym e)))
       ]
-      | inr apart ↦ inr (ap (λ (n : ℕ). bit_at n (bit_place k y)) (get_or-set_other words (bit_word k x) (bit_word k y) without_bit 0 apart))
+      | inr apart ↦ inr (ap (λ (n : ℕ). bit_at n (bit_index k y)) (get_or-set_other words (bit_word k x) (bit_word k y) without_bit 0 apart))
     ]
 
     stays : (y : ℕ × ℕ) → y.0 < k.cards → (x ≡ y → ⊥) → HasBit k words y → HasBit k without y
@@ -47,12 +47,12 @@ module _ (k : RaceShape) (words : List ℕ) (x : ℕ × ℕ) where
       front = take-set-le (k.slots + k.cards) words (bit_word k x) without_bit (let m : ℕ = x.1 * k.row + x.0 / 64 in let goal : k.slots + k.cards ≤ k.slots + k.cards + m = omega arith in goal);
       kept = λ y py never b. stays y py.0 (λ e. never (sym e)) b;
       only = λ y py b. back y b;
-      clear = λ y py e b. same_place y (ap (bit_word k) e) (ap (bit_place k) e) b;
+      clear = λ y py e b. same_place y (ap (bit_word k) e) (ap (bit_index k) e) b;
     }
 
 -- the word as the call writes it, over the words that it read
-pub without_found : (k : RaceShape) (words seen : List ℕ) (x : ℕ × ℕ) (at place found : ℕ) → seen ≡ words → at ≡ bit_word k x → place ≡ bit_place k x → get_elem? words at ≡ some found → set seen at (bit_and found (bit_not w64 (1 * 2 ^ place % 2 ^ 64))) ≡ without k words x
-without_found k words seen x at place found same e f here = λ i. set (same i) (e i) (bit_and ((sym (reads_as words at found 0 here) ∙ ap (λ (j : ℕ). get_or words j 0) e) i) (bit_not w64 (1 * 2 ^ f i % 2 ^ 64)))
+pub without_found : (k : RaceShape) (words seen : List ℕ) (x : ℕ × ℕ) (at index found : ℕ) → seen ≡ words → at ≡ bit_word k x → index ≡ bit_index k x → get_elem? words at ≡ some found → set seen at (bit_and found (bit_not w64 (1 * 2 ^ index % 2 ^ 64))) ≡ without k words x
+without_found k words seen x at index found same e f here = λ i. set (same i) (e i) (bit_and ((sym (reads_as words at found 0 here) ∙ ap (λ (j : ℕ). get_or words j 0) e) i) (bit_not w64 (1 * 2 ^ f i % 2 ^ 64)))
 
 -- a slot's word among words with the same front
 pub slot_back : (k : RaceShape) (old new : List ℕ) (p n : ℕ) → front k new ≡ front k old → p < k.slots → get_elem? new p ≡ some n → get_elem? old p ≡ some n

@@ -1,6 +1,6 @@
 -- The next card of a row of bits, in a word that was read.
 use Rattle.std.specs.Prelude.{◌≡◌, ◌≢◌, ◌+◌, ◌-◌, ◌*◌, ◌/◌, ◌%◌, ◌^◌, ◌<◌, ◌≤◌}
-use Rattle.g1_race.specs.{ℕ, true, false, List, Some, None, get_or, w64, refl, sym, ap, ◌∙◌, inl, inr, ⊎_elim, arith, eq-eqb, ne_eqb, some, get_elem?, bit_at, trailing_zeros, div-div-eq-div-mul, div-le_self, mul-le-mul_left, cases_lt, true≢false, pow-add, bit_at_above, bit_at-zero, bit_at-trailing_zeros, RaceShape, IsBegun, IsWholeShape, bit_place, bit_word, mark_word, started, IsNext, is_marked, is_member, reads_as}
+use Rattle.g1_race.specs.{ℕ, true, false, List, Some, None, get_or, w64, refl, sym, ap, ◌∙◌, inl, inr, ⊎_elim, arith, eq-eqb, ne_eqb, some, get_elem?, bit_at, trailing_zeros, div-div-eq-div-mul, div-le_self, mul-le-mul_left, cases_lt, true≢false, pow-add, bit_at_above, bit_at-zero, bit_at-trailing_zeros, RaceShape, IsBegun, IsWholeShape, bit_index, bit_word, mark_word, started, IsNext, is_marked, is_member, reads_as}
 
 -- a card whose mark was read
 pub mark_is : (k : RaceShape) (words : List ℕ) (card n : ℕ) → get_elem? words (mark_word k card) ≡ some n → n ≡ 1 → is_marked k words card ≡ true
@@ -27,22 +27,22 @@ bit_after : (n p i : ℕ) → bit_at (n / 2 ^ p) i ≡ bit_at n (p + i)
 bit_after n p i = ap (λ (m : ℕ). m % 2) (div-div-eq-div-mul n (2 ^ p) (2 ^ i) ∙ ap (λ (m : ℕ). n / m) (sym (pow-add 2 p i)))
 
 -- what a walk along a row knows that has found no card before this one, and reads its word
-module _ (k : RaceShape) {words read : List ℕ} (same : read ≡ words) (from card region at place found : ℕ) (e : at ≡ bit_word k (card, region)) (f : place ≡ bit_place k (card, region)) (there : get_elem? read at ≡ some found)
+module _ (k : RaceShape) {words read : List ℕ} (same : read ≡ words) (from card region at index found : ℕ) (e : at ≡ bit_word k (card, region)) (f : index ≡ bit_index k (card, region)) (there : get_elem? read at ≡ some found)
     (none : (x : ℕ) → from ≤ x → x < card → is_member k words region x ≡ false) where
   abbrev rest : ℕ
-  rest = found / 2 ^ place
+  rest = found / 2 ^ index
 
-  member_bit : (i x : ℕ) → x ≡ card + i → place + i < 64 → bit_at (get_or words (bit_word k (x, region)) 0) (bit_place k (x, region)) ≡ bit_at rest i
+  member_bit : (i x : ℕ) → x ≡ card + i → index + i < 64 → bit_at (get_or words (bit_word k (x, region)) 0) (bit_index k (x, region)) ≡ bit_at rest i
   member_bit i x is lt =
       let word : bit_word k (x, region) ≡ at = ap (λ (m : ℕ). k.slots + k.cards + (region * k.row + m)) (let q : x / 64 ≡ card / 64 = omega (arith, f) in q) ∙ sym e in
       ap (λ (n : ℕ). bit_at n (x % 64)) (ap (λ (j : ℕ). get_or words j 0) word ∙ (ap (λ (l : List ℕ). get_or l at 0) (sym same) ∙ reads_as read at found 0 there))
-      ∙ (ap (λ (j : ℕ). bit_at found j) (let low : x % 64 ≡ place + i = omega (arith, f) in low) ∙ sym (bit_after found place i))
+      ∙ (ap (λ (j : ℕ). bit_at found j) (let low : x % 64 ≡ index + i = omega (arith, f) in low) ∙ sym (bit_after found index i))
 
-  not_member : (i x : ℕ) → x ≡ card + i → place + i < 64 → bit_at rest i ≡ 0 → is_member k words region x ≡ false
+  not_member : (i x : ℕ) → x ≡ card + i → index + i < 64 → bit_at rest i ≡ 0 → is_member k words region x ≡ false
   not_member i x is lt z = ne_eqb _ 1 (λ o. absurd (let a : 0 ≡ 1 = sym z ∙ (sym (member_bit i x is lt) ∙ o) in omega arith))
 
   pub none_of_word : rest ≡ 0 → (x : ℕ) → from ≤ x → x < (card / 64 + 1) * 64 → is_member k words region x ≡ false
-  none_of_word zero x low lt = let p : place ≡ card % 64 = f in elim (cases_lt x card) [
+  none_of_word zero x low lt = let p : index ≡ card % 64 = f in elim (cases_lt x card) [
     | inl before ↦ none x low before
     | inr le ↦ not_member (x - card) x (omega arith) (omega arith) (ap (λ (n : ℕ). bit_at n (x - card)) zero ∙ bit_at-zero (x - card))
   ]
@@ -52,12 +52,12 @@ module _ (k : RaceShape) {words read : List ℕ} (same : read ≡ words) (from c
     tz = trailing_zeros w64 rest
 
     zeros : (tz < 64) × (bit_at rest tz ≡ 1) × ((i : ℕ) → i < tz → bit_at rest i ≡ 0)
-    zeros = bit_at-trailing_zeros w64 rest (let r : ℕ = rest in let ne : r ≢ 0 = some_left in let goal : 0 < r = omega arith in goal) (omega (arith, div-le_self found (2 ^ place)))
+    zeros = bit_at-trailing_zeros w64 rest (let r : ℕ = rest in let ne : r ≢ 0 = some_left in let goal : 0 < r = omega arith in goal) (omega (arith, div-le_self found (2 ^ index)))
 
-    inside : place + tz < 64
-    inside = elim (cases_lt (place + tz) 64) [
+    inside : index + tz < 64
+    inside = elim (cases_lt (index + tz) 64) [
       | inl lt ↦ lt
-      | inr high ↦ absurd (let z : 0 ≡ 1 = sym (bit_at_above found 64 (place + tz) fits high) ∙ (sym (bit_after found place tz) ∙ zeros.1) in omega arith)
+      | inr high ↦ absurd (let z : 0 ≡ 1 = sym (bit_at_above found 64 (index + tz) fits high) ∙ (sym (bit_after found index tz) ∙ zeros.1) in omega arith)
     ]
 
     none_until : (x : ℕ) → from ≤ x → x < card + tz → is_member k words region x ≡ false

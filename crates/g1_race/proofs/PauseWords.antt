@@ -1,6 +1,6 @@
 -- What refinement at a pause does to the words.
 use Rattle.std.specs.Prelude.{◌≡◌, ◌⊎◌, ◌+◌, ◌*◌, ◌%◌, ◌^◌, ◌<◌, ◌≤◌, ◌∷◌, ◌++◌}
-use Rattle.g1_race.specs.{ℕ, zero, suc, cond, Bool, true, false, List, [], length, set, get_or, bit_or, length-set, div-add-mod', mod-lt, refl, sym, ap, ◌∙◌, subst, inl, inr, ⊎_elim, arith, some, cases_eq, get_elem?, cases_lt, bit_at, div-mul-add, set_else, set_here, RaceShape, In, IsBegun, IsOfCrossing, HasBit, BeganInto, bit_word, bit_place, flag, mark_word, slot_card, region_at, crosses, started, pair_at, Notes, RefinesCard, AreRefined, card_pairs, in_left, in_right, in_either, true_is, reads_as, word_low, SameBits, same_bits, bit_as, with_pair, bit_here, bits_stay, bits_back, bit_below, front_stays}
+use Rattle.g1_race.specs.{ℕ, zero, suc, cond, Bool, true, false, List, [], length, set, get_or, bit_or, length-set, div-add-mod', mod-lt, refl, sym, ap, ◌∙◌, subst, inl, inr, ⊎_elim, arith, some, cases_eq, get_elem?, cases_lt, bit_at, div-mul-add, set_else, set_here, RaceShape, In, IsBegun, IsOfCrossing, HasBit, BeganInto, bit_word, bit_index, flag, mark_word, slot_card, region_at, crosses, started, pair_at, Notes, RefinesCard, AreRefined, card_pairs, in_left, in_right, in_either, true_is, reads_as, word_low, SameBits, same_bits, bit_as, with_pair, bit_here, bits_stay, bits_back, bit_below, front_stays}
 use Rattle.g1_race.proofs.AtPause.{begun_front, begun_mark, begun_read, filled_next}
 use Rattle.g1_race.proofs.SweepCalls.{slot_below}
 
@@ -24,12 +24,12 @@ module _ (k : RaceShape) (words : List ℕ) (x : ℕ × ℕ) (h : IsBegun (start
   }
 
 -- the word as the call writes it, over the words that it read
-pub with_found : (k : RaceShape) (words seen : List ℕ) (x : ℕ × ℕ) (at place found : ℕ) → seen ≡ words → at ≡ bit_word k x → place ≡ bit_place k x → get_elem? words at ≡ some found → set seen at (bit_or found (1 * 2 ^ place % 2 ^ 64)) ≡ with_pair k words x
-with_found k words seen x at place found same e f there = λ i. set (same i) (e i) (bit_or ((sym (reads_as words at found 0 there) ∙ ap (λ (j : ℕ). get_or words j 0) e) i) (1 * 2 ^ f i % 2 ^ 64))
+pub with_found : (k : RaceShape) (words seen : List ℕ) (x : ℕ × ℕ) (at index found : ℕ) → seen ≡ words → at ≡ bit_word k x → index ≡ bit_index k x → get_elem? words at ≡ some found → set seen at (bit_or found (1 * 2 ^ index % 2 ^ 64)) ≡ with_pair k words x
+with_found k words seen x at index found same e f there = λ i. set (same i) (e i) (bit_or ((sym (reads_as words at found 0 there) ∙ ap (λ (j : ℕ). get_or words j 0) e) i) (1 * 2 ^ f i % 2 ^ 64))
 
 -- the bit as a word that was read has it
-pub bit_read : (k : RaceShape) (words : List ℕ) (x : ℕ × ℕ) (at place found : ℕ) → at ≡ bit_word k x → place ≡ bit_place k x → get_elem? words at ≡ some found → bit_at found place ≡ bit_at (get_or words (bit_word k x) 0) (bit_place k x)
-bit_read k words x at place found e f there = λ i. bit_at ((sym (reads_as words at found 0 there) ∙ ap (λ (j : ℕ). get_or words j 0) e) i) (f i)
+pub bit_read : (k : RaceShape) (words : List ℕ) (x : ℕ × ℕ) (at index found : ℕ) → at ≡ bit_word k x → index ≡ bit_index k x → get_elem? words at ≡ some found → bit_at found index ≡ bit_at (get_or words (bit_word k x) 0) (bit_index k x)
+bit_read k words x at index found e f there = λ i. bit_at ((sym (reads_as words at found 0 there) ∙ ap (λ (j : ℕ). get_or words j 0) e) i) (f i)
 
 pub notes_same : (k : RaceShape) (old new : List ℕ) (xs : List (ℕ × ℕ)) → new ≡ old → ((x : ℕ × ℕ) → In xs x → HasBit k old x) → Notes k old new xs
 notes_same k old new xs e h = subst (λ (l : List ℕ). Notes k old l xs) (sym e) (record { front = λ i lt. refl; kept = λ x b. b; has = h; only = λ x p b. inl b })

@@ -31,7 +31,7 @@ pub record StoresDataAt (old : Pause) (slot word : ℕ) (new : Pause) : Type 0 w
   pub step : (caller : ℕ)
       → IsStep (table_at old) (store_entry caller slot None (plain_reply Null)) (table_at new)
 
--- as many words, from the one slot on, are copied to as many slots from the other one on
+-- the words of `count` slots at or after `from` are copied to as many slots at or after `to`
 pub record Copies (old : Pause) (from to count : ℕ) (new : Pause) : Type 0 where
   pub race : IsSameRace old new
   pub words : SlotsBecome (copied_word old.words from to count) old new

@@ -45,13 +45,13 @@ same_word slot word = word
 
 -- one slot's word becomes this
 abbrev pub one_word : ℕ → ℕ → ℕ → ℕ → ℕ
-one_word place new slot word = if slot == place then new else word
+one_word changed new slot word = if slot == changed then new else word
 
 -- those of the region's slots become null
 abbrev pub wiped_word : RaceShape → ℕ → ℕ → ℕ → ℕ
 wiped_word heap region slot word = if slot / heap.span == region then 0 else word
 
--- those of as many slots, from one on, become the old words of those from another on
+-- those of `count` slots at or after `to` become the old words of those at or after `from`
 abbrev pub copied_word : List ℕ → ℕ → ℕ → ℕ → ℕ → ℕ → ℕ
 copied_word old from to count slot word =
     if nat_le to slot && nat_lt slot (to + count) then slice_index old (from + (slot - to))
@@ -80,7 +80,7 @@ pub record IsExactAtPause (old : Table) (region : ℕ) (cards : List ℕ) : Type
 abbrev pub plain_reply : Kind → StoreReply
 plain_reply kind = record { kind = kind; fill = No; refined = []; short = false }
 
--- null is stored to as many slots, from one on
+-- null is stored to as many slots at or after `first`
 abbrev pub nulled : ℕ → ℕ → Table → Table
 nulled first zero table = table
 nulled first (suc count) table = stored (nulled first count table) (first + count) None

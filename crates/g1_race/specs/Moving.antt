@@ -2,9 +2,8 @@
 use Rattle.std.specs.Prelude.{◌≡◌, ◌≢◌, ◌⊎◌, ◌+◌, ◌-◌, ◌*◌, ◌/◌, ◌%◌, ◌<◌, ◌≤◌, ◌==◌, ◌&&◌}
 use Rattle.std.specs.Prelude.{if◌then◌else◌}
 use Rattle.g1_race.specs.Prelude.{ℕ, Bool, true, List, zero, suc, slice_index, some, get_elem?}
-use Rattle.g1_race.specs.Prelude.{Moved, Short, RaceShape, IsBegun, HasBit, slot_card, crosses}
-use Rattle.g1_race.specs.Prelude.{mark_word, as_number, region_at, started}
-use Rattle.g1_core.specs.declared.reply.Redirected.{Redirected}
+use Rattle.g1_race.specs.Prelude.{RaceShape, IsBegun, HasBit, slot_card, crosses, mark_word}
+use Rattle.g1_race.specs.Prelude.{as_number, region_at, started}
 use Rattle.g1_race.specs.Clearing.{IsEmptied}
 
 -- the slot, with this word, lies outside the region and refers into it
@@ -20,7 +19,7 @@ abbrev pub word_after : RaceShape → ℕ → ℕ → ℕ → ℕ → ℕ
 word_after heap from to slot word =
     if is_into heap from slot word then moved_word heap to word else word
 
--- how many of these slots, from one on, lie outside the region and refer into it
+-- how many of `count` slots at or after `first` lie outside the region and refer into it
 abbrev pub into_count : RaceShape → List ℕ → ℕ → ℕ → ℕ → ℕ
 into_count heap words region first zero = 0
 into_count heap words region first (suc count) = into_count heap words region first count
@@ -32,8 +31,8 @@ Acquires heap words from to pair =
     (p : ℕ) × (n : ℕ) × (p < heap.slots) × (get_elem? words p ≡ some n)
     × (is_into heap from p n ≡ true) × (p / heap.span ≢ to) × ((slot_card heap p, to) ≡ pair)
 
--- the references of these slots, from one on, are moved from the one region to the other, and
--- recorded for it
+-- the references of `count` slots at or after `first` are moved from the one region to the other,
+-- and recorded for it
 pub record AreMoved (heap : RaceShape) (old new : List ℕ) (from to first count : ℕ) : Type 0 where
   pub moved : (p n : ℕ) → first ≤ p → p < first + count → p < heap.slots →
       get_elem? old p ≡ some n → get_elem? new p ≡ some (word_after heap from to p n)
@@ -46,11 +45,6 @@ pub record AreMoved (heap : RaceShape) (old new : List ℕ) (from to first count
       → HasBit heap old x ⊎ Acquires heap old from to x
   pub has : (p n : ℕ) → first ≤ p → p < first + count → p < heap.slots → get_elem? old p ≡ some n →
       is_into heap from p n ≡ true → p / heap.span ≢ to → HasBit heap new (slot_card heap p, to)
-
--- a redirect is not short
-abbrev pub HasMoved : Redirected → Type 0
-HasMoved (Moved slots refined) = Unit {0}
-HasMoved (Short refined) = ⊥
 
 -- all references into the region are moved to the other, and its pairs are forgotten
 pub record AreMovedAway (heap : RaceShape) (old new : List ℕ) (from to : ℕ) : Type 0 where

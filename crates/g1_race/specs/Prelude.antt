@@ -1,16 +1,16 @@
 -- What the crate takes from the libraries below it.
 pub use Rattle.std.proofs.Common.{[], All, ap, arith, below_more, bit_and, bit_or, Bool, cond}
 pub use Rattle.std.proofs.Common.{Contains, div-add-mod', div-lt_iff_lt-mul, drop, eq-eqb, eqb}
-pub use Rattle.std.proofs.Common.{false, get_or, inl, inr, leb, length, length-set, List, ltb}
+pub use Rattle.std.proofs.Common.{false, get_or, inl, inr, leb, length, length-set, List}
 pub use Rattle.std.proofs.Common.{ltb-true, map, mod-lt, mul-le-mul_right, ne_eqb, None, not}
 pub use Rattle.std.proofs.Common.{Option, refl, replicate, set, Some, subst, suc, suc-mul, sym}
 pub use Rattle.std.proofs.Common.{take, true, vec_capacity, w64, zero, ℕ, ⊎_elim, ◌∙◌}
 pub use Rattle.std.proofs.Math.Nat.{div-div-eq-div-mul, div-le_self, mul-div_cancel_left}
 pub use Rattle.std.proofs.Math.Nat.{mul-le-mul, mul-le-mul_left}
 pub use Rattle.std.proofs.Math.Seq.{map-set_same, take-append_seam, take-set-lt}
-pub use Rattle.std.proofs.lemmas.Bool.{and_from, and_left, and_parts, and_right, cases_Bool}
+pub use Rattle.std.proofs.lemmas.Bool.{and_from, and_left, and_parts, cases_Bool}
 pub use Rattle.std.proofs.lemmas.Bool.{cases_eq, cases_lt, eqb-false, eqb-true, false_from_ne_true}
-pub use Rattle.std.proofs.lemmas.Bool.{le-leb, le-ltb, leb-false, leb-true, lt-leb, lt-ltb}
+pub use Rattle.std.proofs.lemmas.Bool.{le-ltb, leb-false, leb-true, lt-ltb}
 pub use Rattle.std.proofs.lemmas.Bool.{not-false, not-true, or_cases, or_left, or_right, true≢false}
 pub use Rattle.std.proofs.lemmas.Cmp.{eq_by_cmp_equiv, nat_cmp_total}
 pub use Rattle.std.proofs.lemmas.List.{append-nil, get_or-map, get_or-set_other, get_or-set_same}
@@ -30,7 +30,7 @@ pub use Rattle.std.specs.Arc.{arc_value}
 pub use Rattle.std.specs.Cmp.{Equal-is}
 pub use Rattle.std.specs.Global.{Global}
 pub use Rattle.std.specs.Int.{bit_at, bit_not, trailing_zeros}
-pub use Rattle.std.specs.List.{AllWithin, enumerate_from, filter_map, flat_map, range_with_len}
+pub use Rattle.std.specs.List.{AllWithin, enumerate_from, filter_map, flat_map}
 unfoldable pub use Rattle.std.specs.List.{IsDistinct}
 pub use Rattle.std.specs.List.Sorted.{IsStrictlyIncreasing}
 pub use Rattle.std.specs.Ordering.{eq_by_cmp, nat_cmp}
@@ -40,7 +40,7 @@ pub use Rattle.std.specs.Prelude.{slice_set, sum_by, Vec, vec_len}
 pub use Rattle.std.specs.Slots.{IsFull, slots_items, slots_len}
 pub use denote.RawPtr.{Ptr}
 pub use lib.ListN.{get_elem?}
-pub use mathlib.Core.Option.{some, some-injective, some-ne-none}
+pub use mathlib.Core.Option.{some, some-injective}
 pub use native.Mathlib.Decide.{ℕ_discrete}
 pub use Rattle.arrayvec.specs.ArrayVec.{array_vec_len}
 pub use Rattle.atomic_table.proofs.Lists.{at_map, at_set, set_again, set_else, set_here}
@@ -76,7 +76,7 @@ pub use Rattle.g1_core.specs.declared.entry.Call.TheVariants.{Clear, Redirect, S
 pub use Rattle.g1_core.specs.declared.entry.Entry.{Entry}
 pub use Rattle.g1_core.specs.declared.reply.ClearReply.TheVariants.{Cleared, Pending}
 pub use Rattle.g1_core.specs.declared.reply.ClearReply.TheVariants.{StillReferenced}
-pub use Rattle.g1_core.specs.declared.reply.Redirected.TheVariants.{Moved, Short}
+pub use Rattle.g1_core.specs.declared.reply.Redirected.TheVariants.{Moved}
 pub use Rattle.g1_layout.specs.Sets.{CardSet, pair_cmp, set_of}
 pub use Rattle.g1_layout.specs.Shape.{card_count, card_of, region_of, region_of_card, same_offset}
 pub use Rattle.g1_layout.specs.Shape.{slot_count}
@@ -87,7 +87,7 @@ pub use Rattle.g1_race_words.proofs.AtBeginning.{never_both, no_bit, zero_at, ze
 pub use Rattle.g1_race_words.proofs.CoverStores.{mark_apart}
 pub use Rattle.g1_race_words.proofs.Crossing.{crosses_reference, low_word, reference_crosses}
 pub use Rattle.g1_race_words.proofs.Crossing.{word_low}
-pub use Rattle.g1_race_words.proofs.Flags.{are_flagged, bit_below, flag_card, front_stays}
+pub use Rattle.g1_race_words.proofs.Flags.{bit_below, flag_card, front_stays}
 pub use Rattle.g1_race_words.proofs.Flags.{word_in_row}
 pub use Rattle.g1_race_words.proofs.Going.{others_blank}
 pub use Rattle.g1_race_words.proofs.Listing.{listed_set, one_pair, pair_clear, pair_set, set_listed}
@@ -101,10 +101,10 @@ pub use Rattle.g1_race_words.proofs.Plain.{false_is, in_either, in_left, in_righ
 pub use Rattle.g1_race_words.proofs.Plain.{read_at, read_is, total_one, total_two, true_is, within}
 pub use Rattle.g1_race_words.proofs.StepKinds.{runs_are_of_five, steps_are_of_five}
 pub use Rattle.g1_race_words.proofs.Tallies.{tally_append, tally_in, tally_once, times_append}
-pub use Rattle.g1_race_words.proofs.Unchanged.{bounded_same, bounded_wrote, same_slots_at_mark}
+pub use Rattle.g1_race_words.proofs.Unchanged.{same_slots_at_mark}
 pub use Rattle.g1_race_words.specs.Begin.{Begun, Start}
 pub use Rattle.g1_race_words.specs.Rule.{AnswersFor, as_number, AtRest, BeganInto, BeganMarked}
-pub use Rattle.g1_race_words.specs.Rule.{beginning, bit_place, bit_word, Bounded, claims_at}
+pub use Rattle.g1_race_words.specs.Rule.{beginning, bit_index, bit_word, Bounded, claims_at}
 pub use Rattle.g1_race_words.specs.Rule.{claims_of, cleanings_at, cleanings_of, crosses, flag}
 pub use Rattle.g1_race_words.specs.Rule.{front, HasBit, Held, held_of, histories_of, history_count}
 pub use Rattle.g1_race_words.specs.Rule.{In, IsBegun, IsBlank, IsCrossing, IsFlagged, IsMarked}
@@ -114,9 +114,9 @@ pub use Rattle.g1_race_words.specs.Rule.{overwritten_sum, pairs_found, pairs_of_
 pub use Rattle.g1_race_words.specs.Rule.{Raced, region_at, slot_card, Someone, start_of, started}
 pub use Rattle.g1_race_words.specs.Rule.{stored_sum, StoredInto, StoreHistory, sum_at, tally, times}
 pub use Rattle.g1_race_words.specs.Rule.{total, word_count}
-pub use Rattle.g1_race_words.specs.Seats.{HoldsBit, IsAtPause, IsFound, IsPaused, OwesFlag, Sits}
+pub use Rattle.g1_race_words.specs.Seats.{HoldsBit, IsAtPause, IsFound, IsPaused, Sits}
 pub use Rattle.g1_race_words.specs.Steps.{after_split, blank, both, frozen_seat, gains_store}
-pub use Rattle.g1_race_words.specs.Steps.{new_racer, owed_card, pair_at, raised, recorded}
-pub use Rattle.g1_race_words.specs.Steps.{set_flags, sought, spotted, unset, whole_seat}
+pub use Rattle.g1_race_words.specs.Steps.{new_racer, pair_at, raised, recorded}
+pub use Rattle.g1_race_words.specs.Steps.{sought, unset, whole_seat}
 pub use Rattle.g1_race_words.specs.declared.view.RaceShape.{RaceShape}
 pub use Rattle.g1_race_words.specs.declared.view.View.{View}

@@ -40,13 +40,13 @@ pub record IsPauseReader (race : Race) (reader : Known) : Type 0 where
   pub weight : reader.weight ≡ race.shape.members
   pub begun : IsBegun (started race.shape reader.start.words)
 
--- the least pending card from one on
+-- the least pending card at or after `from`
 abbrev pub IsNextPending : Table → ℕ → Option ℕ → Type 0
 IsNextPending table from None = (card : ℕ) → from ≤ card → IsPending table card → ⊥
 IsNextPending table from (Some next) = (from ≤ next) × IsPending table next
     × ((card : ℕ) → from ≤ card → IsPending table card → next ≤ card)
 
--- the least card from one on that is recorded for the region
+-- the least card at or after `from` that is recorded for the region
 abbrev pub IsNextMember : Table → ℕ → ℕ → Option ℕ → Type 0
 IsNextMember table region from None =
     (card : ℕ) → from ≤ card → IsRecorded table card region → ⊥

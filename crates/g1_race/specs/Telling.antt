@@ -1,7 +1,7 @@
 -- Cards that are told apart by a test: the dirty ones, and those of a region's remembered set.
 use Rattle.std.specs.Prelude.{◌≡◌, ◌+◌, ◌*◌, ◌<◌, ◌≤◌, ◌==◌, ◌∷◌, ◌++◌, if◌then◌else◌}
 use Rattle.g1_race.specs.Prelude.{ℕ, not, length, List, [], zero, suc, Bool, true, false, Option}
-use Rattle.g1_race.specs.Prelude.{Some, None, slice_index, bit_at, RaceShape, bit_place, bit_word}
+use Rattle.g1_race.specs.Prelude.{Some, None, slice_index, bit_at, RaceShape, bit_index, bit_word}
 use Rattle.g1_race.specs.Prelude.{mark_word}
 use Rattle.g1_race.specs.declared.paused.next.Sought.{Sought}
 use Rattle.g1_race.specs.declared.paused.next.Sought.TheVariants.{Dirty, Of}
@@ -18,7 +18,7 @@ is_marked heap words card = slice_index words (mark_word heap card) == 1
 -- whether the card's pair with the region is recorded
 abbrev pub is_member : RaceShape → List ℕ → ℕ → ℕ → Bool
 is_member heap words region card =
-    bit_at (slice_index words (bit_word heap (card, region))) (bit_place heap (card, region)) == 1
+    bit_at (slice_index words (bit_word heap (card, region))) (bit_index heap (card, region)) == 1
 
 -- all dirty cards, and all of the region's set
 abbrev pub marked_cards : RaceShape → List ℕ → List ℕ
@@ -55,14 +55,15 @@ has_block heap words block region =
 abbrev pub block_regions : RaceShape → List ℕ → ℕ → ℕ → List ℕ
 block_regions heap words block count = cards_where (has_block heap words block) count
 
--- a card from one on, below a limit, and of none before it the test is true; or of none at all
+-- a card at or after `from`, below the limit, and of none between the two the test is true; or of
+-- none at all up to the limit
 abbrev pub SkipsNone : (ℕ → Bool) → ℕ → ℕ → Option ℕ → Type 0
 SkipsNone test limit from None = (card : ℕ) → from ≤ card → card < limit → test card ≡ false
 SkipsNone test limit from (Some card) =
     (from ≤ card) × (card < limit)
     × ((other : ℕ) → from ≤ other → other < card → test other ≡ false)
 
--- the least card from one on, below a limit, of which the test is true
+-- the least card at or after `from`, below the limit, of which the test is true
 abbrev pub IsNext : (ℕ → Bool) → ℕ → ℕ → Option ℕ → Type 0
 IsNext test limit from None = (card : ℕ) → from ≤ card → card < limit → test card ≡ false
 IsNext test limit from (Some card) =

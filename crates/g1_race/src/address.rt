@@ -7,9 +7,9 @@ use crate::paused::holds::HoldsRace;
 use crate::race::Race;
 
 impl Race {
-    /// The address of the race's words: 8 bytes for each slot in order, and behind them what the
-    /// machinery keeps. A slot's word is 0 for null, else one more than the place that it refers
-    /// to.
+    /// Returns the address of the race's words: 8 bytes for each slot in order, and behind them
+    /// what the machinery keeps. A slot's word is 0 for null, the number of the slot that it refers
+    /// to plus 1, or data from 2^32 on.
     ///
     /// The words are the references: there is no other copy, so what a load finds there is what the
     /// last store to the slot wrote. They stay where they are from the birth of the heap to its

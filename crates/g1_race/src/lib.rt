@@ -3,7 +3,8 @@
 //!
 //! The table of a race has these words:
 //!
-//! - A word for each slot: 0 for null, else the number of the slot that it refers to, plus 1.
+//! - A word for each slot: 0 for null, the number of the slot that it refers to plus 1, or data,
+//!   which is 2^32 or more.
 //! - A word for each card's mark: 1 for a dirty card, else 0.
 //! - A row of bits for each region, with one bit for each card. The bit is set if the pair (card,
 //!   region) is recorded.
@@ -28,8 +29,8 @@
 //! race over the pause. A [`Paused`] tells what each slot refers to, which cards are dirty and
 //! which pairs are recorded. It also refines, drains, redirects and clears. [`Paused::read_by`]
 //! lets several threads read at once. Between the birth of a heap and its end no call takes memory,
-//! except for the lists that are returned. [`Race::open`], [`Race::from_core`] and [`Race::close`]
-//! each make two of these calls in one.
+//! except for [`Paused::shared`] and the lists that are returned. [`Race::open`],
+//! [`Race::from_core`] and [`Race::close`] each make two of these calls in one.
 //!
 //! A race that ends ([`Race::close`], [`Paused::close`]) leaves a [`Closed`], which a core can be
 //! made of.

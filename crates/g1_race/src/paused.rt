@@ -1,8 +1,8 @@
 //! A race at a pause: its whole table is known, and stays in place.
 //!
 //! - `open` begins a heap of nulls, and `begin` one with a core's table. `resume` returns the race
-//!   and its members. `holds` says what a pause holds its race by, and `shared` lets threads keep
-//!   their shares of the race over the pause.
+//!   and its members. `holds` says how a pause owns its race, and `shared` lets threads keep their
+//!   shares of the race over the pause.
 //! - `access` has what a pause reads and stores. `listed` has the recorded pairs and the dirty
 //!   cards, which `next` finds, and `verify` checks them for a debug build.
 //! - `drain` refines and drains. `redirect`, `clear`, `wipe`, `forget` and `copy` may follow an
@@ -47,7 +47,7 @@ use std::marker::Model;
 pub struct Paused<R: HoldsRace = Race> {
     pub(crate) race: R,
     pub(crate) reader: Reader,
-    // Their seats are spent: the reader has taken them in.
+    // Their seats are vacant: the reader has taken them in.
     pub(crate) racers: Vec<Racer>,
     pub(crate) sweepers: Vec<Sweeper>,
 }

@@ -44,7 +44,7 @@ pub struct Race {
 /// found the card dirty or made it dirty.
 #[derive(Drop)]
 pub struct Racer {
-    // Spent at a pause: its shape is that of no race.
+    // Vacant at a pause: its shape is that of no race.
     pub(crate) seat: RaceSeat,
     pub(crate) log: ArrayVec<Card, 256>,
     ghost racing: { 0 < seat.me.0.shape.members → IsRacing seat.me.0 },

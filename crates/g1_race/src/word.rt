@@ -35,9 +35,9 @@ pub(crate) fn refers_to(layout: Layout, word: u64) -> Option<Slot>
     ensures within { IfSome result (λ place. place < slot_count layout) }
 {
     // (Null wraps round, and so is above all slots, as data is.)
-    let place = word.wrapping_sub(1);
-    if place < u64::from(layout.slot_count()) {
-        layout.slot(place as u32)
+    let number = word.wrapping_sub(1);
+    if number < u64::from(layout.slot_count()) {
+        layout.slot(number as u32)
     } else {
         None
     }
@@ -47,7 +47,7 @@ pub(crate) fn refers_to(layout: Layout, word: u64) -> Option<Slot>
 // another region.
 #[inline(always)]
 #[tactic(auto, using(crate::specs::card_below))]
-pub(crate) fn pair_of(race: &Race, card: usize, slot: usize, word: u64) -> Option<(usize, usize)>
+pub(crate) fn pair_at(race: &Race, card: usize, slot: usize, word: u64) -> Option<(usize, usize)>
     requires slot { slot < slot_count race.now.layout }
     requires card { card ≡ slot_card race.now.shape slot }
     requires word { IsWord race.now.shape word }

@@ -1,6 +1,6 @@
 -- What a race begins with keeps its rule.
 use Rattle.std.specs.Prelude.{◌≡◌, ◌+◌, ◌<◌, ◌≤◌, ◌∷◌}
-use Rattle.g1_race_words.specs.{ℕ, zero, suc, Bool, true, List, [], get_or, take, refl, sym, ap, ◌∙◌, subst, inl, inr, ⊎_elim, arith, replicate, length-replicate, bit_at, bit_at-zero, some, some-ne-none, some-injective, get_elem?, RaceShape, View, MadeDirty, IsBegun, IsWholeShape, HasBit, bit_word, bit_place, slot_card, mark_word, region_at, In, Held, claims_of, pairs_found, IsMarked, IsBlank, Raced, Going, front, pairs_up_to, null_of, started, beginning, start_of, Numbered, weigh, times, claims_at, cleanings_at, sum_at, stored_sum, overwritten_sum, histories_of, held_of, flagged_of, word_count, frozen_seat}
+use Rattle.g1_race_words.specs.{ℕ, zero, suc, Bool, true, List, [], get_or, take, refl, sym, ap, ◌∙◌, subst, inl, inr, ⊎_elim, arith, replicate, length-replicate, bit_at, bit_at-zero, some, some-ne-none, some-injective, get_elem?, RaceShape, View, MadeDirty, IsBegun, IsWholeShape, HasBit, bit_word, bit_index, slot_card, mark_word, region_at, In, Held, claims_of, pairs_found, IsMarked, IsBlank, Raced, Going, front, pairs_up_to, null_of, started, beginning, start_of, Numbered, weigh, times, claims_at, cleanings_at, sum_at, stored_sum, overwritten_sum, histories_of, held_of, flagged_of, word_count, frozen_seat}
 use Rattle.g1_race_words.proofs.PairBits.{crossing_pair}
 use Rattle.g1_race_words.proofs.Places.{at_read, at_take, at_untake, reads_as}
 use Rattle.g1_race_words.proofs.Listing.{in_set, set_in}
@@ -80,7 +80,7 @@ going_fresh k words views frozen begun raced agreed spared = record { first = wo
 -- words that begin with all null and all clean, and no bit set
 
 pub no_bit : (k : RaceShape) (words : List ℕ) (x : ℕ × ℕ) → get_or words (bit_word k x) 0 ≡ 0 → HasBit k words x → ⊥
-no_bit k words x e b = absurd (let z : bit_at (get_or words (bit_word k x) 0) (bit_place k x) ≡ 0 = ap (λ (n : ℕ). bit_at n (bit_place k x)) e ∙ bit_at-zero (bit_place k x) in omega (arith, z, b))
+no_bit k words x e b = absurd (let z : bit_at (get_or words (bit_word k x) 0) (bit_index k x) ≡ 0 = ap (λ (n : ℕ). bit_at n (bit_index k x)) e ∙ bit_at-zero (bit_index k x) in omega (arith, z, b))
 
 pub null_begun : (k : RaceShape) → IsWholeShape k → IsBegun (null_of k)
 null_begun k shaped = let all = word_count k in record {

@@ -1,6 +1,6 @@
 -- What the calls of a step ask, of the table and the seat inside.
 use Rattle.std.specs.Prelude.{◌≡◌, ◌-◌, ◌*◌, ◌%◌, ◌^◌, ◌<◌, ◌≤◌, ◌==◌, ◌∷◌}
-use Rattle.g1_race_words.specs.{ℕ, bit_or, cond, List, [], set, get_or, Bool, true, false, None, refl, sym, ap, ◌∙◌, subst, arith, some, get_elem?, either, Me, keeps, Allows, Splits, Joins, TableId, Seat, set_again, set-get_or, RaceShape, View, Start, AtRest, Going, StoreHistory, IsBegun, IsBlank, IsWholeShape, IsWord, Raced, beginning, mark_word, bit_word, bit_place, flag, started, word_count, blank, both, whole_seat, cleaned, dirtied, exchanged, frozen_seat, after_split, looked, new_racer, new_sweeper, new_reader, no_seat, owed_card, put, raised, read, recorded, sought, spotted, thawed, wrote, Freezes, HoldsBit, IsWholeSeat, IsFound, IsMark, IsAtPause, IsPaused, OwesFlag, OwesMark, Sits}
+use Rattle.g1_race_words.specs.{ℕ, bit_or, cond, List, [], set, get_or, Bool, true, false, None, refl, sym, ap, ◌∙◌, subst, arith, some, get_elem?, either, Me, keeps, Allows, Splits, Joins, TableId, Seat, set_again, set-get_or, RaceShape, View, Start, AtRest, Going, StoreHistory, IsBegun, IsBlank, IsWholeShape, IsWord, Raced, beginning, mark_word, bit_word, bit_index, flag, started, word_count, blank, both, whole_seat, cleaned, dirtied, exchanged, frozen_seat, after_split, looked, new_racer, new_sweeper, new_reader, no_seat, owed_card, put, raised, read, recorded, sought, spotted, thawed, wrote, Freezes, HoldsBit, IsWholeSeat, IsFound, IsMark, IsAtPause, IsPaused, OwesFlag, OwesMark, Sits}
 use Rattle.g1_race_words.proofs.PairBits.{word_below}
 use Rattle.g1_race_words.proofs.Flags.{flag_below}
 use Rattle.g1_race_words.proofs.Plain.{read_at}
@@ -82,9 +82,9 @@ module _ (z : TableId) (k : RaceShape) (fits : z.words ≡ word_count k) (shaped
   spot_owed word sits c (owes, lt, is) = rw is (loads (bit_word k (flag k c)) (spotted v) (Is (spotted v)) (omega (arith, fits, flag_below k c shaped lt)) sits (λ n. (refl, refl, refl, refl))
       (λ words views h at. (raced_spotted (begun k words views h) words views s.id v c shaped sits owes at h.raced, refl)))
 
-  pub raise_owed : (word place : ℕ) → Sits k v → (c : ℕ) → OwesFlag k v c word → place ≡ bit_place k (flag k c)
-      → Owed word (λ n. bit_or n (1 * 2 ^ place % 2 ^ 64)) (Is (λ _. raised v))
-  raise_owed word place sits c (owes, lt, is) at = rw (is, at) (swaps (bit_word k (flag k c)) (λ n. bit_or n (1 * 2 ^ bit_place k (flag k c) % 2 ^ 64)) (λ _. raised v) (Is (λ _. raised v)) (omega (arith, fits, flag_below k c shaped lt)) sits (λ n. (refl, refl, refl, refl))
+  pub raise_owed : (word index : ℕ) → Sits k v → (c : ℕ) → OwesFlag k v c word → index ≡ bit_index k (flag k c)
+      → Owed word (λ n. bit_or n (1 * 2 ^ index % 2 ^ 64)) (Is (λ _. raised v))
+  raise_owed word index sits c (owes, lt, is) at = rw (is, at) (swaps (bit_word k (flag k c)) (λ n. bit_or n (1 * 2 ^ bit_index k (flag k c) % 2 ^ 64)) (λ _. raised v) (Is (λ _. raised v)) (omega (arith, fits, flag_below k c shaped lt)) sits (λ n. (refl, refl, refl, refl))
       (λ words views h at. (raced_raised (begun k words views h) words views s.id v c shaped sits owes lt at h.raced, refl)))
 
   pub dirty_owed : (word : ℕ) → Sits k v → OwesMark k v word → v.flagged ≡ owed_card v.owed → Owed word (λ _. 1) (Is (dirtied v (word - v.shape.slots)))
@@ -104,9 +104,9 @@ module _ (z : TableId) (k : RaceShape) (fits : z.words ≡ word_count k) (shaped
   seek_owed word sits x (held, pair, is) = rw is (loads (bit_word k x) (sought v) (Is (sought v)) (omega (arith, fits, word_below k x shaped pair)) sits (λ n. (refl, refl, refl, refl))
       (λ words views h at. (raced_sought (begun k words views h) words views s.id v x shaped sits held at h.raced, refl)))
 
-  pub record_owed : (word place : ℕ) → Sits k v → (x : ℕ × ℕ) → HoldsBit k v x word → place ≡ bit_place k x
-      → Owed word (λ n. bit_or n (1 * 2 ^ place % 2 ^ 64)) (Is (λ _. recorded v))
-  record_owed word place sits x (held, pair, is) at = rw (is, at) (swaps (bit_word k x) (λ n. bit_or n (1 * 2 ^ bit_place k x % 2 ^ 64)) (λ _. recorded v) (Is (λ _. recorded v)) (omega (arith, fits, word_below k x shaped pair)) sits (λ n. (refl, refl, refl, refl))
+  pub record_owed : (word index : ℕ) → Sits k v → (x : ℕ × ℕ) → HoldsBit k v x word → index ≡ bit_index k x
+      → Owed word (λ n. bit_or n (1 * 2 ^ index % 2 ^ 64)) (Is (λ _. recorded v))
+  record_owed word index sits x (held, pair, is) at = rw (is, at) (swaps (bit_word k x) (λ n. bit_or n (1 * 2 ^ bit_index k x % 2 ^ 64)) (λ _. recorded v) (Is (λ _. recorded v)) (omega (arith, fits, word_below k x shaped pair)) sits (λ n. (refl, refl, refl, refl))
       (λ words views h at. (raced_recorded (begun k words views h) words views s.id v x shaped sits held pair at h.raced, refl)))
 
   -- seats

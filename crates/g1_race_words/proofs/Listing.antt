@@ -1,6 +1,6 @@
 -- The pairs whose bits are set, as a list.
 use Rattle.std.specs.Prelude.{◌≡◌, ◌<◌, ◌∷◌, ◌++◌}
-use Rattle.g1_race_words.specs.{ℕ, zero, suc, cond, eqb, List, [], Contains, refl, subst, inl, inr, ⊎_elim, arith, eq-eqb, eqb-true, ne_eqb, cases_eq, slice_index, bit_at, RaceShape, In, IsPair, HasBit, bit_word, bit_place, pairs_of_card, pairs_up_to}
+use Rattle.g1_race_words.specs.{ℕ, zero, suc, cond, eqb, List, [], Contains, refl, subst, inl, inr, ⊎_elim, arith, eq-eqb, eqb-true, ne_eqb, cases_eq, slice_index, bit_at, RaceShape, In, IsPair, HasBit, bit_word, bit_index, pairs_of_card, pairs_up_to}
 use Rattle.g1_race_words.proofs.Plain.{in_cond_back, in_left, in_right, in_either, true_is, false_is}
 use Rattle.g1_race_words.proofs.Places.{in_contains, contains_in}
 
@@ -19,7 +19,7 @@ module _ {A : Type 0} (up part : ℕ → List A) where
 
 module _ (k : RaceShape) (words : List ℕ) where
   abbrev bit : ℕ × ℕ → ℕ
-  bit x = bit_at (slice_index words (bit_word k x)) (bit_place k x)
+  bit x = bit_at (slice_index words (bit_word k x)) (bit_index k x)
 
   -- a pair, where its bit is set
   abbrev pub one_pair : ℕ × ℕ → List (ℕ × ℕ)

@@ -1,6 +1,6 @@
 -- The bits of the pairs among the words.
 use Rattle.std.specs.Prelude.{◌≡◌, ◌≢◌, ◌⊎◌, ◌+◌, ◌-◌, ◌*◌, ◌/◌, ◌%◌, ◌^◌, ◌<◌, ◌≤◌}
-use Rattle.g1_race_words.specs.{ℕ, List, length, set, get_or, bit_or, w64, true, sym, ap, ◌∙◌, subst, inl, inr, arith, div-lt_iff_lt-mul, bit_at, cases_eq, get_or-set_same, get_or-set_other, div-mul-add, mod-mul-add, mul-add-lt, bit_at_set_same, bit_at_set_other, RaceShape, IsWord, slot_card, region_at, crosses, IsWholeShape, IsPair, HasBit, bit_word, bit_place}
+use Rattle.g1_race_words.specs.{ℕ, List, length, set, get_or, bit_or, w64, true, sym, ap, ◌∙◌, subst, inl, inr, arith, div-lt_iff_lt-mul, bit_at, cases_eq, get_or-set_same, get_or-set_other, div-mul-add, mod-mul-add, mul-add-lt, bit_at_set_same, bit_at_set_other, RaceShape, IsWord, slot_card, region_at, crosses, IsWholeShape, IsPair, HasBit, bit_word, bit_index}
 use Rattle.g1_race_words.proofs.Crossing.{crosses_reference, word_low}
 
 pub card_below : (k : RaceShape) (p : ℕ) → IsWholeShape k → p < k.slots → slot_card k p < k.cards
@@ -22,7 +22,7 @@ pub word_below : (k : RaceShape) (x : ℕ × ℕ) → IsWholeShape k → IsPair 
 word_below k x shaped pair = let n : ℕ = x.0 / 64 in let r : ℕ = x.1 * k.row in let all : ℕ = k.row * k.regions in let same : ℕ = k.regions * k.row in
     let a : r + n < all = mul-add-lt x.1 k.row n k.regions pair.1 (in_row k x shaped pair) in let b : k.bits ≡ same = shaped.8 in let e : all ≡ same = omega arith in let goal : k.slots + k.cards + (r + n) < k.slots + k.cards + k.bits = omega arith in goal
 
-pub bit_apart : (k : RaceShape) (x y : ℕ × ℕ) → IsWholeShape k → x.0 < k.cards → y.0 < k.cards → bit_word k x ≡ bit_word k y → bit_place k x ≡ bit_place k y → x ≡ y
+pub bit_apart : (k : RaceShape) (x y : ℕ × ℕ) → IsWholeShape k → x.0 < k.cards → y.0 < k.cards → bit_word k x ≡ bit_word k y → bit_index k x ≡ bit_index k y → x ≡ y
 bit_apart k x y shaped px py e f =
     let low : x.1 * k.row + x.0 / 64 ≡ y.1 * k.row + y.0 / 64 = (let n : ℕ = x.1 * k.row + x.0 / 64 in let m : ℕ = y.1 * k.row + y.0 / 64 in let g : k.slots + k.cards + n ≡ k.slots + k.cards + m = e in let goal : n ≡ m = omega arith in goal) in
     let regions : x.1 ≡ y.1 = sym (div-mul-add x.1 k.row (x.0 / 64) (card_in_row k x.0 shaped px)) ∙ (ap (λ (n : ℕ). n / k.row) low ∙ div-mul-add y.1 k.row (y.0 / 64) (card_in_row k y.0 shaped py)) in
@@ -38,13 +38,13 @@ pub same_bits : (k : RaceShape) (words : List ℕ) (i n : ℕ) → i < k.slots +
 same_bits k words i n lt x = get_or-set_other words i (bit_word k x) n 0 (λ e. let m : ℕ = x.1 * k.row + x.0 / 64 in let f : k.slots + k.cards + m ≡ i = e in omega arith)
 
 pub bit_as : (k : RaceShape) (words new : List ℕ) (x : ℕ × ℕ) → SameBits k words new → HasBit k words x → HasBit k new x
-bit_as k words new x same h = ap (λ (n : ℕ). bit_at n (bit_place k x)) (same x) ∙ h
+bit_as k words new x same h = ap (λ (n : ℕ). bit_at n (bit_index k x)) (same x) ∙ h
 
 -- one pair's bit is set
 
 module _ (k : RaceShape) (words : List ℕ) (x : ℕ × ℕ) where
   abbrev pub with_bit : ℕ
-  with_bit = bit_or (get_or words (bit_word k x) 0) (1 * 2 ^ bit_place k x % 2 ^ 64)
+  with_bit = bit_or (get_or words (bit_word k x) 0) (1 * 2 ^ bit_index k x % 2 ^ 64)
 
   abbrev pub with_pair : List ℕ
   with_pair = set words (bit_word k x) with_bit
@@ -53,26 +53,26 @@ module _ (k : RaceShape) (words : List ℕ) (x : ℕ × ℕ) where
     there : (y : ℕ × ℕ) → bit_word k y ≡ bit_word k x → get_or with_pair (bit_word k y) 0 ≡ with_bit
     there y e = ap (λ (i : ℕ). get_or with_pair i 0) e ∙ get_or-set_same words (bit_word k x) with_bit 0 short
 
-    low : bit_place k x < 64
+    low : bit_index k x < 64
     low = let n : ℕ = x.0 in let goal : n % 64 < 64 = omega arith in goal
 
     -- another bit is as it was
-    other_word : (y : ℕ × ℕ) → bit_word k y ≢ bit_word k x → bit_at (get_or with_pair (bit_word k y) 0) (bit_place k y) ≡ bit_at (get_or words (bit_word k y) 0) (bit_place k y)
-    other_word y apart = ap (λ (n : ℕ). bit_at n (bit_place k y)) (get_or-set_other words (bit_word k x) (bit_word k y) with_bit 0 apart)
+    other_word : (y : ℕ × ℕ) → bit_word k y ≢ bit_word k x → bit_at (get_or with_pair (bit_word k y) 0) (bit_index k y) ≡ bit_at (get_or words (bit_word k y) 0) (bit_index k y)
+    other_word y apart = ap (λ (n : ℕ). bit_at n (bit_index k y)) (get_or-set_other words (bit_word k x) (bit_word k y) with_bit 0 apart)
 
-    other_place : (y : ℕ × ℕ) → bit_word k y ≡ bit_word k x → bit_place k y ≢ bit_place k x → bit_at (get_or with_pair (bit_word k y) 0) (bit_place k y) ≡ bit_at (get_or words (bit_word k y) 0) (bit_place k y)
-    other_place y e apart = ap (λ (n : ℕ). bit_at n (bit_place k y)) (there y e) ∙ (bit_at_set_other w64 (get_or words (bit_word k x) 0) (bit_place k x) low (bit_place k y) apart ∙ ap (λ (i : ℕ). bit_at (get_or words i 0) (bit_place k y)) (sym e))
+    other_place : (y : ℕ × ℕ) → bit_word k y ≡ bit_word k x → bit_index k y ≢ bit_index k x → bit_at (get_or with_pair (bit_word k y) 0) (bit_index k y) ≡ bit_at (get_or words (bit_word k y) 0) (bit_index k y)
+    other_place y e apart = ap (λ (n : ℕ). bit_at n (bit_index k y)) (there y e) ∙ (bit_at_set_other w64 (get_or words (bit_word k x) 0) (bit_index k x) low (bit_index k y) apart ∙ ap (λ (i : ℕ). bit_at (get_or words i 0) (bit_index k y)) (sym e))
 
-    same_place : (y : ℕ × ℕ) → bit_word k y ≡ bit_word k x → bit_place k y ≡ bit_place k x → HasBit k with_pair y
-    same_place y e f = ap (λ (n : ℕ). bit_at n (bit_place k y)) (there y e) ∙ (ap (bit_at with_bit) f ∙ bit_at_set_same w64 (get_or words (bit_word k x) 0) (bit_place k x) low)
+    same_place : (y : ℕ × ℕ) → bit_word k y ≡ bit_word k x → bit_index k y ≡ bit_index k x → HasBit k with_pair y
+    same_place y e f = ap (λ (n : ℕ). bit_at n (bit_index k y)) (there y e) ∙ (ap (bit_at with_bit) f ∙ bit_at_set_same w64 (get_or words (bit_word k x) 0) (bit_index k x) low)
 
     pub bit_here : HasBit k with_pair x
-    bit_here = same_place x (λ i. bit_word k x) (λ i. bit_place k x)
+    bit_here = same_place x (λ i. bit_word k x) (λ i. bit_index k x)
 
     -- a bit is the pair's, or as it was
-    is_or_was : (y : ℕ × ℕ) → ((bit_word k y ≡ bit_word k x) × (bit_place k y ≡ bit_place k x)) ⊎ (bit_at (get_or with_pair (bit_word k y) 0) (bit_place k y) ≡ bit_at (get_or words (bit_word k y) 0) (bit_place k y))
+    is_or_was : (y : ℕ × ℕ) → ((bit_word k y ≡ bit_word k x) × (bit_index k y ≡ bit_index k x)) ⊎ (bit_at (get_or with_pair (bit_word k y) 0) (bit_index k y) ≡ bit_at (get_or words (bit_word k y) 0) (bit_index k y))
     is_or_was y = elim (cases_eq (bit_word k y) (bit_word k x)) [
-      | inl e ↦ elim (cases_eq (bit_place k y) (bit_place k x)) [ inl f ↦ inl (e, f) | inr ne ↦ inr (other_place y e ne) ]
+      | inl e ↦ elim (cases_eq (bit_index k y) (bit_index k x)) [ inl f ↦ inl (e, f) | inr ne ↦ inr (other_place y e ne) ]
       | inr ne ↦ inr (other_word y ne)
     ]
 

@@ -1,6 +1,6 @@
 -- A racer looks for the flag of the card that it owes, sets it, and dirties the card.
 use Rattle.std.specs.Prelude.{◌≡◌, ◌<◌, ◌∷◌}
-use Rattle.g1_race_words.specs.{ℕ, eqb, eqb-true, true, List, [], length, set, get_or, Option, Some, refl, sym, ap, ◌∙◌, subst, inl, inr, ⊎_elim, arith, length-set, some, ℕ_discrete, get_elem?, bit_at, set_else, RaceShape, View, Begun, In, Held, flagged_of, mark_word, bit_word, bit_place, flag, IsFlagged, IsWholeShape, HasBit, Flagged, Raced, owed_card, set_flags, spotted, raised, dirtied, Sits}
+use Rattle.g1_race_words.specs.{ℕ, eqb, eqb-true, true, List, [], length, set, get_or, Option, Some, refl, sym, ap, ◌∙◌, subst, inl, inr, ⊎_elim, arith, length-set, some, ℕ_discrete, get_elem?, bit_at, set_else, RaceShape, View, Begun, In, Held, flagged_of, mark_word, bit_word, bit_index, flag, IsFlagged, IsWholeShape, HasBit, Flagged, Raced, owed_card, set_flags, spotted, raised, dirtied, Sits}
 use Rattle.g1_race_words.proofs.Plain.{in_one, in_cond_back, held_back}
 use Rattle.g1_race_words.proofs.PairBits.{with_pair, bit_here, bits_stay, bits_back, same_bits, bit_as}
 use Rattle.g1_race_words.proofs.Keeping.{kept_stays, kept_moves}
@@ -9,10 +9,10 @@ use Rattle.g1_race_words.proofs.Flags.{flag_below, flag_card, front_stays}
 
 -- the flag is looked for
 
-set_back : (k : RaceShape) (n : ℕ) (cs : List ℕ) (d : ℕ) → In (set_flags k n cs) d → In cs d × (bit_at n (bit_place k (flag k d)) ≡ 1)
+set_back : (k : RaceShape) (n : ℕ) (cs : List ℕ) (d : ℕ) → In (set_flags k n cs) d → In cs d × (bit_at n (bit_index k (flag k d)) ≡ 1)
 set_back k n [] d i = absurd i
-set_back k n (c ∷ cs) d i = let bit = bit_at n (bit_place k (flag k c)) in ⊎_elim
-    (λ (t : (c ≡ d) × (eqb bit 1 ≡ true)). (inl t.0, subst (λ (x : ℕ). bit_at n (bit_place k (flag k x)) ≡ 1) t.0 (eqb-true bit 1 t.1)))
+set_back k n (c ∷ cs) d i = let bit = bit_at n (bit_index k (flag k c)) in ⊎_elim
+    (λ (t : (c ≡ d) × (eqb bit 1 ≡ true)). (inl t.0, subst (λ (x : ℕ). bit_at n (bit_index k (flag k x)) ≡ 1) t.0 (eqb-true bit 1 t.1)))
     (λ (j : In (set_flags k n cs) d). let m = set_back k n cs d j in (inr m.0, m.1))
     (in_cond_back (eqb bit 1) c d (set_flags k n cs) i)
 
@@ -35,7 +35,7 @@ raced_spotted begun words views id v c shaped sits owes at h = raced_held begun 
     found d i =
         let b = set_back k n (owed_card v.owed) d (subst (λ (s : RaceShape). In (set_flags s n (owed_card v.owed)) d) sits.shape i) in
         let e : c ≡ d = in_one (owed_card v.owed) c d (ap owed_card owes) b.0 in
-        subst (IsFlagged k words) e (subst (λ (x : ℕ). bit_at n (bit_place k (flag k x)) ≡ 1) (sym e) b.1)
+        subst (IsFlagged k words) e (subst (λ (x : ℕ). bit_at n (bit_index k (flag k x)) ≡ 1) (sym e) b.1)
 
 -- the flag is set
 

@@ -1,6 +1,6 @@
 -- A sweeper looks for the bit of the pair that it holds, and sets it.
 use Rattle.std.specs.Prelude.{◌≡◌, ◌⊎◌, ◌<◌, ◌∷◌}
-use Rattle.g1_race_words.specs.{ℕ, cond, eqb, Bool, true, false, List, [], length, set, get_or, refl, sym, ◌∙◌, subst, inl, inr, ⊎_elim, arith, length-set, cases_eq, ne_eqb, some, get_elem?, bit_at, RaceShape, View, Begun, slot_card, mark_word, flag, In, claims_of, cleanings_of, IsWholeShape, IsPair, HasBit, PairsKept, Flagged, Raced, bit_word, bit_place, word_count, unset, sought, recorded, Sits}
+use Rattle.g1_race_words.specs.{ℕ, cond, eqb, Bool, true, false, List, [], length, set, get_or, refl, sym, ◌∙◌, subst, inl, inr, ⊎_elim, arith, length-set, cases_eq, ne_eqb, some, get_elem?, bit_at, RaceShape, View, Begun, slot_card, mark_word, flag, In, claims_of, cleanings_of, IsWholeShape, IsPair, HasBit, PairsKept, Flagged, Raced, bit_word, bit_index, word_count, unset, sought, recorded, Sits}
 use Rattle.g1_race_words.proofs.Plain.{in_one, held_same, false_is}
 use Rattle.g1_race_words.proofs.PairBits.{card_below, word_below, with_pair, bit_here, bits_stay, bits_back}
 use Rattle.g1_race_words.proofs.Cover.{covered_moves, others_pass}
@@ -35,11 +35,11 @@ raced_held begun words new views id v l m shaped sits len front at kept flags h 
 
 -- the bit is looked for
 
-unset_one : (k : RaceShape) (n : ℕ) (x : ℕ × ℕ) (l : List (ℕ × ℕ)) → l ≡ x ∷ [] → (bit_at n (bit_place k x) ≡ 1) ⊎ In (unset k n l) x
-unset_one k n x l one = let bit = bit_at n (bit_place k x) in elim (cases_eq bit 1) [ inl e ↦ inl e | inr ne ↦ inr (rw one (rw (false_is (eqb bit 1) [] (x ∷ []) (ne_eqb bit 1 ne)) (inl refl))) ]
+unset_one : (k : RaceShape) (n : ℕ) (x : ℕ × ℕ) (l : List (ℕ × ℕ)) → l ≡ x ∷ [] → (bit_at n (bit_index k x) ≡ 1) ⊎ In (unset k n l) x
+unset_one k n x l one = let bit = bit_at n (bit_index k x) in elim (cases_eq bit 1) [ inl e ↦ inl e | inr ne ↦ inr (rw one (rw (false_is (eqb bit 1) [] (x ∷ []) (ne_eqb bit 1 ne)) (inl refl))) ]
 
 unset_back : (k : RaceShape) (n : ℕ) (x : ℕ × ℕ) (l : List (ℕ × ℕ)) → l ≡ x ∷ [] → (y : ℕ × ℕ) → In (unset k n l) y → In l y
-unset_back k n x l one y i = rw one (pick (eqb (bit_at n (bit_place k x)) 1) (rw one at i))
+unset_back k n x l one y i = rw one (pick (eqb (bit_at n (bit_index k x)) 1) (rw one at i))
   where
     pick : (b : Bool) → In (cond b [] (x ∷ [])) y → In (x ∷ []) y
     pick true j = absurd j

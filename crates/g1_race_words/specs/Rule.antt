@@ -23,12 +23,12 @@ mark_word heap card = heap.slots + card
 abbrev pub region_at : RaceShape → ℕ → ℕ
 region_at heap word = (word - 1) / heap.span
 
--- the pair's bit: its word, in the region's row, and its place in the word
+-- the pair's bit: its word, in the region's row, and its index in the word
 abbrev pub bit_word : RaceShape → ℕ × ℕ → ℕ
 bit_word heap pair = heap.slots + heap.cards + (pair.1 * heap.row + pair.0 / 64)
 
-abbrev pub bit_place : RaceShape → ℕ × ℕ → ℕ
-bit_place heap pair = pair.0 % 64
+abbrev pub bit_index : RaceShape → ℕ × ℕ → ℕ
+bit_index heap pair = pair.0 % 64
 
 -- a card and a region of the heap
 abbrev pub IsPair : RaceShape → ℕ × ℕ → Type 0
@@ -36,7 +36,7 @@ IsPair heap pair = (pair.0 < heap.cards) × (pair.1 < heap.regions)
 
 -- the pair's bit is set
 abbrev pub HasBit : RaceShape → List ℕ → ℕ × ℕ → Type 0
-HasBit heap words pair = bit_at (slice_index words (bit_word heap pair)) (bit_place heap pair) ≡ 1
+HasBit heap words pair = bit_at (slice_index words (bit_word heap pair)) (bit_index heap pair) ≡ 1
 
 -- a word that refers to a slot: neither null nor data
 abbrev pub IsReference : ℕ → Type 0
@@ -335,7 +335,7 @@ pairs_of_card heap words card zero = []
 pairs_of_card heap words card (suc region) =
     pairs_of_card heap words card region
     ++ (if bit_at (slice_index words (bit_word heap (card, region)))
-    (bit_place heap (card, region)) == 1 then (card, region) ∷ [] else [])
+    (bit_index heap (card, region)) == 1 then (card, region) ∷ [] else [])
 
 abbrev pub pairs_up_to : RaceShape → List ℕ → ℕ → List (ℕ × ℕ)
 pairs_up_to heap words zero = []

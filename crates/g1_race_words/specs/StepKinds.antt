@@ -4,7 +4,7 @@ use Rattle.g1_race_words.specs.Prelude.{ℕ, bit_or, List, [], map, slice_set, S
 use Rattle.g1_race_words.specs.Prelude.{get_elem?}
 use Rattle.g1_race_words.specs.declared.view.RaceShape.{RaceShape}
 use Rattle.g1_race_words.specs.declared.view.View.{View}
-use Rattle.g1_race_words.specs.Rule.{StoreHistory, IsWord, bit_place, bit_word, flag, front}
+use Rattle.g1_race_words.specs.Rule.{StoreHistory, IsWord, bit_index, bit_word, flag, front}
 use Rattle.g1_race_words.specs.Rule.{mark_word}
 use Rattle.g1_race_words.specs.Steps.{wrote, exchanged, looked, spotted, raised, dirtied, cleaned}
 use Rattle.g1_race_words.specs.Steps.{read, sought, recorded}
@@ -59,11 +59,11 @@ left_by heap (Exchange slot expected word found) = if found == expected then wor
 left_by heap (Look card found) = found
 left_by heap (Dirty card found) = 1
 left_by heap (Spot card found) = found
-left_by heap (Raise card found) = bit_or found (2 ^ bit_place heap (flag heap card))
+left_by heap (Raise card found) = bit_or found (2 ^ bit_index heap (flag heap card))
 left_by heap (Clean card found) = 0
 left_by heap (Read slot found) = found
 left_by heap (Seek pair found) = found
-left_by heap (Record pair found) = bit_or found (2 ^ bit_place heap pair)
+left_by heap (Record pair found) = bit_or found (2 ^ bit_index heap pair)
 
 -- what the seat knows after it
 abbrev pub after : WordStep → View → View
@@ -124,7 +124,7 @@ abbrev pub seen : RaceShape → TableState → TableState
 seen heap status =
     record { words = front heap status.words; views = map seen_view status.views }
 
--- steps of seats, each with the seat's place, made one after the other
+-- steps of seats, each with the seat's index, made one after the other
 abbrev pub Run : RaceShape → TableState → List (ℕ × WordStep) → TableState → Type 0
 Run heap before [] last = before ≡ last
 Run heap before (move ∷ moves) last =

@@ -5,7 +5,7 @@ use Rattle.g1_race_words.specs.Prelude.{bit_at}
 use Rattle.g1_race_words.specs.declared.view.RaceShape.{RaceShape}
 use Rattle.g1_race_words.specs.declared.view.View.{View}
 use Rattle.g1_race_words.specs.Begin.{Start}
-use Rattle.g1_race_words.specs.Rule.{slot_card, region_at, bit_place, crosses, flag, StoreHistory}
+use Rattle.g1_race_words.specs.Rule.{slot_card, region_at, bit_index, crosses, flag, StoreHistory}
 use Rattle.g1_race_words.specs.Rule.{null_of}
 use Rattle.g1_race_words.specs.Rule.{start_of}
 
@@ -79,7 +79,7 @@ owed_card (Some card) = card ∷ []
 abbrev pub set_flags : RaceShape → ℕ → List ℕ → List ℕ
 set_flags heap word [] = []
 set_flags heap word (card ∷ cards) =
-    if bit_at word (bit_place heap (flag heap card)) == 1 then card ∷ set_flags heap word cards
+    if bit_at word (bit_index heap (flag heap card)) == 1 then card ∷ set_flags heap word cards
     else set_flags heap word cards
 
 -- a racer finds the word with the flag of the card that it owes
@@ -127,7 +127,7 @@ read view slot word =
 abbrev pub unset : RaceShape → ℕ → List (ℕ × ℕ) → List (ℕ × ℕ)
 unset heap word [] = []
 unset heap word (pair ∷ pairs) =
-    if bit_at word (bit_place heap pair) == 1 then unset heap word pairs
+    if bit_at word (bit_index heap pair) == 1 then unset heap word pairs
     else pair ∷ unset heap word pairs
 
 -- a sweeper finds the word with the bit of the pair that it holds

@@ -17,7 +17,8 @@
 //! - A racer reads the flag of the card that it owes ([`RaceTable::spot`]) and sets it
 //!   ([`RaceTable::raise`]). It does so before it swaps the mark, so each dirty card has its flag
 //!   set.
-//! - Seats are split and joined. No word is read for it or written.
+//! - Seats are made, split and joined. Each of these is a load of the first word, whose value
+//!   nothing uses.
 //! - At a pause, the one seat that has the weight of all members learns the words, reads and writes
 //!   them, and lets them change again.
 //! - That seat may give shares of what it knows to readers ([`RaceTable::split_reader`]), each of

@@ -1,7 +1,7 @@
 //! The steps of a racer.
 ghost use Rattle.std.specs.Prelude.{◌≡◌, ◌-◌, ◌<◌, ◌∷◌};
 ghost use Rattle.g1_race_words.specs.Prelude.{ℕ, [], None};
-ghost use Rattle.g1_race_words.specs.Rule.{StoreHistory, IsWord, bit_place, flag};
+ghost use Rattle.g1_race_words.specs.Rule.{StoreHistory, IsWord, bit_index, flag};
 ghost use Rattle.g1_race_words.specs.Steps.{wrote, exchanged, looked, spotted, raised, owed_card};
 ghost use Rattle.g1_race_words.specs.Steps.{dirtied};
 ghost use Rattle.g1_race_words.specs.Seats.{Sits, IsFound, OwesMark, OwesFlag};
@@ -132,19 +132,19 @@ impl RaceTable {
         self.table.shared.load::<Spots>(&mut seat.seat, word)
     }
 
-    /// Sets the flag of the card that a racer owes: the bit `place` of the word. The racer then
+    /// Sets the flag of the card that a racer owes: the bit `index` of the word. The racer then
     /// knows that the flag is set. The call touches no slot and no mark.
-    pub fn raise(&self, seat: &mut RaceSeat, word: usize, place: u32)
+    pub fn raise(&self, seat: &mut RaceSeat, word: usize, index: u32)
         requires table { seat.old.table_id ≡ self.now.table_id }
         requires racer { Sits self.now.shape seat.old.me.0 }
         requires flag { (card : ℕ) × OwesFlag self.now.shape seat.old.me.0 card word
-            × (place ≡ bit_place self.now.shape (flag self.now.shape card)) }
+            × (index ≡ bit_index self.now.shape (flag self.now.shape card)) }
         ensures table { seat.new.table_id ≡ seat.old.table_id }
         ensures view { seat.new.me ≡ (raised seat.old.me.0, seat.old.me.1) }
     {
         self.table
             .shared
-            .fetch_or::<Raises>(&mut seat.seat, word, 1 << place);
+            .fetch_or::<Raises>(&mut seat.seat, word, 1 << index);
     }
 
     /// Swaps the mark of the card that a racer owes to dirty, and returns the mark as it was. The

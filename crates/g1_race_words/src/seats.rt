@@ -51,9 +51,9 @@ impl Play<(), View> for Comes {
     ghost then = { λ step before found after. after ≡ (blank (start_of before.0) 0 [], []) };
 }
 
-pub(crate) struct ComesSpent;
+pub(crate) struct ComesVacant;
 
-impl Play<(), View> for ComesSpent {
+impl Play<(), View> for ComesVacant {
     ghost use Rattle.std.specs.Prelude.{◌≡◌};
     ghost use Rattle.g1_race_words.specs.Prelude.{[]};
     ghost use Rattle.g1_race_words.specs.Steps.{no_seat};
@@ -71,13 +71,13 @@ impl RaceTable {
         RaceSeat { seat }
     }
 
-    /// Makes a spent seat, such as a join leaves: it answers for nothing, and its shape is that of
-    /// no race. It stands in for the seat of a member that a pause has taken.
-    pub fn spent(&self) -> RaceSeat
+    /// Makes a vacant seat, such as a join leaves. It stands in for the seat of a member that a
+    /// pause has taken, and its shape is that of no race.
+    pub fn vacant(&self) -> RaceSeat
         ensures table { result.table_id ≡ self.now.table_id }
         ensures view { result.me ≡ (no_seat, []) }
     {
-        let (_, seat) = self.table.shared.load_new_seat::<ComesSpent>(0);
+        let (_, seat) = self.table.shared.load_new_seat::<ComesVacant>(0);
         RaceSeat { seat }
     }
 

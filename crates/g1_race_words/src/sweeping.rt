@@ -1,7 +1,7 @@
 //! The steps of a sweeper.
 ghost use Rattle.std.specs.Prelude.{◌≡◌, ◌-◌, ◌<◌};
 ghost use Rattle.g1_race_words.specs.Prelude.{ℕ, []};
-ghost use Rattle.g1_race_words.specs.Rule.{IsWord, bit_place};
+ghost use Rattle.g1_race_words.specs.Rule.{IsWord, bit_index};
 ghost use Rattle.g1_race_words.specs.Steps.{cleaned, read, sought, recorded};
 ghost use Rattle.g1_race_words.specs.Seats.{Sits, IsMark, HoldsBit};
 
@@ -91,18 +91,18 @@ impl RaceTable {
         self.table.shared.load::<Seeks>(&mut seat.seat, word)
     }
 
-    /// Sets the bit of the pair that a sweeper holds: the bit `place` of the word. The sweeper
+    /// Sets the bit of the pair that a sweeper holds: the bit `index` of the word. The sweeper
     /// holds the pair no more. The call touches no slot and no mark.
-    pub fn record(&self, seat: &mut RaceSeat, word: usize, place: u32)
+    pub fn record(&self, seat: &mut RaceSeat, word: usize, index: u32)
         requires table { seat.old.table_id ≡ self.now.table_id }
         requires sweeper { Sits self.now.shape seat.old.me.0 }
         requires pair { (x : ℕ × ℕ) × HoldsBit self.now.shape seat.old.me.0 x word
-            × (place ≡ bit_place self.now.shape x) }
+            × (index ≡ bit_index self.now.shape x) }
         ensures table { seat.new.table_id ≡ seat.old.table_id }
         ensures view { seat.new.me ≡ (recorded seat.old.me.0, seat.old.me.1) }
     {
         self.table
             .shared
-            .fetch_or::<Records>(&mut seat.seat, word, 1 << place);
+            .fetch_or::<Records>(&mut seat.seat, word, 1 << index);
     }
 }

@@ -219,6 +219,6 @@ fn a_heap_for_as_many_threads_as_there_may_be(rt: HostRuntime) -> Result<(), Fai
     let layout = Layout::new(4, 2, 4).ok_or("layout")?;
     let (race, racers, sweepers) = Paused::open(rt.alloc(), layout, 64, 64)?.resume();
     assert!(rt; racers.len() == 64 && sweepers.len() == 64);
-    assert_equal(&rt, race.members(), 128);
+    assert_equal(&rt, race.member_count(), 128);
     Ok(())
 }

@@ -186,6 +186,6 @@ fn four_readers(rt: HostRuntime) -> Result<(), Fail> {
     let mut paused = reading.pause(&mut readers);
     store_and_drain(&rt, rt.alloc(), &mut paused)?;
     let (race, racers, sweepers) = paused.resume();
-    assert!(rt; race.members() == racers.len() + sweepers.len());
+    assert!(rt; race.member_count() == racers.len() + sweepers.len());
     Ok(())
 }

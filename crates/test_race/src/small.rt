@@ -98,7 +98,7 @@ impl Small {
     /// A race that goes on from a pause, with its two racers and its sweeper.
     pub(crate) fn go_on(rt: &impl Abort, paused: Paused) -> Small {
         let (race, racers, sweepers) = paused.resume();
-        assert!(rt; race.members() == 3 && racers.len() == 2 && sweepers.len() == 1);
+        assert!(rt; race.member_count() == 3 && racers.len() == 2 && sweepers.len() == 1);
         Small::new(race, racers, sweepers)
     }
 

@@ -39,7 +39,7 @@ fn look_in<P: Role, H: AnyHandle<Value = Member<P>>>(
     let member = into_box(replace(handle, closed(alloc))).ok_or(Reason::NotOpen)?;
     let answer = if member.role.is_none() {
         Err(Reason::NotOpen)
-    } else if member.race.members() != members {
+    } else if member.race.member_count() != members {
         Err(Reason::OtherRace)
     } else {
         Ok(())

@@ -78,7 +78,7 @@ fn pause_of(
     if racers.len() != under_way.racers.count || sweepers.len() != under_way.sweepers.count {
         return Err(Reason::BadMembers);
     }
-    let members = under_way.race.members();
+    let members = under_way.race.member_count();
     look_at(alloc, racers, members)?;
     look_at(alloc, sweepers, members)?;
     let share = share_of_race(alloc, &under_way.race, racers, sweepers);

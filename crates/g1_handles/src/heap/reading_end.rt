@@ -65,7 +65,7 @@ fn end_read_of(
     if readers.len() != being_read.readers.out.count {
         return Err(Reason::BadMembers);
     }
-    look_at(alloc, readers, being_read.race.members())?;
+    look_at(alloc, readers, being_read.race.member_count())?;
     if !are_of(alloc, &being_read.race, readers) {
         return Err(Reason::OtherRace);
     }

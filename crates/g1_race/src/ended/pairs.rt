@@ -1,7 +1,7 @@
 //! The recorded pairs of a race that is over.
 ghost use Rattle.std.specs.Prelude.{◌≡◌, ◌≢◌, ◌==◌, ◌+◌, ◌*◌, ◌/◌, ◌%◌, ◌<◌, ◌≤◌, ◌++◌};
 ghost use Rattle.g1_race.specs.{IfOk, OnOk, length, slice_index, bit_at, slots_items, slots_len};
-ghost use Rattle.g1_race.specs.{IsFull, IsWholeShape, IsPair, bit_word, bit_place, pairs_of_card};
+ghost use Rattle.g1_race.specs.{IsFull, IsWholeShape, IsPair, bit_word, bit_index, pairs_of_card};
 ghost use Rattle.g1_race.specs.{pairs_up_to, word_count, shape_of, block_regions};
 
 use crate::bits::bit_of;
@@ -26,10 +26,10 @@ pub(crate) fn has_bit(
         × IsFull words.now.words }
     ensures { let words = slots_items words.now.words in
         let word = slice_index words (bit_word shape (card, region)) in
-        result ≡ (bit_at word (bit_place shape (card, region)) == 1) }
+        result ≡ (bit_at word (bit_index shape (card, region)) == 1) }
 {
-    let (at, place) = bit_of(shape, card, region);
-    (words.word(at) >> place) & 1 == 1
+    let (at, index) = bit_of(shape, card, region);
+    (words.word(at) >> index) & 1 == 1
 }
 
 // The pairs whose bits are set, by card and then by region. Looks at each word of bits twice, and
@@ -113,14 +113,14 @@ fn list_card(
 {
     for region in regions {
         if has_bit(words, shape, card, *region) {
-            pairs.push(pair_at(layout, shape, card, *region))?;
+            pairs.push(pair_numbered(layout, shape, card, *region))?;
         }
     }
     Ok(())
 }
 
 // The pair with these numbers.
-fn pair_at(layout: Layout, shape: RaceShape, card: usize, region: usize) -> (Card, Region)
+fn pair_numbered(layout: Layout, shape: RaceShape, card: usize, region: usize) -> (Card, Region)
     requires shape { IsWholeShape shape }
     requires laid { shape ≡ shape_of layout shape.members }
     requires pair { IsPair shape (card, region) }

@@ -56,7 +56,7 @@ impl Reader {
         ensures same { self.new ≡ self.old }
     {
         let mut from = 0;
-        while let Some(card) = self.next_in_row(race, from, region) {
+        while let Some(card) = self.next_in_row(race, from, race.shape.cards, region) {
             if let Some(slot) = self.entering_on(race, card, region) {
                 return Some(slot);
             }

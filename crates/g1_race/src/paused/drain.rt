@@ -4,7 +4,7 @@ ghost use Rattle.g1_race.specs.{ℕ, [], IfOk, OnErr, length, map, replicate, ve
 ghost use Rattle.g1_race.specs.{IsStrictlyIncreasing, slot_count, card_count, IsStep, drain_cards};
 ghost use Rattle.g1_race.specs.{drain_entry, drain_refined, IsOfCrossing, IsWord, slot_card};
 ghost use Rattle.g1_race.specs.{pair_at, racer_log, table_at, Notes, RefinesCard, AreRefined};
-ghost use Rattle.g1_race.specs.{AreUnflagged, SlotsBecome, same_word, IsRefinedRace, IsWhole};
+ghost use Rattle.g1_race.specs.{AreUnflagged, IsWhole};
 ghost use Rattle.g1_race.specs.{IsExactAtPause, IsPauseReader, Refines};
 
 use crate::bits::bit_of;
@@ -12,7 +12,7 @@ use crate::paused::Paused;
 use crate::paused::holds::HoldsRace;
 use crate::paused::reading::Reader;
 use crate::race::{Race, Racer};
-use crate::word::pair_of;
+use crate::word::pair_at;
 use g1_core::{CardList, Drained};
 use g1_layout::{NoMemory, Region};
 use std::alloc::Global;
@@ -31,8 +31,7 @@ impl<R: HoldsRace> Paused<R> {
     #[tactic(auto, using(crate::proofs::members_room))]
     pub fn drain(&mut self, alloc: Global, region: Region) -> Result<Drained, NoMemory>
         requires { region < self.old.layout.regions }
-        ensures race { IfOk result (λ answer. IsRefinedRace self.old self.new) }
-        ensures words { IfOk result (λ answer. SlotsBecome same_word self.old self.new) }
+        ensures refines { IfOk result (λ answer. Refines self.old self.new) }
         ensures whole { IfOk result IsWhole }
         ensures few { IfOk result (λ answer.
             length (drain_cards answer) ≤ card_count self.old.layout) }
@@ -45,7 +44,7 @@ impl<R: HoldsRace> Paused<R> {
         ensures err { OnErr result (self.new ≡ self.old) }
     {
         let refined = self.dirty_cards(alloc)?;
-        let room = self.member_count(region) + refined.len();
+        let room = self.set_len(region) + refined.len();
         let mut cards = Vec::with_capacity(alloc, room)?;
         self.refine_all();
         self.gather(region, &mut cards);
@@ -113,7 +112,7 @@ impl Reader {
         ensures notes { Notes race.now.shape self.old.start.words self.new.start.words
             (pair_at race.now.shape slot word) }
     {
-        if let Some((card, region)) = pair_of(race, card, slot, word) {
+        if let Some((card, region)) = pair_at(race, card, slot, word) {
             self.set_bit(race, card, region);
         }
     }
@@ -130,12 +129,12 @@ impl Reader {
         ensures notes { Notes race.now.shape self.old.start.words self.new.start.words
             ((card, region) ∷ []) }
     {
-        let (at, place) = bit_of(race.shape, card, region);
+        let (at, index) = bit_of(race.shape, card, region);
         let found = self.see(race, at);
-        if (found >> place) & 1 == 1 {
+        if (found >> index) & 1 == 1 {
             return;
         }
-        self.put(race, at, found | (1 << place));
+        self.put(race, at, found | (1 << index));
     }
 }
 

@@ -13,7 +13,10 @@ use g1_layout::Region;
 impl<R: HoldsRace> Paused<R> {
     /// Removes the region's cards from the remembered sets of all regions. No slot of the region
     /// may refer out of it, as after [`Paused::wipe`]. Later drains then return no card of the
-    /// region until one is stored to. Takes no memory.
+    /// region until one is stored to.
+    ///
+    /// Reads, in each region's row, the words with the bits of the region's cards, and at most two
+    /// words more for each bit that it clears. Takes no memory.
     #[tactic(auto, using(crate::proofs::front_words, crate::proofs::lent_view))]
     pub fn forget(&mut self, region: Region)
         requires region { region < self.old.layout.regions }
@@ -29,7 +32,7 @@ impl<R: HoldsRace> Paused<R> {
 }
 
 impl Reader {
-    // Clears the bits of the cards from one on, up to another, in the row of each region.
+    // Clears the bits of the cards at or after `first` and before `end`, in the row of each region.
     #[tactic(auto, using(crate::proofs::slot_back))]
     fn forget_cards(&mut self, race: &Race, first: usize, end: usize)
         requires reader { IsPauseReader race.now self.old }
@@ -60,10 +63,7 @@ impl Reader {
             (λ x. (x.1 ≡ region) × (first ≤ x.0) × (x.0 < end)) }
     {
         let mut from = first;
-        while let Some(card) = self.next_in_row(race, from, region) {
-            if card >= end {
-                return;
-            }
+        while let Some(card) = self.next_in_row(race, from, end, region) {
             self.clear_bit(race, card, region);
             from = card + 1;
         }
@@ -80,8 +80,8 @@ impl Reader {
         ensures unset { AreUnset race.now.shape self.old.start.words self.new.start.words
             (λ x. x ≡ (card, region)) }
     {
-        let (at, place) = bit_of(race.shape, card, region);
+        let (at, index) = bit_of(race.shape, card, region);
         let found = self.see(race, at);
-        self.put(race, at, found & !(1 << place));
+        self.put(race, at, found & !(1 << index));
     }
 }

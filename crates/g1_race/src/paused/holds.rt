@@ -1,14 +1,13 @@
-//! What a pause holds its race by.
+//! How a pause owns its race.
 
 use crate::race::Race;
 use std::alloc::Global;
 use std::sync::Arc;
 
-/// How a pause owns its race: by value or by `Arc`.
+/// How a pause owns its race: by value or by `Arc`, which is a share of it.
 ///
-/// With a share, the threads that share the race keep their own shares over the pause. These can do
-/// nothing to its words meanwhile, since each call on them takes a racer or a sweeper, and all of
-/// these are in the pause.
+/// With a share, the threads that share the race keep their own shares over the pause
+/// ([`Paused::of`](crate::Paused::of)).
 pub trait HoldsRace {
     ghost use Rattle.std.specs.Prelude.{◌≡◌};
     ghost use Rattle.g1_race.specs.declared.race.Race.{Race};

@@ -70,8 +70,8 @@ impl<R: HoldsRace> Paused<R> {
     /// word for each 64 cards up to it, and the marks of each eight of these of which one was
     /// dirtied since all were last refined at a pause. Takes no memory.
     ///
-    /// A walk over all of them goes on from the number behind the card that it got, which may be no
-    /// card's.
+    /// To walk over all of them, ask again from the card's number plus 1, which may be past the
+    /// last card.
     pub fn next_dirty(&mut self, from: u32) -> Option<Card>
         ensures dirty { IsNextPending (table_at self.old) from result }
         ensures same { self.new ≡ self.old }
@@ -80,8 +80,8 @@ impl<R: HoldsRace> Paused<R> {
     }
 
     /// Returns the least card from the number `from` on that is recorded for a region, or `None` if
-    /// there is none. Reads a word for each 64 cards up to it. Takes no memory. A walk goes on as
-    /// that of [`Paused::next_dirty`] does.
+    /// there is none. Reads a word for each 64 cards up to it. Takes no memory. To walk over all of
+    /// them, ask again as with [`Paused::next_dirty`].
     pub fn next_member(&mut self, region: Region, from: u32) -> Option<Card>
         requires { region < self.old.layout.regions }
         ensures member { IsNextMember (table_at self.old) region from result }
@@ -108,7 +108,7 @@ impl<R: HoldsRace> Paused<R> {
 
     // How many cards the region's set has.
     #[tactic(auto, using(crate::proofs::few, crate::proofs::cards_fit))]
-    pub(crate) fn member_count(&mut self, region: Region) -> usize
+    pub(crate) fn set_len(&mut self, region: Region) -> usize
         requires { region < self.old.layout.regions }
         ensures count { result ≡ length (member_cards self.old.shape self.old.words region) }
         ensures few { result < 2 ^ 32 }

@@ -18,7 +18,7 @@ pub(crate) enum Sought {
 }
 
 impl Reader {
-    // The least dirty card from one on.
+    // The least dirty card at or after `from`.
     pub(crate) fn next_marked(&mut self, race: &Race, from: usize) -> Option<usize>
         requires { reader_race self.old ≡ race_id race.now }
         ensures next { IsNext (is_marked race.now.shape self.old.start.words) race.now.shape.cards
@@ -35,8 +35,8 @@ impl Reader {
         None
     }
 
-    // A card from one on before which none is dirty: the first of the next eight that have their
-    // flag set, or the card itself where it is not the first of its eight.
+    // A card at or after `from`, and none between the two is dirty: the first of the next eight
+    // that have their flag set, or `from` itself where it is not the first of its eight.
     #[tactic(auto, using(crate::proofs::skips_none, crate::proofs::reader_begun))]
     fn next_flagged(&mut self, race: &Race, from: usize) -> Option<usize>
         requires { reader_race self.old ≡ race_id race.now }
@@ -46,7 +46,7 @@ impl Reader {
     {
         let _seat = &self.seat;
         if from % 8 == 0 {
-            return self.next_in_row(race, from, race.shape.regions);
+            return self.next_in_row(race, from, race.shape.cards, race.shape.regions);
         }
         if from < race.shape.cards {
             Some(from)
@@ -55,32 +55,38 @@ impl Reader {
         }
     }
 
-    // The least card from one on that is of the region's set, or in the row of flags the least
-    // whose flag is set.
+    // The least card at or after `from` and before `end` that is of the region's set, or in the row
+    // of flags the least whose flag is set.
     #[tactic(auto, using(crate::proofs::next_past, crate::proofs::none_of_word))]
-    pub(crate) fn next_in_row(&mut self, race: &Race, from: usize, region: usize) -> Option<usize>
+    pub(crate) fn next_in_row(
+        &mut self,
+        race: &Race,
+        from: usize,
+        end: usize,
+        region: usize,
+    ) -> Option<usize>
         requires reader { reader_race self.old ≡ race_id race.now }
+        requires end { end ≤ race.now.shape.cards }
         requires region { region ≤ race.now.shape.regions }
-        ensures next { IsNext (is_member race.now.shape self.old.start.words region)
-            race.now.shape.cards from result }
+        ensures next { IsNext (is_member race.now.shape self.old.start.words region) end from
+            result }
         ensures same { self.new ≡ self.old }
     {
         let shape = race.shape;
-        let cards = shape.cards;
         let mut card = from;
-        while card < cards {
-            let (at, place) = bit_of(shape, card, region);
-            let rest = self.see(race, at) >> place;
+        while card < end {
+            let (at, index) = bit_of(shape, card, region);
+            let rest = self.see(race, at) >> index;
             if rest != 0 {
                 let next = card + rest.trailing_zeros() as usize;
-                return if next < cards { Some(next) } else { None };
+                return if next < end { Some(next) } else { None };
             }
             card = (card / 64 + 1) * 64;
         }
         None
     }
 
-    // The least of the cards from one on.
+    // The least of these cards at or after `from`.
     #[inline(always)]
     fn next_sought(&mut self, race: &Race, sought: Sought, from: usize) -> Option<usize>
         requires reader { reader_race self.old ≡ race_id race.now }
@@ -91,7 +97,7 @@ impl Reader {
     {
         match sought {
             Sought::Dirty => self.next_marked(race, from),
-            Sought::Of(region) => self.next_in_row(race, from, region),
+            Sought::Of(region) => self.next_in_row(race, from, race.shape.cards, region),
         }
     }
 

@@ -2,7 +2,8 @@
 ghost use Rattle.std.specs.Prelude.{◌≡◌, ◌+◌, ◌≤◌};
 ghost use Rattle.g1_race.specs.{[], IfOk, replicate, map, vec_len, opening, IsWholeShape, null_of};
 ghost use Rattle.g1_race.specs.{shape_of, table_at, start_at, race_layout, race_shape, racer_log};
-ghost use Rattle.g1_race.specs.{AreFreshRacers, AreFreshSweepers, HaveBegun, HaveBegunWith};
+ghost use Rattle.g1_race.specs.{AreFreshRacers, AreFreshSweepers, HaveBegun, HaveBegunWith, All};
+ghost use Rattle.g1_race.specs.{race_id, racer_race, sweeper_race};
 
 use crate::paused::Paused;
 use crate::paused::reading::Reader;
@@ -36,8 +37,8 @@ impl Paused {
     {
         let shape = shape_of(layout, racers as usize + sweepers as usize);
         let (table, seat) = RaceTable::open(alloc, shape)?;
-        let racers = spent_racers(alloc, &table, racers as usize)?;
-        let sweepers = spent_sweepers(alloc, &table, sweepers as usize)?;
+        let racers = vacant_racers(alloc, &table, racers as usize)?;
+        let sweepers = vacant_sweepers(alloc, &table, sweepers as usize)?;
         let race = Race {
             table,
             layout,
@@ -74,6 +75,10 @@ impl Race {
         ensures began { IfOk result (λ r. HaveBegunWith (opening layout) r.0 r.1 r.2) }
         ensures racers { IfOk result (λ r. AreFreshRacers r.0 racers r.1) }
         ensures sweepers { IfOk result (λ r. AreFreshSweepers r.0 sweepers r.2) }
+        ensures all_racers { IfOk result (λ r.
+            All (λ x. racer_race x ≡ race_id r.0) r.1.items) }
+        ensures all_sweepers { IfOk result (λ r.
+            All (λ x. sweeper_race x ≡ race_id r.0) r.2.items) }
     {
         let paused = Paused::open(alloc, layout, racers, sweepers)?;
         Ok(paused.resume())
@@ -81,13 +86,13 @@ impl Race {
 }
 
 // As many racers at a pause, whose logs are empty.
-fn spent_racers(alloc: Global, table: &RaceTable, count: usize) -> Result<Vec<Racer>, NoMemory>
+fn vacant_racers(alloc: Global, table: &RaceTable, count: usize) -> Result<Vec<Racer>, NoMemory>
     ensures len { IfOk result (λ racers. vec_len racers ≡ count) }
     ensures logs { IfOk result (λ racers. map racer_log racers.items ≡ replicate count []) }
 {
     let mut racers = Vec::with_capacity(alloc, count)?;
     for _i in 0..count {
-        let seat = table.spent();
+        let seat = table.vacant();
         let log = ArrayVec::new();
         racers.push(Racer { seat, log })?;
     }
@@ -95,12 +100,12 @@ fn spent_racers(alloc: Global, table: &RaceTable, count: usize) -> Result<Vec<Ra
 }
 
 // As many sweepers at a pause.
-fn spent_sweepers(alloc: Global, table: &RaceTable, count: usize) -> Result<Vec<Sweeper>, NoMemory>
+fn vacant_sweepers(alloc: Global, table: &RaceTable, count: usize) -> Result<Vec<Sweeper>, NoMemory>
     ensures { IfOk result (λ sweepers. vec_len sweepers ≡ count) }
 {
     let mut sweepers = Vec::with_capacity(alloc, count)?;
     for _i in 0..count {
-        let seat = table.spent();
+        let seat = table.vacant();
         sweepers.push(Sweeper { seat })?;
     }
     Ok(sweepers)

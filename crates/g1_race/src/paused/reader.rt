@@ -16,8 +16,10 @@ use g1_layout::{Card, NoMemory, Region, Slot};
 use std::alloc::Global;
 
 impl Reader {
-    /// Returns what a slot refers to, or `None` for null. Reads one word. The reader and the slot
-    /// must be of this race.
+    /// Returns what a slot refers to, as [`Paused::target`] does. The reader and the slot must be
+    /// of this race.
+    ///
+    /// [`Paused::target`]: crate::Paused::target
     pub fn target(&mut self, race: &Race, slot: Slot) -> Option<Slot>
         requires reader { reader_race self.old ≡ race_id race.now }
         requires slot { slot < slot_count (race_layout race.now) }
@@ -31,8 +33,10 @@ impl Reader {
         refers_to(race.layout, word)
     }
 
-    /// Returns whether a card is pending: dirty, by a store or from the beginning. Reads one word.
-    /// The reader and the card must be of this race.
+    /// Returns whether a card is pending, as [`Paused::is_pending`] does. The reader and the card
+    /// must be of this race.
+    ///
+    /// [`Paused::is_pending`]: crate::Paused::is_pending
     pub fn is_pending(&mut self, race: &Race, card: Card) -> bool
         requires reader { reader_race self.old ≡ race_id race.now }
         requires card { card < card_count (race_layout race.now) }
@@ -44,7 +48,10 @@ impl Reader {
         self.see(race, race.shape.slots + card.number() as usize) == 1
     }
 
-    /// Returns whether a pair is recorded. Reads one word. The reader must be of this race.
+    /// Returns whether a pair is recorded, as [`Paused::has`] does. The reader must be of this
+    /// race.
+    ///
+    /// [`Paused::has`]: crate::Paused::has
     pub fn has(&mut self, race: &Race, card: Card, region: Region) -> bool
         requires reader { reader_race self.old ≡ race_id race.now }
         ensures has { IsTrue result ↔ IsRecorded (table_read race.now self.old) card region }
@@ -61,12 +68,10 @@ impl Reader {
         self.is_set(race, card, region)
     }
 
-    /// Returns the cards of a region's remembered set as it is recorded, ascending, each once.
-    /// Dirty cards may be missing from it. Reads a word for each 64 cards of the heap, and one more
-    /// for each card of the set, and all of this twice. The reader and the region must be of this
-    /// race.
+    /// Returns a region's remembered set, as [`Paused::members`] does. The reader and the region
+    /// must be of this race.
     ///
-    /// Returns `NoMemory` if the room for the list was refused.
+    /// [`Paused::members`]: crate::Paused::members
     #[tactic(auto, using(crate::proofs::few))]
     pub fn members(
         &mut self,
@@ -123,7 +128,7 @@ impl Reader {
     {
         let _seat = &self.seat;
         let number = region.number() as usize;
-        let Some(card) = self.next_in_row(race, from as usize, number) else {
+        let Some(card) = self.next_in_row(race, from as usize, race.shape.cards, number) else {
             return None;
         };
         Some(card_at(race, card))
@@ -136,7 +141,7 @@ impl Reader {
         ensures set { IsTrue result ↔ HasBit race.now.shape self.old.start.words (card, region) }
         ensures same { self.new ≡ self.old }
     {
-        let (at, place) = bit_of(race.shape, card, region);
-        (self.see(race, at) >> place) & 1 == 1
+        let (at, index) = bit_of(race.shape, card, region);
+        (self.see(race, at) >> index) & 1 == 1
     }
 }

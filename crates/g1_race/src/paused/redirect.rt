@@ -1,11 +1,11 @@
 //! The redirect at a pause: it moves the references into a region to another region, and empties
 //! the region's remembered set.
 ghost use Rattle.std.specs.Prelude.{◌≡◌, ◌≢◌, ◌*◌, ◌<◌, ◌≤◌};
-ghost use Rattle.g1_race.specs.{ℕ, IfOk, OnErr, true, some, get_elem?, IsStep, redirect_entry};
-ghost use Rattle.g1_race.specs.{redirect_refined, moved, moved_count, IsStrictlyIncreasing};
-ghost use Rattle.g1_race.specs.{crosses, mark_word, region_at, table_at, AreMoved, AreMovedAway};
-ghost use Rattle.g1_race.specs.{HasMoved, into_count, word_after, IsRefinedRace, IsSameRace};
-ghost use Rattle.g1_race.specs.{SlotsBecome, AreUnflagged, IsPauseReader, Redirects};
+ghost use Rattle.g1_race.specs.{ℕ, IfOk, OnErr, true, some, get_elem?, redirect_refined, moved};
+ghost use Rattle.g1_race.specs.{moved_count, IsStrictlyIncreasing, crosses, mark_word, region_at};
+ghost use Rattle.g1_race.specs.{table_at, Moved, marked_cards, AreMoved, AreMovedAway, into_count};
+ghost use Rattle.g1_race.specs.{word_after, IsSameRace, SlotsBecome, AreUnflagged, IsPauseReader};
+ghost use Rattle.g1_race.specs.{Redirects};
 ghost use Rattle.std.specs.FinSet as set;
 
 use crate::paused::Paused;
@@ -23,14 +23,15 @@ impl<R: HoldsRace> Paused<R> {
     ///
     /// Every dirty card is refined first, as in a drain, and the racers' logs are emptied. Then
     /// each slot outside `from` that refers into `from` refers to the same offset in `to`. If the
-    /// slot lies outside `to`, its card is recorded for `to`. Slots inside `from` stay, and so
-    /// do slots with data. `Moved` has
-    /// how many slots changed, and the cards that were refined, ascending.
+    /// slot lies outside `to`, its card is recorded for `to`. Slots inside `from` stay, and so do
+    /// slots with data. `Moved` has how many slots changed, and the cards that were refined,
+    /// ascending.
     ///
-    /// Once all is refined it reads a word for each 64 cards of the heap and the slots of each card
-    /// of the set of `from`. The room for the list of refined cards is asked for first, and nothing
-    /// else takes memory. Returns `NoMemory` if that room was refused: nothing has changed. A
-    /// redirect is never `Short`.
+    /// Once all is refined it reads a word for each 64 cards of the heap twice, one more for each
+    /// card of the set of `from`, that card's slots, and at most a word for each slot that changes.
+    /// The room for the list of refined cards is asked for first, and nothing else takes memory.
+    /// Returns `NoMemory` if that room was refused: nothing has changed. A redirect is never
+    /// `Short`.
     pub fn redirect(
         &mut self,
         alloc: Global,
@@ -40,14 +41,11 @@ impl<R: HoldsRace> Paused<R> {
         requires from { from < self.old.layout.regions }
         requires to { to < self.old.layout.regions }
         requires apart { from ≢ to }
-        ensures race { IfOk result (λ answer. IsRefinedRace self.old self.new) }
-        ensures words { IfOk result (λ answer.
-            SlotsBecome (word_after self.old.shape from to) self.old self.new) }
-        ensures whole { IfOk result HasMoved }
+        ensures moved { IfOk result (λ answer. (slots : ℕ)
+            × (answer ≡ Moved slots (marked_cards self.old.shape self.old.words))
+            × Redirects self.old from to slots self.new) }
         ensures ascending { IfOk result (λ answer.
             IsStrictlyIncreasing (redirect_refined answer)) }
-        ensures step { IfOk result (λ answer. (caller : ℕ) →
-            IsStep (table_at self.old) (redirect_entry caller from to answer) (table_at self.new)) }
         ensures err { OnErr result (self.new ≡ self.old) }
     {
         let refined = self.dirty_cards(alloc)?;
@@ -108,7 +106,7 @@ impl Reader {
     {
         let mut count = 0;
         let mut next = 0;
-        while let Some(card) = self.next_in_row(race, next, from) {
+        while let Some(card) = self.next_in_row(race, next, race.shape.cards, from) {
             count += self.move_on(race, card, from, to);
             next = card + 1;
         }

@@ -4,6 +4,7 @@ ghost use Rattle.g1_race.specs.{[], All, IfOk, IfErr, length, map, vec_len, begi
 ghost use Rattle.g1_race.specs.{whole_seat, shape_of, table_at, start_at, began, IsSame, race_id};
 ghost use Rattle.g1_race.specs.{race_layout, race_shape, race_words, racer_log, AreFreshRacers};
 ghost use Rattle.g1_race.specs.{AreFreshSweepers, HaveBegunWith, IsNewRacer, IsNewSweeper};
+ghost use Rattle.g1_race.specs.{racer_race, sweeper_race};
 
 use crate::paused::Paused;
 use crate::paused::holds::HoldsRace;
@@ -35,6 +36,9 @@ impl<R: HoldsRace> Paused<R> {
         ensures logs { map racer_log result.1.items ≡ self.logs }
         ensures sweepers { (vec_len result.2 ≡ self.sweepers)
             × All (IsNewSweeper (race_id (R.held result.0)).0 (start_at self)) result.2.items }
+        ensures all_racers { All (λ r. racer_race r ≡ race_id (R.held result.0)) result.1.items }
+        ensures all_sweepers { All (λ w. sweeper_race w ≡ race_id (R.held result.0))
+            result.2.items }
     {
         let Paused {
             race,
@@ -77,6 +81,10 @@ impl Race {
         ensures began { IfOk result (λ r. HaveBegunWith core.state.table r.0 r.1 r.2) }
         ensures racers { IfOk result (λ r. AreFreshRacers r.0 racers r.1) }
         ensures sweepers { IfOk result (λ r. AreFreshSweepers r.0 sweepers r.2) }
+        ensures all_racers { IfOk result (λ r.
+            All (λ x. racer_race x ≡ race_id r.0) r.1.items) }
+        ensures all_sweepers { IfOk result (λ r.
+            All (λ x. sweeper_race x ≡ race_id r.0) r.2.items) }
         ensures refused { IfErr result (λ e. IsSame core e.0) }
     {
         match Race::begin_from(alloc, &mut core, racers, sweepers) {
@@ -101,6 +109,10 @@ impl Race {
         ensures began { IfOk result (λ r. HaveBegunWith core.old.state.table r.0 r.1 r.2) }
         ensures racers { IfOk result (λ r. AreFreshRacers r.0 racers r.1) }
         ensures sweepers { IfOk result (λ r. AreFreshSweepers r.0 sweepers r.2) }
+        ensures all_racers { IfOk result (λ r.
+            All (λ x. racer_race x ≡ race_id r.0) r.1.items) }
+        ensures all_sweepers { IfOk result (λ r.
+            All (λ x. sweeper_race x ≡ race_id r.0) r.2.items) }
         ensures same { IsSame core.old core.new }
     {
         let paused = Paused::begin_from(alloc, core, racers, sweepers)?;

@@ -9,7 +9,7 @@ use std::alloc::Global;
 use std::sync::Arc;
 
 impl Paused {
-    /// The same pause, which holds its race by a share, and one more share of that race.
+    /// Returns the same pause, which holds its race by a share, and one more share of that race.
     ///
     /// Takes constant time and one allocation, for the race itself and the counts of its shares.
     /// The words of the race stay where they are.

@@ -29,8 +29,8 @@ impl Race {
     ///   beginning. Its card lies outside its region.
     /// - A slot that refers into another region has its card dirty or its pair recorded.
     ///
-    /// Takes no memory and copies no word. The only steps that it makes are those that join the
-    /// seats, and one more. Each log stays where it is, in its racer.
+    /// Takes no memory and copies no word. It makes two loads, and two for each member; nothing
+    /// uses their values. Each log stays where it is, in its racer.
     pub fn pause(self, racers: Vec<Racer>, sweepers: Vec<Sweeper>) -> Paused
         requires racers { (vec_len racers + vec_len sweepers ≡ (race_shape self).members)
             × All (λ r. racer_race r ≡ race_id self) racers.items }
@@ -114,7 +114,7 @@ fn join_racers(table: &RaceTable, pause_seat: &mut RaceSeat, racers: &mut Vec<Ra
     while left > 0 {
         left -= 1;
         let racer = &mut racers[left];
-        let seat = replace(&mut racer.seat, table.spent());
+        let seat = replace(&mut racer.seat, table.vacant());
         table.join(pause_seat, seat);
     }
 }
@@ -136,7 +136,7 @@ fn join_sweepers(table: &RaceTable, pause_seat: &mut RaceSeat, sweepers: &mut Ve
     while left > 0 {
         left -= 1;
         let sweeper = &mut sweepers[left];
-        let seat = replace(&mut sweeper.seat, table.spent());
+        let seat = replace(&mut sweeper.seat, table.vacant());
         table.join(pause_seat, seat);
     }
 }

@@ -1,6 +1,6 @@
 //! Concurrent refinement, which races with stores.
 ghost use Rattle.std.specs.Prelude.{◌≡◌, ◌+◌, ◌-◌, ◌*◌, ◌<◌, ◌∷◌, if◌then◌else◌};
-ghost use Rattle.g1_race.specs.Prelude.{[], OnOk, OnErr, length, IsPair, IsWord, slot_card};
+ghost use Rattle.g1_race.specs.Prelude.{[], length, IsPair, IsWord, slot_card};
 ghost use Rattle.g1_race.specs.Prelude.{start_of, pair_at, recorded, slot_count, card_count};
 ghost use Rattle.std.specs.Result.{IsOk};
 ghost use Rattle.g1_race.specs.Members.{race_id, race_layout, sweeper_race, sweeper_start};
@@ -8,7 +8,7 @@ ghost use Rattle.g1_race.specs.Members.{sweeper_view, IsSweeperSeat, Recording, 
 
 use crate::bits::bit_of;
 use crate::race::{Race, Sweeper};
-use crate::word::pair_of;
+use crate::word::pair_at;
 use g1_layout::{Card, NoMemory};
 use g1_race_words::RaceSeat;
 
@@ -37,9 +37,7 @@ impl Sweeper {
         ensures done { IsOk result }
         ensures race { sweeper_race self.new ≡ sweeper_race self.old }
         ensures start { sweeper_start self.new ≡ sweeper_start self.old }
-        ensures swept { OnOk result
-            ((sweeper_view self.new).swept ≡ card ∷ (sweeper_view self.old).swept) }
-        ensures refused { OnErr result (sweeper_view self.new ≡ sweeper_view self.old) }
+        ensures swept { (sweeper_view self.new).swept ≡ card ∷ (sweeper_view self.old).swept }
     {
         let _swept = self.sweep(race, card);
         Ok(())
@@ -106,7 +104,7 @@ fn note_slot(race: &Race, seat: &mut RaceSeat, card: usize, slot: usize, word: u
     ensures seat { seat.new.me ≡ (recorded seat.old.me.0, seat.old.me.1) }
     ensures pairs { length (pair_at race.now.shape slot word) ≡ (if result then 1 else 0) }
 {
-    let Some((card, region)) = pair_of(race, card, slot, word) else {
+    let Some((card, region)) = pair_at(race, card, slot, word) else {
         return false;
     };
     record_pair(race, seat, card, region);
@@ -121,10 +119,10 @@ fn record_pair(race: &Race, seat: &mut RaceSeat, card: usize, region: usize)
     ensures seat { seat.new.me ≡ (recorded seat.old.me.0, seat.old.me.1) }
 {
     let words = &race.table;
-    let (at, place) = bit_of(race.shape, card, region);
+    let (at, index) = bit_of(race.shape, card, region);
     let found = words.seek(seat, at);
-    if (found >> place) & 1 == 1 {
+    if (found >> index) & 1 == 1 {
         return;
     }
-    words.record(seat, at, place);
+    words.record(seat, at, index);
 }

@@ -1,5 +1,5 @@
 use Rattle.std.specs.Prelude.{◌≡◌}
-use Rattle.g1_race.specs.{ℕ, get_or, eqb, List, sym, ap, ◌∙◌, subst, arith, eq-eqb, eqb-true, bit_at, slots_items, bit_word, bit_place, IsPair, IsRecorded, Ended, table_of}
+use Rattle.g1_race.specs.{ℕ, get_or, eqb, List, sym, ap, ◌∙◌, subst, arith, eq-eqb, eqb-true, bit_at, slots_items, bit_word, bit_index, IsPair, IsRecorded, Ended, table_of}
 use Rattle.g1_race.proofs.{recorded_set, set_recorded}
 use Rattle.g1_race.proofs.ended.Closed.has.Goals as goal
 
@@ -20,7 +20,7 @@ returns c =
     let x : ℕ × ℕ = (c.args.card, c.args.region) in
     let same : (c.number.result, c.number-2.result) ≡ x = λ i. (c.number.ensures i, c.number-2.ensures i) in
     let pair : IsPair a.shape x = (omega (arith, c.if-card-self.false, c.number.ensures), omega (arith, c.if-region-self.false, c.number-2.ensures)) in
-    let is = c.has_bit.ensures ∙ ap (λ (y : ℕ × ℕ). eqb (bit_at (get_or words (bit_word a.shape y) 0) (bit_place a.shape y)) 1) same in (
+    let is = c.has_bit.ensures ∙ ap (λ (y : ℕ × ℕ). eqb (bit_at (get_or words (bit_word a.shape y) 0) (bit_index a.shape y)) 1) same in (
       λ t. subst (λ (e : Ended). IsRecorded (table_of e) c.args.card c.args.region) c.self.view_is (set_recorded a.shape a.layout words c.self.invariant.0.laid c.self.invariant.0.begun x pair (eqb-true _ 1 (sym is ∙ t))),
       λ r. is ∙ eq-eqb _ 1 (recorded_set a.shape a.layout words c.self.invariant.0.laid c.self.invariant.0.begun x (subst (λ (e : Ended). IsRecorded (table_of e) c.args.card c.args.region) (sym c.self.view_is) r)).1,
     )

@@ -6,7 +6,7 @@ pub returns-clause-exact : goal.returns-clause-exact
 returns-clause-exact g c =
     let old = c.args.self.now in
     let new = c.refine_all.new.self in
-    let same = c.member_count.ensures.same ∙ c.dirty_cards.ensures.same in
+    let same = c.set_len.ensures.same ∙ c.dirty_cards.ensures.same in
     let all = subst (λ (h : Pause). AreAllRefined (table_at h) (marked_cards h.shape h.words) (table_at new)) same c.refine_all.ensures.did.refined in
     subst (λ (cs : List ℕ). IsExactAtPause (table_at old) c.args.region cs) (sym c.of-cards.ensures)
     (exact_is (table_at old) (table_at new) c.args.region c.gather.new.cards.items (marked_cards old.shape old.words) all c.gather.ensures.members)

@@ -4,4 +4,4 @@ use Rattle.g1_race_words.proofs.table.RaceTable.raise.Goals as goal
 pub fetch_or-requires : goal.fetch_or-requires
 fetch_or-requires c =
     let asked = rw (← c.self.view_is, ← c.seat.view_is) at c.requires in
-    raise_owed _ _ c.self.invariant.0 c.self.invariant.2 c.seat.inside.seat asked.table c.args.word c.args.place asked.racer asked.flag.0 asked.flag.1 asked.flag.2
+    raise_owed _ _ c.self.invariant.0 c.self.invariant.2 c.seat.inside.seat asked.table c.args.word c.args.index asked.racer asked.flag.0 asked.flag.1 asked.flag.2

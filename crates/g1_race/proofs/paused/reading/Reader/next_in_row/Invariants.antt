@@ -10,4 +10,4 @@ invariant-loop-card l = record {
 }
 
 abbrev pub decreases-loop-card : goal.decreases-loop-card
-decreases-loop-card l = l.cards - l.card
+decreases-loop-card l = l.end - l.card

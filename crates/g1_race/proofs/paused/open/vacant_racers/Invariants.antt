@@ -1,6 +1,6 @@
 use Rattle.std.specs.Prelude.{◌≡◌}
 use Rattle.g1_race.specs.{[], replicate, map, vec_len, racer_log}
-use Rattle.g1_race.proofs.paused.open.spent_racers.Given as goal
+use Rattle.g1_race.proofs.paused.open.vacant_racers.Given as goal
 
 abbrev pub invariant-loop-i : goal.invariant-loop-i
 invariant-loop-i l = record {

@@ -1,6 +1,6 @@
 use Rattle.g1_race_words.specs.{arith, start_of, no_seat}
 use Rattle.g1_race_words.proofs.{enters_blank}
-use Rattle.g1_race_words.proofs.table.RaceTable.spent.Goals as goal
+use Rattle.g1_race_words.proofs.table.RaceTable.vacant.Goals as goal
 
 pub load_new_seat-seat-requires : goal.load_new_seat-seat-requires
 load_new_seat-seat-requires c =

@@ -1,8 +1,0 @@
-use Rattle.std.proofs.Common.{ap, sym, ◌∙◌}
-use Rattle.demo_race.proofs.live_on.Goals as goal
-
-pub run-requires-clause-racers : goal.run-requires-clause-racers
-run-requires-clause-racers g c κs within k d lt = (c.resume-race.ensures.racers.1 k d lt).0 ∙ ap (λ s. (c.resume-race.result.0.table.table_id, s)) (sym c.resume-race.ensures.shape)
-
-pub run-requires-clause-sweepers : goal.run-requires-clause-sweepers
-run-requires-clause-sweepers g c κs within k d lt = (c.resume-race.ensures.sweepers.1 k d lt).0 ∙ ap (λ s. (c.resume-race.result.0.table.table_id, s)) (sym c.resume-race.ensures.shape)
