@@ -11,7 +11,7 @@ use std::sync::ledger::Ledger;
 use std::thread::{self, Threads};
 
 /// What one mutator stores: into which slots of the heap, and what each is to refer to.
-pub type Stores = &'static [(u32, Option<u32>)];
+pub type MutatorStores = &'static [(u32, Option<u32>)];
 
 // How many rounds a refinement thread makes up to a pause.
 const ROUNDS: u32 = 20;
@@ -22,7 +22,7 @@ pub fn run<R: Threads + Wait + Sync, M: Terms + Send + Sync, S: Ledger + Send + 
     alloc: Global,
     shared: &Shared<M, S>,
     callers: Vec<Caller<M, S>>,
-    stores: &[Stores; 3],
+    stores: &[MutatorStores; 3],
 ) -> Result<Vec<Caller<M, S>>>
     requires mutators { M.terms.mutators ≡ 3 }
     requires of { All (IsCallerOf shared.now) callers.items }
@@ -50,7 +50,7 @@ fn run_one<R: Wait, M: Terms, S: Ledger>(
     rt: &R,
     shared: &Shared<M, S>,
     mut caller: Caller<M, S>,
-    stores: &[Stores; 3],
+    stores: &[MutatorStores; 3],
 ) -> Result<Caller<M, S>, Refusal>
     requires mutators { M.terms.mutators ≡ 3 }
     requires of { IsCallerOf shared.now caller }
@@ -70,7 +70,7 @@ fn store_each<R: Wait, M: Terms, S: Ledger>(
     rt: &R,
     shared: &Shared<M, S>,
     caller: &mut Caller<M, S>,
-    stores: Stores,
+    stores: MutatorStores,
 ) -> Result<(), Refusal>
     requires mutator { caller.old.counts.number < M.terms.mutators }
     requires of { IsCallerOf shared.now caller.old }

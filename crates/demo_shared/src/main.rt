@@ -15,7 +15,7 @@ mod callers;
 mod pause;
 
 use anyhow::{Context, Result, bail};
-use callers::{Stores, run};
+use callers::{MutatorStores, run};
 use g1_book::{Book, Shared, Terms};
 use g1_core::{Call, Config, Settings};
 use g1_layout::Layout;
@@ -28,7 +28,7 @@ use std::thread::Threads;
 
 // Up to the first pause slots 0, 4 and 16 of cards 0, 1 and 4 come to refer into region 1, and no
 // other slot outside it does: so its drain lists these cards, and 3 slots are redirected.
-static FIRST: [Stores; 3] = [
+static FIRST: [MutatorStores; 3] = [
     &[(0, Some(8)), (1, Some(16)), (4, Some(9)), (5, Some(6))],
     &[(16, Some(10)), (17, Some(1)), (18, Some(20))],
     &[(20, Some(2)), (21, Some(3))],
@@ -38,7 +38,7 @@ static FIRST: [Stores; 3] = [
 // into it, card 0 comes to have a second one and card 5 two: with slots 0 and 16, which the pause
 // redirected, and slots 1, 20 and 21 there are 5 slots, on cards 0, 4 and 5. Card 1 is listed too:
 // the redirect recorded it, and a remembered set keeps a card until it is cleared.
-static SECOND: [Stores; 3] = [
+static SECOND: [MutatorStores; 3] = [
     &[(4, None), (1, Some(24))],
     &[(17, None), (18, Some(1))],
     &[(20, Some(25)), (21, Some(26))],

@@ -8,7 +8,7 @@
 //! The definitions that their contracts cite stand in these three crates.
 #![tactic(auto)]
 
-pub use g1_history::{Book, Call, Entry, Keeps, Kept, Refusal, Reply, Tallied, cards_in};
+pub use g1_history::{Book, Call, Entry, Keeps, Kept, Refusal, Reply, Tallied};
 pub use g1_shared::{Caller, Counted, Shared, SharedCore, SharedDesk, Terms};
 pub use g1_steps::{
     Calls, Desk, FlushReply, Job, LentBook, LocalDesk, Mutator, NotStarted, Outcome, Script, Step,

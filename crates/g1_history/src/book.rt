@@ -12,10 +12,10 @@ use std::marker::Model;
 ///
 /// Its entries are a permitted run of the plain table that ends in the core's table. Each call
 /// either appends one entry, with its caller and exactly the reply that it returns, or is refused
-/// and changes nothing. A call returns `BookFull` exactly if the history has as many entries as it
-/// may have. That comes before `NoMemory`: no memory is asked for then. Otherwise room for the
-/// entry, and for its copies of the reply's lists, is made before the core changes. Growing the
-/// history is amortised over its entries.
+/// and changes nothing. A call returns `BookFull` exactly if as many calls were made as may be.
+/// That comes before `NoMemory`: no memory is asked for then. Otherwise room for the entry, and for
+/// its copies of the reply's lists, is made before the core changes. Growing the history is
+/// amortised over its entries.
 ///
 /// A `Book<Tallied>` keeps no entries, and only counts its calls and the stores among them.
 #[derive(Drop)]

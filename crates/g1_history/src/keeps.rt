@@ -21,7 +21,10 @@ pub trait Keeps: Drop {
     /// Whether entries are kept, with copies of the lists of their replies.
     const KEEPS: bool;
 
-    /// Makes room for one more entry, unless as many calls were made as may be.
+    /// Makes room for one more entry, and leaves what is remembered as it was.
+    ///
+    /// Returns `BookFull` exactly if as many calls were made as may be, and `NoMemory` if a growth
+    /// was refused.
     fn make_room(&mut self) -> Result<(), Refusal>
         requires within { let p = past self.old in made_of KEEPS p.entries p.totals ≤ p.limit }
         ensures same { past self.new ≡ past self.old }

@@ -22,5 +22,4 @@ mod store;
 pub use book::Book;
 pub use g1_core::{Call, Entry, Reply};
 pub use keeps::{Keeps, Kept, Tallied};
-pub use refinement::cards_in;
 pub use refusal::Refusal;

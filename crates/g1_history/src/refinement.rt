@@ -41,7 +41,7 @@ impl<H: Keeps> Book<H> {
 
 /// Returns how many cards a refinement of the buffer refines at most: the cards of the buffer, or 0
 /// if there is none. Constant time.
-pub fn cards_in(buffer: Option<&Buffer>) -> usize
+fn cards_in(buffer: Option<&Buffer>) -> usize
     ensures cards { result ≡ cards_in (option_map (λ b. b.now) buffer.entry) }
     ensures few { result ≤ 256 }
 {

@@ -10,7 +10,7 @@ pub enum Refusal {
     /// A growth was refused.
     #[error("no memory")]
     NoMemory,
-    /// The history has as many entries as it may have.
+    /// As many calls were made as may be.
     #[error("book full")]
     BookFull,
 }

@@ -62,20 +62,20 @@ HelpTakes (Some (Err e)) = Unit {0}
 
 store_takes : (m : ℕ) (old new : History) (slot : ℕ) (target : Option ℕ) (first : StoreReply) (cards : List ℕ) (help : Help) → AreCalls (IsBookCall m) old (Stored slot target first ∷ help_calls cards help) new → HelpTakes help
 store_takes m old new slot target first cards None h = tt
-store_takes m old new slot target first cards (Some (Ok reply)) h = h.2.1.refined.taken
+store_takes m old new slot target first cards (Some (Ok reply)) h = h.2.0.did.refined.taken
 store_takes m old new slot target first cards (Some (Err e)) h = tt
 
 flush_takes : (m : ℕ) (old new : History) (cards : List ℕ) (help : Help) → AreCalls (IsBookCall m) old (help_calls cards help) new → HelpTakes help
 flush_takes m old new cards None h = tt
-flush_takes m old new cards (Some (Ok reply)) h = h.1.refined.taken
+flush_takes m old new cards (Some (Ok reply)) h = h.0.did.refined.taken
 flush_takes m old new cards (Some (Err e)) h = tt
 
 turns_take : (m : ℕ) (old new : History) (turns : List Turn) (refused : Option Refusal) → AreCalls (IsBookCall m) old (round_calls turns refused) new → All Takes (replies_of turns)
 turns_take m old new [] refused h = All-nil Takes
-turns_take m old new (t ∷ []) None h = All-cons Takes t.reply [] h.1.refined.taken (All-nil Takes)
-turns_take m old new (t ∷ []) (Some e) h = All-cons Takes t.reply [] h.1.1.refined.taken (All-nil Takes)
-turns_take m old new (t ∷ u ∷ turns) None h = All-cons Takes t.reply (replies_of (u ∷ turns)) h.1.1.refined.taken (turns_take m h.0 new (u ∷ turns) None h.2)
-turns_take m old new (t ∷ u ∷ turns) (Some e) h = All-cons Takes t.reply (replies_of (u ∷ turns)) h.1.1.refined.taken (turns_take m h.0 new (u ∷ turns) (Some e) h.2)
+turns_take m old new (t ∷ []) None h = All-cons Takes t.reply [] h.0.did.refined.taken (All-nil Takes)
+turns_take m old new (t ∷ []) (Some e) h = All-cons Takes t.reply [] h.1.0.did.refined.taken (All-nil Takes)
+turns_take m old new (t ∷ u ∷ turns) None h = All-cons Takes t.reply (replies_of (u ∷ turns)) h.1.0.did.refined.taken (turns_take m h.0 new (u ∷ turns) None h.2)
+turns_take m old new (t ∷ u ∷ turns) (Some e) h = All-cons Takes t.reply (replies_of (u ∷ turns)) h.1.0.did.refined.taken (turns_take m h.0 new (u ∷ turns) (Some e) h.2)
 
 -- a store whose own answer was the first
 store_calls : (old new : History) (m slot : ℕ) (target : Option ℕ) (cards : List ℕ) (first : StoreReply) (help : Help) → Grows old (store_entry m slot target first ∷ calls_entries m (help_calls cards help)) new → HelpTakes help
@@ -118,7 +118,7 @@ refine_finds old new (Some cards) reply h = inl h.taken
 
 pub refine_made : (old new : History) (buffer : Option (List ℕ)) (reply : RefineReply) → AreCalls (IsBookCall 0) old (Refined buffer (called reply) ∷ []) new → IsDone (λ (t : List ℕ). t) old new command.Refine (refine_text reply)
 refine_made old new buffer reply h =
-    (plain_piece (refine_entry 0 (called reply) ∷ []), calls_grow 0 old new (Refined buffer (called reply) ∷ []) h, record { piece = ((refl, refl), refine_finds old.machine.state new.machine.state buffer (called reply) h.1.refined); line = refl }, tt)
+    (plain_piece (refine_entry 0 (called reply) ∷ []), calls_grow 0 old new (Refined buffer (called reply) ∷ []) h, record { piece = ((refl, refl), refine_finds old.machine.state new.machine.state buffer (called reply) h.0.did.refined); line = refl }, tt)
 
 rounds_within : (turns : List Turn) (most size : ℕ) → length turns ≤ most → most ≡ size → length (map (refine_entry 0) (replies_of turns)) ≤ size
 rounds_within turns most size h is =

@@ -1,6 +1,7 @@
 pub mod CallLemmas
 pub mod CountLemmas
 pub mod EachLemmas
+pub mod HelpLemmas
 pub mod KindLemmas
 use CallLemmas.*
 use CountLemmas.*

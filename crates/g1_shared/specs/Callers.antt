@@ -1,5 +1,5 @@
 -- A caller of a shared book as contracts see it, and what the steps do to it.
-use Rattle.std.specs.Prelude.{◌≡◌, ◌+◌, ◌<◌, ◌≤◌, ◌⊎◌, ◌↔◌, ◌∷◌, ◌++◌}
+use Rattle.std.specs.Prelude.{◌≡◌, ◌≢◌, ◌+◌, ◌<◌, ◌≤◌, ◌⊎◌, ◌↔◌, ◌∷◌, ◌++◌}
 use Rattle.g1_shared.specs.Prelude.{ℕ, Bool, true, false, List, [], length, Option, Some, None}
 use Rattle.g1_shared.specs.Prelude.{IfSome, IsSome, IsNone, Result, OnOk, OnErr, Shape, Line, Taker}
 use Rattle.g1_shared.specs.Prelude.{Parcel, line_home, capacity_of, put_of, taken_of, StoreReply}
@@ -9,8 +9,10 @@ use Rattle.g1_shared.specs.Prelude.{IsNewMutator}
 use Rattle.g1_log.specs.declared.buffer.Buffer.{Buffer}
 use Rattle.g1_log.specs.Log.{Cards}
 use Rattle.g1_core.specs.declared.reply.Fill.{Fill}
+use Rattle.g1_shared.specs.Answers.{IsReplyAt}
 use Rattle.g1_shared.specs.Counts.{CallerCounts, SharedTerms, one_call, CountsDid}
 use Rattle.g1_steps.specs.Marks.{MutatorMark, TakerMark, mutator_mark, taker_mark}
+use Rattle.g1_steps.specs.declared.steps.mutator.FlushReply.{FlushReply}
 
 -- A caller: its counts, its log and sender where it is a mutator, and its taker.
 pub record CallerState : Type 0 where
@@ -58,45 +60,68 @@ IsMarkOf line m = IfSome m.mutator (λ s. s.line ≡ line_home line) × (m.taker
 abbrev pub IsCallerOf : Line → CallerState → Type 0
 IsCallerOf line c = IsMarkOf line (caller_mark c)
 
--- One entry more, or a refused call: then nothing is refined, and that is short.
-abbrev pub IsHelped : ℕ → List ℕ → Bool → ℕ → Type 0
-IsHelped made refined short now =
-    (now ≡ made + 1) ⊎ ((now ≡ made) × (refined ≡ []) × (short ≡ true))
+-- What is told of a help is that of refining a buffer of these cards from some state of this heap.
+pub record IsHelpAt (layout : Shape) (cards refined : List ℕ) (short : Bool) : Type 0 where
+  pub reply : RefineReply
+  pub answer : IsReplyAt layout (Some cards) reply
+  pub refined_are : refined ≡ reply.refined
+  pub short_is : short ≡ reply.short
+
+-- One entry more, of a refinement of these cards; or a refused call: then nothing is refined, and
+-- that is short.
+abbrev pub IsHelped : Shape → List ℕ → ℕ → List ℕ → Bool → ℕ → Type 0
+IsHelped layout cards made refined short now =
+    ((now ≡ made + 1) × IsHelpAt layout cards refined short)
+    ⊎ ((now ≡ made) × (refined ≡ []) × (short ≡ true))
 
 -- What a store of a card does to its caller, by what became of the log.
-abbrev pub IsStoreAt : CallerState → ℕ → Fill → List ℕ → Bool → CallerState → Type 0
-IsStoreAt c card No refined short d =
+abbrev pub IsStoreAt : Shape → CallerState → ℕ → Fill → List ℕ → Bool → CallerState → Type 0
+IsStoreAt layout c card No refined short d =
     (d.counts.made ≡ c.counts.made + 1) × (puts_by d ≡ puts_by c) × (refined ≡ [])
     × (short ≡ false)
-IsStoreAt c card Full refined short d =
+IsStoreAt layout c card Full refined short d =
     (d.counts.made ≡ c.counts.made + 1)
     × (puts_by d ≡ puts_by c ++ ((caller_log c).cards ++ card ∷ []) ∷ [])
     × ((caller_log d).cards ≡ []) × (refined ≡ []) × (short ≡ false)
-IsStoreAt c card Helped refined short d =
-    IsHelped (c.counts.made + 1) refined short d.counts.made × (puts_by d ≡ puts_by c)
-    × ((caller_log d).cards ≡ [])
+IsStoreAt layout c card Helped refined short d =
+    IsHelped layout ((caller_log c).cards ++ card ∷ []) (c.counts.made + 1) refined short
+    d.counts.made
+    × (puts_by d ≡ puts_by c) × ((caller_log d).cards ≡ [])
 
 -- A store of this card counts once, and its log goes into the queue where the card fills it, or the
 -- caller refines it where the queue hands it back.
-pub record StoresBy (line : Line) (c : CallerState) (card : ℕ) (reply : StoreReply)
-    (d : CallerState) : Type 0 where
+pub record StoresBy (layout : Shape) (line : Line) (c : CallerState) (card : ℕ)
+    (reply : StoreReply) (d : CallerState) : Type 0 where
   pub stored : d.counts.stored ≡ c.counts.stored + 1
   pub taker : d.taker ≡ c.taker
   pub log : caller_log d ≡ logged reply.kind (caller_log c) card
   pub fill : (reply.fill ≡ No) ↔ IsNone (buffer_of reply.kind (caller_log c) card)
   pub helped : reply.fill ≡ Helped → IfSome c.mutator (λ m. MayRefuse line m.sender)
-  pub made : IsStoreAt c card reply.fill reply.refined reply.short d
+  pub made : IsStoreAt layout c card reply.fill reply.refined reply.short d
 
 -- What a flush does to its caller, by what became of the log.
-abbrev pub IsFlushAt : CallerState → Fill → List ℕ → Bool → CallerState → Type 0
-IsFlushAt c No refined short d =
+abbrev pub IsFlushAt : Shape → CallerState → Fill → List ℕ → Bool → CallerState → Type 0
+IsFlushAt layout c No refined short d =
     (d.counts ≡ c.counts) × (puts_by d ≡ puts_by c) × ((caller_log c).cards ≡ []) × (refined ≡ [])
     × (short ≡ false)
-IsFlushAt c Full refined short d =
+IsFlushAt layout c Full refined short d =
     (d.counts ≡ c.counts) × (puts_by d ≡ puts_by c ++ (caller_log c).cards ∷ []) × (refined ≡ [])
     × (short ≡ false)
-IsFlushAt c Helped refined short d =
-    IsHelped c.counts.made refined short d.counts.made × (puts_by d ≡ puts_by c)
+IsFlushAt layout c Helped refined short d =
+    IsHelped layout (caller_log c).cards c.counts.made refined short d.counts.made
+    × (puts_by d ≡ puts_by c)
+
+-- A flush empties the log, which goes into the queue where it has cards, or the caller refines it
+-- where the queue hands it back. It is no store.
+pub record FlushesBy (layout : Shape) (line : Line) (c : CallerState) (reply : FlushReply)
+    (d : CallerState) : Type 0 where
+  pub stored : d.counts.stored ≡ c.counts.stored
+  pub taker : d.taker ≡ c.taker
+  pub cards : reply.cards ≡ length (caller_log c).cards
+  pub empty : (caller_log d).cards ≡ []
+  pub some : reply.fill ≢ No → 1 ≤ reply.cards
+  pub helped : reply.fill ≡ Helped → IfSome c.mutator (λ m. MayRefuse line m.sender)
+  pub made : IsFlushAt layout c reply.fill reply.refined reply.short d
 
 -- A refinement of a caller: its counts tell of the call, and the reply is one of that buffer.
 abbrev pub IsRefinementAt : Shape → CallerState → RefineReply → CallerState → Type 0

@@ -23,7 +23,7 @@ abbrev pub LeftBy : Type 0 → List Ask → CallerState → Type 0
 LeftBy none [] t = none
 LeftBy none (a ∷ asks) t = LeftBy (Leaves a t) asks t
 
--- No call leaves log and sender; a flush that was the last call leaves an empty log.
+-- With no calls, log and sender are as before; if the last call was a flush, the log is empty.
 abbrev pub LeavesLog : CallerState → List Ask → CallerState → Type 0
 LeavesLog s asks t = LeftBy (t.mutator ≡ s.mutator) asks t
 

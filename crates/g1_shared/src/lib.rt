@@ -7,8 +7,8 @@
 //! [`SharedCore`] is the same over a book that keeps only the totals.
 //!
 //! No clause can name what is under the lock. So a ledger has the terms of the book or core
-//! ([`Terms`]), and the conditions of its calls speak of these. A [`SharedDesk`] says of its calls
-//! what the counts of its caller say.
+//! ([`Terms`]), and the conditions of its calls speak of these. A [`SharedDesk`] says of the calls
+//! of a script what the counts of its caller say, and of each reply what the shared book says.
 #![tactic(auto)]
 
 mod caller;

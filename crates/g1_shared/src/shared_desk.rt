@@ -1,9 +1,9 @@
 //! A desk at a shared book.
-ghost use Rattle.std.specs.Prelude.{◌≡◌};
-ghost use Rattle.g1_shared.specs.Prelude.{length, refl, nat_lt, slot_count, card_of, logged};
-ghost use Rattle.g1_shared.specs.Prelude.{capacity_of};
+ghost use Rattle.std.specs.Prelude.{◌≡◌, ◌≤◌};
+ghost use Rattle.g1_shared.specs.Prelude.{refl, nat_lt, slot_count, card_of, capacity_of};
+ghost use Rattle.g1_shared.specs.Prelude.{IsOfCalls};
 ghost use Rattle.std.proofs.Props.{props};
-ghost use Rattle.g1_shared.specs.Callers.{IsCallerOf, caller_log, IsStoreAt, IsFlushAt, IsRoundAt};
+ghost use Rattle.g1_shared.specs.Callers.{IsCallerOf, StoresBy, FlushesBy, IsRoundAt};
 ghost use Rattle.g1_shared.specs.Did.{IsRefusedAt};
 ghost use Rattle.g1_shared.specs.Answers.{IsKindAt};
 ghost use Rattle.g1_shared.specs.Did.{DeskDid, caller_did_none, desk_did_then};
@@ -20,8 +20,8 @@ use std::sync::ledger::Ledger;
 
 /// A shared book and one of its callers, with the runtime by which the caller waits for the lock.
 ///
-/// Its calls are those of [`Shared`]. Of the calls that were made, only what the caller's counts
-/// say is known.
+/// Its calls are those of [`Shared`], with what these say of the caller and of the reply. What was
+/// under the lock no clause can name.
 #[derive(Drop)]
 pub struct SharedDesk<'a, R, M: Terms, S: Ledger, H: Keeps = Kept> {
     rt: &'a R,
@@ -63,18 +63,17 @@ impl<'a, R: Wait, M: Terms, S: Ledger, H: Keeps> Desk for SharedDesk<'a, R, M, S
 
     ghost may_store = { λ s. nat_lt s.caller.counts.number M.terms.mutators };
 
-    ghost stored = { λ s slot target reply t.
-        IsStoreAt s.caller
-        (card_of M.terms.layout slot) reply.fill reply.refined reply.short t.caller
-        × (caller_log t.caller
-        ≡ logged reply.kind (caller_log s.caller) (card_of M.terms.layout slot))
+    ghost stored = { λ s slot target reply t. StoresBy M.terms.layout s.shared.now s.caller
+        (card_of M.terms.layout slot) reply t.caller
         × IsKindAt M.terms.layout slot target reply.kind };
 
-    ghost flushed = { λ s reply t. IsFlushAt s.caller reply.fill reply.refined reply.short t.caller
-        × (reply.cards ≡ length (caller_log s.caller).cards) };
+    ghost flushed = { λ s reply t.
+        FlushesBy M.terms.layout s.shared.now s.caller reply t.caller };
 
-    ghost worked = { λ s reply t.
-        IsRoundAt M.terms s.shared.now s.caller reply t.caller };
+    ghost worked = { λ s reply t. IsRoundAt M.terms s.shared.now s.caller reply t.caller
+        × (t.caller.mutator ≡ s.caller.mutator)
+        × IsOfCalls (capacity_of s.shared.now) reply
+        × (reply.left ≤ capacity_of s.shared.now) };
 
     ghost refused = { λ s ask why t. IsRefusedAt s.caller ask t.caller };
 

@@ -36,8 +36,8 @@ grows_then a b c es fs g h = record { entries = h.entries ∙ ap (λ xs. xs ++ f
 
 -- the entries of a call, and of some
 call_grows : (caller : ℕ) (old new : History) (m : CallMade) → IsBookCall caller old m new → Grows old (entries_made caller (m ∷ [])) new
-call_grows caller old new (Stored slot target reply) h = grows_entered old (store_entry caller slot target reply) new h.0
-call_grows caller old new (Refined buffer reply) h = grows_entered old (refine_entry caller reply) new h.0
+call_grows caller old new (Stored slot target reply) h = grows_entered old (store_entry caller slot target reply) new h.0.entered
+call_grows caller old new (Refined buffer reply) h = grows_entered old (refine_entry caller reply) new h.0.entered
 call_grows caller old new (Refused refusal) h = grows_unchanged old new h.0
 
 entries_more : (caller : ℕ) (m : CallMade) (ms : List CallMade) → entries_made caller (m ∷ []) ++ entries_made caller ms ≡ entries_made caller (m ∷ ms)

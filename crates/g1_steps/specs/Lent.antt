@@ -1,8 +1,8 @@
 -- What calls do to a book that is lent.
-use Rattle.std.specs.Prelude.{◌≡◌, ◌≢◌, ◌↔◌, ◌∷◌, ◌++◌}
+use Rattle.std.specs.Prelude.{◌≡◌, ◌↔◌, ◌∷◌, ◌++◌}
 use Rattle.g1_steps.specs.Prelude.{ℕ, Bool, true, List, [], ◌∙◌, ap, Entry, store_entry}
 use Rattle.g1_steps.specs.Prelude.{refine_entry, DoesStore, DoesRefine, BookFull, History}
-use Rattle.g1_steps.specs.Prelude.{IsEnteredBy, IsFull, made_of, terms_of}
+use Rattle.g1_steps.specs.Prelude.{Made, IsFull, terms_of}
 use Rattle.g1_steps.specs.Made.{CallMade, Stored, Refined, Refused, AreCalls}
 
 -- The history has just these entries more, on the same terms.
@@ -14,13 +14,11 @@ pub record Grows (old : History) (es : List Entry) (new : History) : Type 0 wher
 -- history or otherwise, and changed nothing.
 abbrev pub IsBookCallBy : Bool → ℕ → History → CallMade → History → Type 0
 IsBookCallBy keeps caller old (Stored slot target reply) new =
-    IsEnteredBy keeps old (store_entry caller slot target reply) new
-    × DoesStore slot target reply old.machine new.machine
-    × (made_of keeps old.entries old.totals ≢ old.limit)
+    Made keeps old (store_entry caller slot target reply) (DoesStore slot target reply) new
+    × (IsFull keeps old → ⊥)
 IsBookCallBy keeps caller old (Refined buffer reply) new =
-    IsEnteredBy keeps old (refine_entry caller reply) new
-    × DoesRefine buffer reply old.machine new.machine
-    × (made_of keeps old.entries old.totals ≢ old.limit)
+    Made keeps old (refine_entry caller reply) (DoesRefine buffer reply) new
+    × (IsFull keeps old → ⊥)
 IsBookCallBy keeps caller old (Refused refusal) new =
     (new ≡ old) × ((refusal ≡ BookFull) ↔ IsFull keeps old)
 
@@ -30,8 +28,8 @@ IsBookCall = IsBookCallBy true
 
 book_call_stays : (keeps : Bool) (caller : ℕ) (old new : History) (m : CallMade)
     → IsBookCallBy keeps caller old m new → terms_of new ≡ terms_of old
-book_call_stays keeps caller old new (Stored slot target reply) h = h.0.terms
-book_call_stays keeps caller old new (Refined buffer reply) h = h.0.terms
+book_call_stays keeps caller old new (Stored slot target reply) h = h.0.entered.terms
+book_call_stays keeps caller old new (Refined buffer reply) h = h.0.entered.terms
 book_call_stays keeps caller old new (Refused refusal) h = ap terms_of h.0
 
 -- no call of a book changes its terms

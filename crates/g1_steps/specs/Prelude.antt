@@ -19,8 +19,8 @@ pub use Rattle.g1_core.specs.declared.entry.Entry.{Entry}
 pub use Rattle.g1_core.specs.declared.reply.Fill.TheVariants.{Full, Helped, No}
 pub use Rattle.g1_core.specs.declared.reply.RefineReply.{RefineReply}
 pub use Rattle.g1_core.specs.declared.reply.StoreReply.{StoreReply}
-pub use Rattle.g1_history.specs.History.{History, IsEntered, IsEnteredBy, IsFull, layout_in}
-pub use Rattle.g1_history.specs.History.{made_of, BookTerms, terms_of}
+pub use Rattle.g1_history.specs.History.{BookTerms, History, IsEntered, IsFull, layout_in, Made}
+pub use Rattle.g1_history.specs.History.{terms_of}
 pub use Rattle.g1_history.specs.declared.refusal.Refusal.{Refusal}
 pub use Rattle.g1_history.specs.declared.refusal.Refusal.TheVariants.{BookFull, NoMemory}
 pub use Rattle.g1_layout.specs.Shape.{card_of, Shape, slot_count}

@@ -1,10 +1,12 @@
 -- Which calls serve what a worker asked for, where no lock hides them.
 use Rattle.std.specs.Prelude.{◌≡◌, ◌∷◌, ◌++◌}
 use Rattle.g1_steps.specs.Prelude.{Bool, true, false, List, [], filter, sym, ap, subst, ◌∙◌}
-use Rattle.g1_steps.specs.Prelude.{append_assoc, filter-append, Taker, taken_of, Refusal}
+use Rattle.g1_steps.specs.Prelude.{append_assoc, filter-append, Taker, taken_of, IsSameTaker}
+use Rattle.g1_steps.specs.Prelude.{Refusal}
 use Rattle.g1_steps.specs.Made.{CallMade, Stored, Refined, Refused}
 use Rattle.g1_steps.specs.Rounds.{IsRefused}
 use Rattle.g1_steps.specs.Ask.{Ask, AskStore, AskFlush, AskWork}
+use Rattle.g1_steps.specs.declared.steps.mutator.Mutator.{Mutator}
 
 -- whether a call was made, and not refused
 abbrev pub was_made : CallMade → Bool
@@ -34,14 +36,16 @@ Serves AskFlush help = IsHelp help
 Serves AskWork calls = AreRefinements calls
 
 -- What was asked is refused: a store by its own call, a round for room or by its first call. A
--- flush never is. Nothing is taken, but by a round whose first call is refused.
-abbrev pub IsRefusedFor : {S : Type 0} → (S → List CallMade → S → Type 0) → S → Taker → Ask
-    → Refusal → S → Taker → Type 0
-IsRefusedFor did old before (AskStore slot target) why new after =
-    did old (Refused why ∷ []) new × (after ≡ before)
-IsRefusedFor did old before AskFlush why new after = ⊥
-IsRefusedFor did old before AskWork why new after =
-    IsRefused did (Unit {0}) old (taken_of before) why new (taken_of after)
+-- flush never is. The mutator keeps its log and its sender, and nothing is taken, but by a round
+-- whose first call is refused.
+abbrev pub IsRefusedFor : {S : Type 0} → (S → List CallMade → S → Type 0) → S → Mutator → Taker
+    → Ask → Refusal → S → Mutator → Taker → Type 0
+IsRefusedFor did old m before (AskStore slot target) why new n after =
+    did old (Refused why ∷ []) new × (n.log ≡ m.log) × (n.sender ≡ m.sender) × (after ≡ before)
+IsRefusedFor did old m before AskFlush why new n after = ⊥
+IsRefusedFor did old m before AskWork why new n after =
+    IsRefused did (Unit {0}) old (taken_of before) why new (taken_of after) × (n ≡ m)
+    × IsSameTaker after before
 
 -- The same of all that was asked, one after the other.
 abbrev pub ServesAll : List Ask → List CallMade → Type 0

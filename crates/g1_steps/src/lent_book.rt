@@ -13,8 +13,8 @@ use std::alloc::Global;
 
 /// A borrowed book, and the number of the caller.
 ///
-/// Each call that is not refused is one entry of that caller, and does what the book's own method
-/// does.
+/// Each call that is not refused is one entry of that caller, or one more in the book's totals, and
+/// does what the book's own method does.
 #[derive(Drop)]
 pub struct LentBook<'a, H: Keeps = Kept> {
     book: &'a mut Book<H>,

@@ -138,12 +138,12 @@ pub(crate) struct Before<'a> {
 
 /// A book of one mutator, and that mutator's log.
 #[derive(Drop)]
-pub(crate) struct Kept {
+pub(crate) struct NumberedBook {
     pub(crate) book: Book,
     pub(crate) log: Log,
 }
 
-impl Kept {
+impl NumberedBook {
     /// Makes a call that refines these cards in this order. A refused one leaves entries, log and
     /// table as they were, and a short one is entered and has refined the cards that it lists.
     /// Either is made again, and takes up where it stopped.

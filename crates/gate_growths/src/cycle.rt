@@ -1,7 +1,4 @@
 //! The cycle: making a core of a closed race and a race of a core take memory.
-//!
-//! The heap has 4 regions of 2 cards of 4 slots: card `c` has the slots from `4 * c` on, region `r`
-//! those from `8 * r` on.
 ghost use Rattle.std.specs.Prelude.{◌≡◌, IfOk};
 ghost use Rattle.g1_race.specs.Members.{race_shape, AreFreshRacers, AreFreshSweepers};
 

@@ -1,9 +1,6 @@
 //! The book: opening it, each of its calls, and the entry of each call take memory.
-//!
-//! The heap has 4 regions of 2 cards of 4 slots: card `c` has the slots from `4 * c` on, region `r`
-//! those from `8 * r` on.
 
-use crate::books::{Answer, Ask, Before, Kept, new_book, settings};
+use crate::books::{Answer, Ask, Before, NumberedBook, new_book, settings};
 use crate::outcome::{Failure, check, told};
 use g1_log::Log;
 
@@ -150,7 +147,7 @@ fn on_books<R: Eprint + AllocGlobal>(rt: &R, scenario: &Scenario) -> Result<(), 
     for calls in scenario.books {
         let book = new_book(rt, settings(8, 4)?)?;
         let log = Log::new(8);
-        let mut kept = Kept { book, log };
+        let mut kept = NumberedBook { book, log };
         stored(rt, &mut kept, scenario.stores)?;
         for (ask, order, answer, before) in calls.iter().copied().flatten() {
             kept.made(rt, *ask, order, *answer, *before)?;
@@ -160,7 +157,7 @@ fn on_books<R: Eprint + AllocGlobal>(rt: &R, scenario: &Scenario) -> Result<(), 
 }
 
 // Stores the first references into a new book, each of which logs its card.
-fn stored(rt: &impl Eprint, kept: &mut Kept, stores: usize) -> Result<(), Failure> {
+fn stored(rt: &impl Eprint, kept: &mut NumberedBook, stores: usize) -> Result<(), Failure> {
     check(rt, kept.book.entries().is_empty(), "a new book has entries")?;
     for count in 0..stores {
         stored_one(rt, kept, count)?;
@@ -168,8 +165,8 @@ fn stored(rt: &impl Eprint, kept: &mut Kept, stores: usize) -> Result<(), Failur
     check(rt, kept.log.len() == stores, "how many cards were logged")
 }
 
-// Stores the reference behind so many.
-fn stored_one(rt: &impl Eprint, kept: &mut Kept, count: usize) -> Result<(), Failure> {
+// Stores the reference at index `count`.
+fn stored_one(rt: &impl Eprint, kept: &mut NumberedBook, count: usize) -> Result<(), Failure> {
     let (from, to) = *REFERENCES.get(count).ok_or(Failure::Wrong)?;
     let before = Before {
         references: REFERENCES.get(..count).unwrap_or(&[]),

@@ -9,18 +9,18 @@ use g1_layout::Layout;
 
 /// A ring beside the layout whose cards it counts.
 #[derive(Drop)]
-struct Counted {
+struct NumberedRing {
     layout: Layout,
     hot: Hot,
     ghost counts_each_card: { length hot.counts ≡ card_count layout },
 }
 
-impl Counted {
+impl NumberedRing {
     // A ring of two cards, which are hot after one refinement.
-    fn new<R: Eprint + AllocGlobal>(rt: &R) -> Result<Counted, Failure> {
+    fn new<R: Eprint + AllocGlobal>(rt: &R) -> Result<NumberedRing, Failure> {
         let layout = small()?;
         let hot = new_hot(rt, layout)?;
-        Ok(Counted { layout, hot })
+        Ok(NumberedRing { layout, hot })
     }
 
     // Offers the card of this number, which does not stand in the ring, and checks the answer.
@@ -48,7 +48,7 @@ fn new_hot<R: Eprint + AllocGlobal>(rt: &R, layout: Layout) -> Result<Hot, Failu
 
 /// A refused ring is made again, with each count 0 and no card in the ring.
 pub(crate) fn new_ring<R: Eprint + AllocGlobal>(rt: &R) -> Result<(), Failure> {
-    let mut counted = Counted::new(rt)?;
+    let mut counted = NumberedRing::new(rt)?;
     check(rt, counted.hot.is_empty(), "a new ring holds a card")?;
     for number in 0..8 {
         counted.answers(rt, number, Offer::Cold, "a card of a new ring was counted")?;

@@ -1,7 +1,4 @@
 //! The core: making it, refinement, drains, redirects and lists of members take memory.
-//!
-//! The heap has 4 regions of 2 cards of 4 slots: card `c` has the slots from `4 * c` on, region `r`
-//! those from `8 * r` on.
 
 use crate::cores::PauseCall::{Drain, Redirect};
 use crate::cores::new_core;

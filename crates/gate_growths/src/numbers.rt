@@ -8,8 +8,8 @@ use arrayvec::ArrayVec;
 use g1_layout::{Card, Layout, Region, Slot};
 use g1_log::Buffer;
 
-/// The heap of most scenarios, of 4 regions of 2 cards of 4 slots: card `c` has the slots from `4 *
-/// c` on, region `r` those from `8 * r` on.
+/// The heap of most scenarios, of 4 regions of 2 cards of 4 slots: card `c` has the slots from
+/// `4 * c` on, region `r` those from `8 * r` on.
 pub(crate) fn small() -> Result<Layout, Failure> {
     Layout::new(4, 2, 4).ok_or(Failure::Wrong)
 }

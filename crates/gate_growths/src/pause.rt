@@ -1,7 +1,4 @@
 //! The pause of a race: the lists that it answers take memory, and a refused call changes nothing.
-//!
-//! The heap has 4 regions of 2 cards of 4 slots: card `c` has the slots from `4 * c` on, region `r`
-//! those from `8 * r` on.
 
 use crate::numbers::{are_numbered, card, number_of, region, slot, small};
 use crate::outcome::{Failure, check, refused, retried};

@@ -1,7 +1,4 @@
 //! The race: opening it takes memory, and refinement takes none.
-//!
-//! The heap has 4 regions of 2 cards of 4 slots: card `c` has the slots from `4 * c` on, region `r`
-//! those from `8 * r` on.
 ghost use Rattle.std.specs.Prelude.{◌≡◌, IfOk};
 ghost use Rattle.g1_race.specs.Members.{race_id, race_shape, racer_race, sweeper_race};
 ghost use Rattle.g1_race.specs.Members.{AreFreshRacers, AreFreshSweepers};

@@ -1,12 +1,9 @@
 //! The caller of a shared book: sharing it and each call of the caller take memory.
-//!
-//! The heap has 4 regions of 2 cards of 4 slots: card `c` has the slots from `4 * c` on, region `r`
-//! those from `8 * r` on.
 ghost use Rattle.std.specs.Prelude.{◌≡◌, []};
 
 mod caller;
 
-use crate::books::{Answer, Ask, Kept, new_book, settings};
+use crate::books::{Answer, Ask, NumberedBook, new_book, settings};
 use crate::outcome::{Failure, check, refused, told};
 use crate::plans::{FLUSH, FOUR_STORES, FOUR_TO_MOVE, HELP, OPEN, Plan, ROUND, TAKE};
 use crate::sharing::{Plays, share};
@@ -104,7 +101,7 @@ fn at_book<R: Wait + Eprint + AllocGlobal>(
     let book = new_book(rt, settings(plan.log, plan.limit)?)?;
     let book = played(rt, book, plan, calls)?;
     let log = Log::new(8);
-    let mut kept = Kept { book, log };
+    let mut kept = NumberedBook { book, log };
     kept.has_sets(rt, &plan.sets)
 }
 

@@ -134,8 +134,8 @@ impl<M: Terms, S: Ledger, H: Keeps> Counted<M, S, H> {
 }
 
 /// Each call waits for the lock, makes the call of what is kept under it for the caller, and
-/// returns its reply. It counts as one call of that caller (over a book, as one entry), or is
-/// refused, which leaves the caller as it was. A clause can say no more of what was under the
+/// returns its reply. It counts as one call of that caller (an entry, where entries are kept), or
+/// is refused, which leaves the caller as it was. A clause can say no more of what was under the
 /// lock. The guard (`lock`) makes the same calls with their whole contracts.
 impl<M: Terms, S: Ledger, H: Keeps> Shared<M, S, H> {
     /// Returns what a slot refers to, by a call under the lock (`Counted::target`).

@@ -13,7 +13,6 @@ use g1_core::{RefineReply, StoreReply};
 use g1_history::{Book, Keeps, Refusal};
 use g1_layout::Slot;
 use g1_log::{Buffer, Log};
-use g1_steps::Mutator;
 use std::sync::ledger;
 use std::sync::ledger::Ledger;
 
@@ -41,33 +40,8 @@ impl<M: Terms, S: Ledger, H: Keeps> Counted<M, S, H> {
         ensures counts { OnOk result (caller.new.counts ≡ one_store caller.old.counts) }
         ensures err { OnErr result (caller.new ≡ caller.old) }
     {
-        let Some(mutator) = &mut caller.mutator else {
-            unreachable!()
-        };
-        self.store_of(&mut caller.counts, mutator, slot, target)
-    }
-
-    // A store with the log of a mutator, which is borrowed whole.
-    fn store_of(
-        &mut self,
-        counts: &mut CallerCounts<M, S>,
-        mutator: &mut Mutator,
-        slot: Slot,
-        target: Option<Slot>,
-    ) -> Result<(StoreReply, Option<Buffer>), Refusal>
-        requires caller { counts.old.number < M.terms.mutators }
-        requires places { (slot < slot_count M.terms.layout)
-            × IfSome target (λ place. place < slot_count M.terms.layout) }
-        ensures call { MakesCall H.KEEPS self.old
-            (λ answer. store_entry counts.old.number slot target answer.0)
-            (λ answer. DoesStore slot target answer.0) result self.new }
-        ensures lent { IfOk result (λ answer. IsLent (card_of M.terms.layout slot)
-            answer.0 mutator.old.log mutator.new.log answer.1) }
-        ensures sender { mutator.new.sender ≡ mutator.old.sender }
-        ensures counts { OnOk result (counts.new ≡ one_store counts.old) }
-        ensures err { OnErr result ((counts.new ≡ counts.old)
-            × (mutator.new.log ≡ mutator.old.log)) }
-    {
+        let mutator = caller.mutator.as_mut().unwrap();
+        let counts = &mut caller.counts;
         let mut completed = None;
         let reply = self.store_by(counts, &mut mutator.log, &mut completed, slot, target)?;
         Ok((reply, completed))

@@ -2,16 +2,16 @@
 ghost use Rattle.std.specs.Prelude.{◌≡◌, ◌+◌, ◌*◌, ◌<◌, ◌≤◌, ◌↔◌, ◌++◌, ◌∷◌};
 ghost use Rattle.g1_shared.specs.{ℕ, [], length, IfOk, OnErr, OnOk, IfSome, IsNone, All};
 ghost use Rattle.g1_shared.specs.{slice_index_or, true, false, slot_count, card_of, capacity_of};
-ghost use Rattle.g1_shared.specs.{GainsAtMost, Empties, MayRefuse, StoresBy, IsKindAt};
-ghost use Rattle.g1_shared.specs.{CallerState, caller_mark, IsCallerOf, caller_log, taken_list};
-ghost use Rattle.g1_shared.specs.{IsFlushAt, IsRefinementAt, IsRoundAt, IsCallerAtPause};
+ghost use Rattle.g1_shared.specs.{GainsAtMost, Empties, StoresBy, FlushesBy, IsKindAt};
+ghost use Rattle.g1_shared.specs.{CallerState, caller_mark, IsCallerOf, taken_list};
+ghost use Rattle.g1_shared.specs.{IsRefinementAt, IsRoundAt, IsCallerAtPause};
 ghost use Rattle.g1_log.specs.declared.parcel.Parcel.{Parcel as P};
 
 use crate::caller::Caller;
 use crate::ledgers::Terms;
 use crate::locked_calls::LockedCalls;
 use crate::shared::Shared;
-use g1_core::{Fill, RefineReply, StoreReply};
+use g1_core::{RefineReply, StoreReply};
 use g1_history::{Keeps, Refusal};
 use g1_layout::Slot;
 use g1_steps::{FlushReply, empty_line, refine, work};
@@ -39,12 +39,11 @@ impl<M: Terms, S: Ledger, H: Keeps> Shared<M, S, H> {
         ensures mark { caller_mark caller.new ≡ caller_mark caller.old }
         ensures kind { IfOk result (λ reply. IsKindAt M.terms.layout slot target reply.kind) }
         ensures stored { IfOk result (λ reply.
-            StoresBy self.now caller.old (card_of M.terms.layout slot) reply caller.new) }
+            StoresBy M.terms.layout self.now caller.old
+            (card_of M.terms.layout slot) reply caller.new) }
         ensures err { OnErr result (caller.new ≡ caller.old) }
     {
-        let Some(mutator) = &mut caller.mutator else {
-            unreachable!()
-        };
+        let mutator = caller.mutator.as_mut().unwrap();
         let mut calls = LockedCalls {
             rt,
             counted: &self.counted,
@@ -60,18 +59,9 @@ impl<M: Terms, S: Ledger, H: Keeps> Shared<M, S, H> {
         requires mutator { caller.old.counts.number < M.terms.mutators }
         requires mine { IsCallerOf self.now caller.old }
         ensures mark { caller_mark caller.new ≡ caller_mark caller.old }
-        ensures kept { (caller.new.counts.stored ≡ caller.old.counts.stored)
-            × (caller.new.taker ≡ caller.old.taker) }
-        ensures helped { result.fill ≡ Fill.Helped
-            → IfSome caller.old.mutator (λ m. MayRefuse self.now m.sender) }
-        ensures some { result.fill ≡ Fill.Full → 1 ≤ result.cards }
-        ensures flushed { IsFlushAt caller.old result.fill result.refined result.short caller.new }
-        ensures log { (result.cards ≡ length (caller_log caller.old).cards)
-            × ((caller_log caller.new).cards ≡ []) }
+        ensures flushed { FlushesBy M.terms.layout self.now caller.old result caller.new }
     {
-        let Some(mutator) = &mut caller.mutator else {
-            unreachable!()
-        };
+        let mutator = caller.mutator.as_mut().unwrap();
         let mut calls = LockedCalls {
             rt,
             counted: &self.counted,

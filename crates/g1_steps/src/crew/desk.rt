@@ -39,8 +39,8 @@ pub type Outcome = Result<u64, (u64, Refusal)>;
 ///
 /// A worker ([`mutate`](crate::mutate), [`refiner`](crate::refiner)) and a crew
 /// ([`run_crew`](crate::run_crew)) know nothing else of what they work on. So one crew runs a
-/// borrowed book or core ([`LocalDesk`](crate::LocalDesk)), a book that threads share (`SharedDesk`
-/// of the crate `g1_shared`), or a program's own desks.
+/// borrowed book ([`LocalDesk`](crate::LocalDesk)), a book that threads share (`SharedDesk` of the
+/// crate `g1_shared`), or a program's own desks.
 pub trait Desk {
     /// Between two states exactly these calls were made, in order. Refused calls are not among
     /// them.

@@ -1,10 +1,10 @@
 //! A desk that shares what it works on with no other desk.
-ghost use Rattle.std.specs.Prelude.{◌≡◌, ◌++◌, ◌∷◌};
-ghost use Rattle.g1_steps.specs.Prelude.{Some, [], refl, ◌∙◌, slot_count, card_of, IsSenderOf};
+ghost use Rattle.std.specs.Prelude.{◌≡◌};
+ghost use Rattle.g1_steps.specs.Prelude.{Some, Ok, [], refl, ◌∙◌, slot_count, card_of, IsSenderOf};
 ghost use Rattle.g1_steps.specs.Prelude.{IsTakerOf};
 ghost use Rattle.std.proofs.Props.{props};
-ghost use Rattle.g1_steps.specs.Steps.{IsStored, IsFlushed};
-ghost use Rattle.g1_steps.specs.Rounds.{IsRoundFrom};
+ghost use Rattle.g1_steps.specs.Steps.{IsStoreStep, IsFlushStep};
+ghost use Rattle.g1_steps.specs.Rounds.{IsWorkStep};
 ghost use Rattle.g1_steps.specs.Marks.{mutator_mark, taker_mark};
 ghost use Rattle.g1_steps.specs.Served.{HasServed, IsRefusedFor, served_then};
 
@@ -17,8 +17,8 @@ use g1_layout::Slot;
 use g1_log::{Line, Taker};
 use std::sync::Wait;
 
-/// Makes the calls of one caller, at a borrowed book or core, by the caller's mutator and taker and
-/// the queue of completed buffers that both belong to.
+/// Makes the calls of one caller, at a borrowed book, by the caller's mutator and taker and the
+/// queue of completed buffers that both belong to.
 ///
 /// Its calls are the steps of that caller (docs/rules.md, The steps of a caller).
 #[derive(Drop)]
@@ -89,15 +89,20 @@ impl<'a, R: Wait, C: Calls> Desk for LocalDesk<'a, R, C> {
 
     ghost may_store = { λ s. C.may_store s.calls };
 
-    ghost stored = { λ s slot target reply t. IsStored C.did s.calls slot target
-        (s.mutator.log.cards ++ card_of (C.layout s.calls) slot ∷ []) reply t.calls };
+    ghost stored = { λ s slot target reply t. IsStoreStep C.did s.line.now s.calls s.mutator
+        slot target (card_of (C.layout s.calls) slot) (Ok reply) t.mutator t.calls
+        × (t.taker ≡ s.taker) };
 
-    ghost flushed = { λ s reply t. IsFlushed C.did s.calls s.mutator.log.cards reply t.calls };
+    ghost flushed = { λ s reply t.
+        IsFlushStep C.did s.line.now s.calls s.mutator reply t.mutator t.calls
+        × (t.taker ≡ s.taker) };
 
     ghost worked = { λ s reply t.
-        IsRoundFrom C.did s.line.now s.start s.calls s.taker reply t.taker t.calls };
+        IsWorkStep C.did s.line.now s.start s.calls s.taker (Ok reply) t.taker t.calls
+        × (t.mutator ≡ s.mutator) };
 
-    ghost refused = { λ s ask why t. IsRefusedFor C.did s.calls s.taker ask why t.calls t.taker };
+    ghost refused = { λ s ask why t.
+        IsRefusedFor C.did s.calls s.mutator s.taker ask why t.calls t.mutator t.taker };
 
     fn store(&mut self, slot: Slot, target: Option<Slot>) -> Result<StoreReply, Refusal> {
         let calls = &mut self.calls;

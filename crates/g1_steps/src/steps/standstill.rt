@@ -25,8 +25,8 @@ pub fn stand_still<R: Wait>(rt: &R, line: &Line, taker: &mut Taker, mutators: &m
     empty_line(rt, line, taker);
 }
 
-/// Takes buffers from the queue until it is seen empty, at most as many as it holds, and gives them
-/// up. It makes no call. Each of their cards is pending by its mark, unless it was refined
+/// Takes buffers from the queue until it sees it empty, at most as many as its capacity, and gives
+/// them up. It makes no call. Each of their cards is pending by its mark, unless it was refined
 /// meanwhile.
 ///
 /// If nothing is put meanwhile, the queue is then empty.

@@ -18,7 +18,7 @@ fn slot_in(rt: &impl Abort, layout: Layout, number: u32) -> Slot
     layout.slot(number).expect(rt, "a slot of the heap")
 }
 
-/// A step as a test writes it: a store from a slot into which a reference to another goes, or a
+/// A step as a test writes it: a store into the first slot of a reference to the second, or a
 /// flush.
 type Wish = Option<(u32, u32)>;
 

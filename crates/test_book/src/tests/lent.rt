@@ -108,6 +108,7 @@ fn two_pauses<R: Abort + Wait>(rt: &R, alloc: Global, book: &mut Book) -> Result
     let mut second = mutator_of(rt, &line, &mut senders);
     store_six(rt, book, &line, &mut first, &mut second)?;
     pause_by(rt, &line, &mut first, &mut takers[0]);
+    assert_equal(rt, line.len(rt), 0);
     pause_by(rt, &line, &mut second, &mut takers[1]);
     assert!(rt; first.log.is_empty() && second.log.is_empty());
     assert_paused(rt, book, &line)

@@ -2,8 +2,9 @@
 ghost use Rattle.std.specs.Prelude.{◌≡◌, []};
 ghost use Rattle.g1_shared.specs.Counts.{shared_terms};
 
+use crate::tests::calls::number_of;
 use crate::tests::replies::assert_equal;
-use crate::tests::stores_in;
+use crate::tests::{has_cards, stores_in};
 use g1_book::{Book, Caller, Refusal, Shared, Terms};
 use g1_core::{Call, ClearReply, Config, Reply};
 use g1_layout::Layout;
@@ -27,7 +28,7 @@ fn ask_the_guard<M: Terms, S: Ledger, R: Wait + Abort>(
     assert!(rt; caller.number() < guard.book().mutators());
     guard.store(caller, slot, Some(place))?;
     let target = guard.ask(caller, Call::Target(slot))?;
-    assert!(rt; matches!(target, Reply::Target(Some(_))));
+    assert!(rt; matches!(&target, Reply::Target(place) if number_of(*place) == Some(8)));
     let pending = guard.ask(caller, Call::Pending(card))?;
     assert!(rt; matches!(pending, Reply::Pending(true)));
     Ok(())
@@ -43,15 +44,17 @@ fn ask_the_shared_book<M: Terms, S: Ledger, R: Wait + Abort>(
     let from = layout.region(1).expect(rt, "a region");
     let to = layout.region(2).expect(rt, "a region");
     let drained = shared.ask(rt, caller, Call::Drain(from))?;
-    assert!(rt; matches!(&drained, Reply::Cards(cards) if cards.len() == 1));
+    assert!(rt; matches!(&drained, Reply::Cards(cards) if has_cards(cards, &[0])));
     let moved = shared.ask(rt, caller, Call::Redirect { from, to })?;
     assert!(rt; matches!(moved, Reply::Moved(1)));
     let cleared = shared.ask(rt, caller, Call::Clear(from))?;
     assert!(rt; matches!(cleared, Reply::Clear(ClearReply::Cleared)));
     let members = shared.ask(rt, caller, Call::Members(to))?;
-    assert!(rt; matches!(&members, Reply::Cards(cards) if cards.len() == 1));
+    assert!(rt; matches!(&members, Reply::Cards(cards) if has_cards(cards, &[0])));
     let status = shared.ask(rt, caller, Call::Status)?;
-    assert!(rt; matches!(status, Reply::Status(status) if status.pending == 0));
+    assert!(rt;
+        matches!(&status, Reply::Status(status) if status.pending == 0 && status.recorded == 1)
+    );
     Ok(())
 }
 

@@ -9,10 +9,10 @@ use crate::tests::replies::{
 pub(crate) enum Step<'a> {
     /// A logged store of a place into a slot, and what becomes of the log.
     Store(u32, u32, Fill),
-    /// So many logged stores into slot 24, from the first slot of card 0, of card 1, and so on,
-    /// each of which completes a buffer.
+    /// This many logged stores of a reference to slot 24, into the first slot of card 0, of card 1,
+    /// and so on, each of which completes a buffer.
     Completed(u32),
-    /// A flush of so many cards, and what becomes of the log.
+    /// A flush of this many cards, and what becomes of the log.
     Flush(u32, Fill),
     Refine(Round<'a>),
     Work(Round<'a>),
@@ -59,7 +59,7 @@ pub(crate) fn take<M: Terms, S: Ledger, R: Wait + Abort>(
     Ok(())
 }
 
-/// Completes so many buffers of one card, which holds into region 3.
+/// Completes this many buffers of one card each, which holds into region 3.
 fn complete<M: Terms, S: Ledger, R: Wait + Abort>(
     rt: &R,
     caller: &mut SharedCaller<'_, M, S>,

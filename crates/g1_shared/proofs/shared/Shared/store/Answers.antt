@@ -1,6 +1,23 @@
--- The kind is that of the store's own call.
+-- The kind is that of the store's own call, and the caller's mutator is the one that was lent.
+use Rattle.std.specs.Prelude.{◌≡◌}
+use Rattle.g1_shared.specs.{Some, ap, sym, subst, ◌∙◌, card_of, IfOk, Line, CallerState, StoresBy}
+use Rattle.std.specs.Option.{option_copied_mut}
+use Rattle.g1_shared.proofs.HelpLemmas.{stores}
 use Rattle.g1_shared.proofs.KindLemmas.{store_kind}
 use Rattle.g1_shared.proofs.shared.Shared.store.Goals as goal
 
 pub returns-clause-kind : goal.returns-clause-kind
 returns-clause-kind g c = store_kind _ _ _ _ _ _ _ _ (λ ms h. h.2) c.store.ensures.stored
+
+pub returns-clause-stored : goal.returns-clause-stored
+returns-clause-stored g c =
+    let layout = g.M.Terms.terms.layout in
+    let caller = c.caller.inside in
+    let m = c.unwrap-mutator.result.now in
+    let n = c.store.new.self in
+    let now = c.store.new.calls.counts.now in
+    let is : Some m ≡ caller.mutator = sym (ap option_copied_mut c.unwrap-mutator.ensures) ∙ c.as_mut.ensures.value in
+    let was : record { counts = caller.counts; mutator = Some m; taker = caller.taker } ≡ c.args.caller.now = (λ i. record { counts = caller.counts; mutator = is i; taker = caller.taker }) ∙ c.caller.view_is in
+    let P : Line → CallerState → Type 0 = λ l s. IfOk c.store.result (λ reply. StoresBy layout l s (card_of layout c.args.slot) reply (record { counts = now; mutator = Some n; taker = caller.taker })) in
+    subst (λ l. P l c.args.caller.now) c.self.view_is (subst (λ s. P c.self.inside.line s) was
+    (stores _ layout c.self.inside.line _ _ caller.counts now m n caller.taker c.args.slot c.args.target _ c.store.result (λ ms h. (h.1, h.2)) c.store.ensures))
