@@ -1,6 +1,6 @@
 -- What a race writes: how many stores were made, and what the drains that follow answer.
 use Rattle.std.specs.Prelude.{◌≡◌, ◌≢◌, ◌⊎◌, ◌<◌, ◌==◌, ◌&&◌, if◌then◌else◌, ◌∷◌, ◌++◌}
-use Rattle.g1_replay.specs.Prelude.{ℕ, List, [], Bool, true, false, Result, Ok, Err, Option, Some}
+use Rattle.g1_replay.specs.Prelude.{ℕ, List, [], Result, Ok, Err, Option, Some}
 use Rattle.g1_replay.specs.Prelude.{None, Contains, codes, flat_map, count_by, length}
 use Rattle.g1_replay.specs.Prelude.{slice_index_or, option_or, Shape, slot_count, card_of}
 use Rattle.g1_replay.specs.Prelude.{region_of, region_of_card, Table, Holds, Drained, Cards, Short}
