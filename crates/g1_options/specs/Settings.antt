@@ -1,4 +1,4 @@
--- The options of a replay, as a newcomer sees them.
+-- The defaults and limits of a replay's options.
 use Rattle.std.specs.Prelude.{◌≡◌, ◌≤◌}
 use Rattle.g1_core.specs.Settings.{AreSettings, default_settings}
 use Rattle.g1_options.specs.declared.options.Options.{Options}

@@ -111,9 +111,9 @@ which is how many stores were made and, for each region in turn, the cards to sc
 into it. They may differ from run to run where a slot is stored to more than once.
 
 Each list is exact for references that these stores may leave: it has every card outside the region
-that refers into it, and only cards to which the trace stores such a reference. It is not said that
-the stores, in some order one behind the other, would lead to these references, nor that a card
-which was logged reached a refiner; where it did not, the drains find it dirty.
+that refers into it, and only cards to which the trace stores such a reference. No order of the
+stores, one after the other, need explain these references, and a logged card need not reach a
+refiner: the drains then find it dirty.
 
 Exit status:
   0  the whole trace was done
@@ -138,7 +138,7 @@ pub fn read_options(alloc: Global, words: &[&str]) -> Result<(Mode, Options), Li
     ensures refused { IfErr result (λ f.
         takes line_app (map (λ w. w.now) words.now) ≡ true → string_bytes f.text ≡ []) }
 {
-    let Ok(run_help) = format!(in alloc; "{RUN_OPTIONS}\n\n{TRACES} {RUN_EXAMPLE}") else {
+    let Ok(run_help) = format!(in alloc; "{RUN_OPTIONS}\n\n{TRACES}\n\n{RUN_EXAMPLE}") else {
         return Err(LineFault::silent(alloc));
     };
     let Ok(command) = line(alloc, &run_help) else {
@@ -235,13 +235,11 @@ fn asked(matches: &ArgMatches<'_>) -> Option<(Mode, Options)>
 fn run_options(matches: &ArgMatches<'_>) -> Option<Options>
     ensures { IfSome result (AreOptionsOf RunMode (rows_of (found_of matches.now))) }
 {
-    Some(Options {
-        mutators: value(matches, &MUTATORS)?,
-        config: config(matches)?,
-        history: value(matches, &HISTORY)?,
-        refiners: 1,
-        rounds: 100,
-    })
+    let mut options = Options::default();
+    options.mutators = value(matches, &MUTATORS)?;
+    options.config = config(matches)?;
+    options.history = value(matches, &HISTORY)?;
+    Some(options)
 }
 
 // The settings of the core.

@@ -39,7 +39,7 @@ pub(crate) static LIMIT: Setting = Setting {
     name: "limit",
     unit: "BUFFERS",
     least: 1,
-    most: 1024, // what a line can hold
+    most: 1024, // what a queue can hold
     default: "10",
     help: "Completed buffers that may wait for refinement: 1 to 1024",
 };

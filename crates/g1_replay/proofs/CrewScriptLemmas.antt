@@ -1,7 +1,8 @@
 -- Scripts of a crew and a race: they fit the heap that their commands are of, and are kept as their trace is read.
 use Rattle.std.specs.Prelude.{◌≡◌, ◌≢◌, ◌==◌, ◌<◌, ◌≤◌, ◌+◌, ◌∷◌, ◌++◌, ◌-◌, if◌then◌else◌}
-use Rattle.g1_replay.specs.{false, take, IfSome, take_more, filter_map-append, ℕ, List, [], suc, add-one, add-zero, length, get_or, set, drop, drop-cons, refl, sym, subst, ap, ◌∙◌, append-nil, inl, inr, Option, Some, None, true, nat_lt, Bool, arith, rules, All, unwrap_or, filter_map, cons_option, cases_Bool, eq-eqb, eqb-true, ne_eqb, false≢true, get_or-set_same, get_or-set_other, length-set, length-drop, Shape, slot_count, StepFits, ScriptFits, Step, Script, Mutate, Refine, Command, Store, IsCommandOf, AllFrom, AreKept, IsScriptAt, asked_in, own_step, step_for}
-use Rattle.std.proofs.lemmas.List.{nil_from_length}
+use Rattle.g1_replay.specs.{false, take, IfSome, take_more, filter_map-append, ℕ, List, [], suc, add-one, add-zero, length, get_or, set, drop, drop-cons, refl, sym, subst, ap, ◌∙◌, append-nil, inl, inr, Option, Some, None, true, nat_lt, Bool, arith, rules, All, unwrap_or, filter_map, cons_option, cond, count_by, sum_by, sum_by-append, sum_by-cons, sum_by-set, All-head, All-tail, Ask, asks_of, is_store_ask, is_store_command, stores_in, cases_Bool, eq-eqb, eqb-true, ne_eqb, false≢true, get_or-set_same, get_or-set_other, length-set, length-drop, Shape, slot_count, StepFits, ScriptFits, Step, Script, Mutate, Refine, Command, Store, IsCommandOf, AllFrom, AreKept, IsScriptAt, asked_in, own_step, step_for}
+use Rattle.std.proofs.lemmas.List.{map-append, nil_from_length}
+use Rattle.g1_steps.specs.Ask.{ask_of}
 use Rattle.g1_steps.specs.declared.crew.desk.Step.TheVariants as step
 use Rattle.g1_trace.specs.declared.command.Command.TheVariants.{Flush}
 use Rattle.g1_replay.specs.declared.crews.listing.Scripts.{Scripts}
@@ -34,6 +35,20 @@ asked_fits l m c a h e = cc
 pub asks_one : (k : ℕ) (c : Command) (o : Option Step) → step_for k c ≡ o → filter_map (step_for k) (c ∷ []) ≡ cons_option o []
 asks_one k c o e = ap (λ (asked : Option Step). cons_option asked []) e
 
+-- how many stores that is
+pub stores_none : (c : Command) → asked_in c ≡ None → count_by is_store_command (c ∷ []) ≡ 0
+stores_none (Store by slot target) e = cc
+stores_none (Flush by) e = refl
+stores_none c e = refl
+
+pub stores_one : (c : Command) (a : ℕ × Step) → asked_in c ≡ Some a → count_by is_store_command (c ∷ []) ≡ stores_in (a.1 ∷ [])
+stores_one (Store by slot target) a e = ap (λ (o : Option (ℕ × Step)). stores_in ((unwrap_or o a).1 ∷ [])) e
+stores_one (Flush by) a e = ap (λ (o : Option (ℕ × Step)). stores_in ((unwrap_or o a).1 ∷ [])) e
+stores_one c a e = cc
+
+stores_both : (xs ys : List Step) → stores_in (xs ++ ys) ≡ stores_in xs + stores_in ys
+stores_both xs ys = ap (λ (asks : List Ask). count_by is_store_ask asks) (map-append ask_of xs ys) ∙ sum_by-append (λ a. cond (is_store_ask a) 1 0) (asks_of xs) (asks_of ys)
+
 -- an item within a list is the same whatever stands for one outside
 same_item : {E : Type 0} (xs : List E) (i : ℕ) (d e : E) → i < length xs → get_or xs i d ≡ get_or xs i e
 same_item xs i d e h = ap (λ l. get_or l 0 d) (sym (drop-cons xs i d h) ∙ drop-cons xs i e h)
@@ -41,8 +56,8 @@ same_item xs i d e h = ap (λ l. get_or l 0 d) (sym (drop-cons xs i d h) ∙ dro
 module _ {E : Type 0} (steps : E → List Step) where
   -- one script has more, and no other
   pub kept_at : (old : List E) (m : ℕ) (v w : E) (cs : List Command) (more : List Step) → m < length old → w ≡ get_or old m w → steps v ≡ steps w ++ more
-      → filter_map (step_for m) cs ≡ more → ((k : ℕ) → k ≢ m → filter_map (step_for k) cs ≡ []) → AreKept steps old cs (set old m v)
-  kept_at old m v w cs more h was grown own other = record {
+      → filter_map (step_for m) cs ≡ more → ((k : ℕ) → k ≢ m → filter_map (step_for k) cs ≡ []) → count_by is_store_command cs ≡ stores_in more → AreKept steps old cs (set old m v)
+  kept_at old m v w cs more h was grown own other many = record {
     len = length-set old m v;
     each = λ k d below. elim (cases_Bool (k == m)) [
       | inl same ↦ subst (λ (j : ℕ). steps (get_or (set old m v) j d) ≡ steps (get_or old j d) ++ filter_map (step_for j) cs) (sym (eqb-true k m same))
@@ -51,11 +66,30 @@ module _ {E : Type 0} (steps : E → List Step) where
           let ne : k ≢ m = λ e. false≢true (sym differ ∙ eq-eqb k m e) in
           ap steps (get_or-set_other old m k v d ne) ∙ sym (append-nil (steps (get_or old k d))) ∙ ap (λ (l : List Step). steps (get_or old k d) ++ l) (sym (other k ne))
     ];
+    stored =
+        let f : E → ℕ = λ e. stores_in (steps e) in
+        let moved : sum_by f (set old m v) + f (get_or old m w) ≡ sum_by f old + f v = sum_by-set f old m v w h in
+        let same : f w ≡ f (get_or old m w) = ap f was in
+        let gained : f v ≡ f w + stores_in more = ap stores_in grown ∙ stores_both (steps w) more in
+        omega (arith, moved, same, gained, many);
   }
 
   -- no script has more
-  pub kept_none : (old : List E) (cs : List Command) → ((k : ℕ) → filter_map (step_for k) cs ≡ []) → AreKept steps old cs old
-  kept_none old cs none = record { len = refl; each = λ k d h. sym (append-nil (steps (get_or old k d))) ∙ ap (λ (l : List Step). steps (get_or old k d) ++ l) (sym (none k)) }
+  pub kept_none : (old : List E) (cs : List Command) → ((k : ℕ) → filter_map (step_for k) cs ≡ []) → count_by is_store_command cs ≡ 0 → AreKept steps old cs old
+  kept_none old cs none many = record {
+    len = refl;
+    each = λ k d h. sym (append-nil (steps (get_or old k d))) ∙ ap (λ (l : List Step). steps (get_or old k d) ++ l) (sym (none k));
+    stored = sym (add-zero (sum_by (λ e. stores_in (steps e)) old)) ∙ ap (λ n. sum_by (λ e. stores_in (steps e)) old + n) (sym many);
+  }
+
+  -- empty scripts have no store
+  pub none_stores : (xs : List E) → All (λ e. steps e ≡ []) xs → sum_by (λ e. stores_in (steps e)) xs ≡ 0
+  none_stores [] all = refl
+  none_stores (x ∷ xs) all =
+      let f : E → ℕ = λ e. stores_in (steps e) in
+      let here : f x ≡ 0 = ap stores_in (All-head (λ e. steps e ≡ []) x xs all) in
+      let rest : sum_by f xs ≡ 0 = none_stores xs (All-tail (λ e. steps e ≡ []) x xs all) in
+      omega (arith, here, rest, sum_by-cons f x xs)
 
   -- a script that was taken fits
   pub script_at_fits : (slots rounds most number : ℕ) (scripts : List E) (made : Script) → length scripts ≡ most → All (λ v. All (StepFits slots true) (steps v)) scripts

@@ -1,11 +1,12 @@
 -- What the jobs of a crew come to, by its book.
-use Rattle.std.specs.Prelude.{◌≡◌, ◌≢◌, ◌≤◌, ◌++◌}
-use Rattle.g1_replay.specs.{ℕ, List, [], length, refl, sym, subst, ap, ◌∙◌, append-nil, Option, inl, inr, arith, Result, Ok, Err, IfErr, count_by, Shape, opening, Entry, IsPermitted, is_store, History, IsHistory, BookTerms, layout_in, AppendsFront, stores_text, front_more, puts_none, puts_then, Stop, BookFull, NoThread, WriteFailed, CrewRan, drains, HasDrained, played_none, entries_of, HasPlayed, IsBookFull, MayStop, Writes, written_by, IsRunEnd, IsUnstarted, Appends}
+use Rattle.std.specs.Prelude.{◌≡◌, ◌≢◌, ◌≤◌, ◌==◌, ◌++◌}
+use Rattle.g1_replay.specs.{ℕ, List, [], length, refl, sym, subst, ap, ◌∙◌, append-nil, Option, inl, inr, arith, Result, Ok, Err, IfErr, cases_Bool, eqb-true, count_by, Shape, opening, Entry, IsPermitted, is_store, History, IsHistory, BookTerms, Refusal, Command, is_store_command, layout_in, AppendsFront, stores_text, front_more, puts_none, puts_then, Stop, BookFull, NoThread, WriteFailed, CrewRan, crew_stop, drains, HasDrained, played_none, entries_of, HasPlayed, IsBookFull, MayStop, Writes, written_by, IsRunEnd, IsUnstarted, Appends}
+use Rattle.g1_history.specs.declared.refusal.Refusal.TheVariants as refusal
 
 -- a book with drains behind it is a run, and its text counts the stores in front of them
-ran_book : (old new : History) (k : ℕ) (r : Result (Unit {0}) Stop) (text : List ℕ) → HasPlayed old (drains k) text new → IsHistory new → IsRunEnd r → r ≢ Err NoThread → (r ≡ Err BookFull → IsBookFull new) → (r ≡ Ok tt → k ≡ (layout_in old).regions)
-    → CrewRan (layout_in old) old.limit r (stores_text (count_by is_store old.entries) ++ text)
-ran_book old new k r text p h ends alone full all =
+ran_book : (asked : List Command) (old new : History) (k : ℕ) (r : Result (Unit {0}) Stop) (text : List ℕ) → count_by is_store old.entries ≡ count_by is_store_command asked → HasPlayed old (drains k) text new → IsHistory new → IsRunEnd r → r ≢ Err NoThread → (r ≡ Err BookFull → IsBookFull new) → (r ≡ Ok tt → k ≡ (layout_in old).regions)
+    → CrewRan old.limit (layout_in old) asked r (stores_text (count_by is_store old.entries) ++ text)
+ran_book asked old new k r text many p h ends alone full all =
     let es : new.entries ≡ old.entries ++ entries_of p.pieces = p.grows.entries in
     let most : new.limit ≡ old.limit = ap (λ (t : BookTerms). t.limit) p.grows.terms in
     let shape : layout_in new ≡ layout_in old = ap (λ (t : BookTerms). t.layout) p.grows.terms in
@@ -19,7 +20,7 @@ ran_book old new k r text p h ends alone full all =
       within = subst (λ (xs : List Entry). length xs ≤ old.limit) es (subst (λ (n : ℕ). length new.entries ≤ n) most h.within);
       full = λ e. ap (λ (xs : List Entry). length xs) (sym es) ∙ full e ∙ most;
       all = all;
-      said = inr (alone, ap (λ t. stores_text (count_by is_store old.entries) ++ t) p.said);
+      said = inr (alone, many, ap (λ t. stores_text (count_by is_store old.entries) ++ t) p.said);
     }
 
 pub may_end : (r : Result (Unit {0}) Stop) → IfErr r MayStop → IsRunEnd r
@@ -31,21 +32,21 @@ pub drains_alone : (r : Result (Unit {0}) Stop) → IfErr r MayStop → r ≢ Er
 drains_alone r h e = subst (λ r. IfErr r MayStop) e h
 
 -- the count could not be written
-pub stores_failed : (h : History) (out out' : Option (List ℕ)) → IsHistory h → AppendsFront out out' (stores_text (count_by is_store h.entries))
-    → (text : List ℕ) × CrewRan (layout_in h) h.limit (Err WriteFailed) text × Writes {V = Unit {0}} out out' (Err WriteFailed) text
-stores_failed h out out' history w =
-    (stores_text (count_by is_store h.entries) ++ [], ran_book h h 0 (Err WriteFailed) [] (played_none h) history (inr tt) (λ e. cc) (λ e. cc) (λ e. cc), front_more out out' (stores_text (count_by is_store h.entries)) [] w)
+pub stores_failed : (asked : List Command) (h : History) (out out' : Option (List ℕ)) → IsHistory h → count_by is_store h.entries ≡ count_by is_store_command asked → AppendsFront out out' (stores_text (count_by is_store h.entries))
+    → (text : List ℕ) × CrewRan h.limit (layout_in h) asked (Err WriteFailed) text × Writes {V = Unit {0}} out out' (Err WriteFailed) text
+stores_failed asked h out out' history many w =
+    (stores_text (count_by is_store h.entries) ++ [], ran_book asked h h 0 (Err WriteFailed) [] many (played_none h) history (inr tt) (λ e. cc) (λ e. cc) (λ e. cc), front_more out out' (stores_text (count_by is_store h.entries)) [] w)
 
 -- the count was written, and drains behind it
-pub book_written : (old new : History) (out mid_out out' : Option (List ℕ)) (r : Result (Unit {0}) Stop) → IfErr r MayStop → IsHistory new → Appends out mid_out (stores_text (count_by is_store old.entries))
-    → HasDrained HasPlayed IsBookFull (layout_in old).regions old new mid_out out' r → (text : List ℕ) × CrewRan (layout_in old) old.limit r text × Writes out out' r text
-book_written old new out mid_out out' r stops history w d =
-    (stores_text (count_by is_store old.entries) ++ d.text, ran_book old new d.drained r d.text d.played history (may_end r stops) (drains_alone r stops) d.filled d.all, puts_then out mid_out out' (written_by r) (stores_text (count_by is_store old.entries)) d.text w d.written)
+pub book_written : (asked : List Command) (old new : History) (out mid_out out' : Option (List ℕ)) (r : Result (Unit {0}) Stop) → IfErr r MayStop → IsHistory new → count_by is_store old.entries ≡ count_by is_store_command asked → Appends out mid_out (stores_text (count_by is_store old.entries))
+    → HasDrained HasPlayed IsBookFull (layout_in old).regions old new mid_out out' r → (text : List ℕ) × CrewRan old.limit (layout_in old) asked r text × Writes out out' r text
+book_written asked old new out mid_out out' r stops history many w d =
+    (stores_text (count_by is_store old.entries) ++ d.text, ran_book asked old new d.drained r d.text many d.played history (may_end r stops) (drains_alone r stops) d.filled d.all, puts_then out mid_out out' (written_by r) (stores_text (count_by is_store old.entries)) d.text w d.written)
 
 -- nothing was drained or written
-stopped_with : (l : Shape) (history : ℕ) (entries : List Entry) (stop : Stop) (out : Option (List ℕ)) → IsRunEnd (Err stop) → IsPermitted (opening l) entries → length entries ≤ history → (stop ≡ BookFull → length entries ≡ history)
-    → (text : List ℕ) × CrewRan l history (Err stop) text × Writes {V = Unit {0}} out out (Err stop) text
-stopped_with l history entries stop out ends permitted within full = (
+stopped_with : (asked : List Command) (l : Shape) (history : ℕ) (entries : List Entry) (stop : Stop) (out : Option (List ℕ)) → IsRunEnd (Err stop) → IsPermitted (opening l) entries → length entries ≤ history → (stop ≡ BookFull → length entries ≡ history)
+    → (text : List ℕ) × CrewRan history l asked (Err stop) text × Writes {V = Unit {0}} out out (Err stop) text
+stopped_with asked l history entries stop out ends permitted within full = (
   [],
   record {
     entries = entries;
@@ -62,10 +63,20 @@ stopped_with l history entries stop out ends permitted within full = (
   puts_none out (written_by {V = Unit {0}} (Err stop)),
 )
 
+-- a crew that was refused a call may end so, and with a full book only if it is full
+crew_may : (made history : ℕ) (refused : Refusal) → MayStop (crew_stop made history refused) × (crew_stop made history refused ≡ BookFull → made ≡ history)
+crew_may made history refusal.NoMemory = (tt, λ e. cc)
+crew_may made history refusal.BookFull = elim (cases_Bool (made == history)) [
+  | inl same ↦ rw same (tt, λ e. eqb-true made history same)
+  | inr differ ↦ rw differ (tt, λ e. cc)
+]
+
 -- a job was refused
-pub job_refused : (h : History) (stop : Stop) (out : Option (List ℕ)) → IsHistory h → MayStop stop → (stop ≡ BookFull → IsBookFull h) → (text : List ℕ) × CrewRan (layout_in h) h.limit (Err stop) text × Writes {V = Unit {0}} out out (Err stop) text
-job_refused h stop out history may full = stopped_with (layout_in h) h.limit h.entries stop out (inr may) history.run history.within full
+pub job_refused : (asked : List Command) (h : History) (refused : Refusal) (out : Option (List ℕ)) → IsHistory h → (text : List ℕ) × CrewRan h.limit (layout_in h) asked (Err (crew_stop (length h.entries) h.limit refused)) text × Writes {V = Unit {0}} out out (Err (crew_stop (length h.entries) h.limit refused)) text
+job_refused asked h refused out history =
+    let may = crew_may (length h.entries) h.limit refused in
+    stopped_with asked (layout_in h) h.limit h.entries (crew_stop (length h.entries) h.limit refused) out (inr may.0) history.run history.within may.1
 
 -- no job was run
-pub not_started : (l : Shape) (history : ℕ) (stop : Stop) (out : Option (List ℕ)) → IsUnstarted stop → (text : List ℕ) × CrewRan l history (Err stop) text × Writes {V = Unit {0}} out out (Err stop) text
-not_started l history stop out h = stopped_with l history [] stop out (inl h) tt (omega arith) (λ e. absurd (subst IsUnstarted e h))
+pub not_started : (asked : List Command) (l : Shape) (history : ℕ) (stop : Stop) (out : Option (List ℕ)) → IsUnstarted stop → (text : List ℕ) × CrewRan history l asked (Err stop) text × Writes {V = Unit {0}} out out (Err stop) text
+not_started asked l history stop out h = stopped_with asked l history [] stop out (inl h) tt (omega arith) (λ e. absurd (subst IsUnstarted e h))

@@ -6,6 +6,7 @@ use Rattle.std.proofs.lemmas.List.{nil_from_length}
 use Rattle.g1_race.specs.declared.race.Race.{Race}
 use Rattle.g1_steps.specs.declared.crew.desk.Step.TheVariants as step
 use Rattle.g1_replay.proofs.CrewScriptLemmas.{steps_fit}
+use Rattle.g1_replay.proofs.JobLemmas.{none_first}
 use Rattle.g1_replay.proofs.StoreLemmas.{asks_own, one_history, own, script_asks, stored_by}
 
 -- what member k has stored once its script was run
@@ -39,10 +40,6 @@ run_of race line mutators rounds commands k (Racing r s) (Racing r' s') (Refine 
 run_of race line mutators rounds commands k (Sweeping w t) (Sweeping w' t') (Mutate steps) j d = absurd (false≢true (j.new.kind ∙ lt-ltb k mutators j.script.0))
 run_of race line mutators rounds commands k (Racing r s) (Sweeping w' t') script j d = let bad : false ≡ true = d.kind in cc
 run_of race line mutators rounds commands k (Sweeping w t) (Racing r' s') script j d = let bad : true ≡ false = d.kind in cc
-
-none_first : (a b : Option Refusal) → option_or a b ≡ None → (a ≡ None) × (b ≡ None)
-none_first None b e = (refl, e)
-none_first (Some x) b e = cc
 
 -- a job that was not refused, and those behind it
 pub first_left : {D : Type 0} (outcome : D → Option (Result ℕ (ℕ × Refusal))) (ds rest : List D) (d : D) (total : Option Refusal) → ds ≡ d ∷ rest → None ≡ refusal_in (outcome d) → first_refusal (map outcome ds) ≡ total → first_refusal (map outcome rest) ≡ total

@@ -22,7 +22,7 @@ ReadsByte old new FailedByte = Consumes old new []
 abbrev pub EndsAtFeed : List ℕ → ℕ → Type 0
 EndsAtFeed bytes n = IsPart (take n bytes) × (n < length bytes → slice_index bytes n ≡ 10)
 
--- n of the shown bytes go into a line with room for `room` more, and the first `lost` are used up
+-- n of the shown bytes go into a line with room for `room` more, and the first `lost` are consumed
 abbrev pub GoesIntoLine : List ℕ → ℕ → Part → ℕ → ℕ → Type 0
 GoesIntoLine shown room Whole n lost =
     IsPart (take n shown) × (n ≤ room) × (take lost shown ≡ take n shown ++ 10 ∷ [])
@@ -33,7 +33,7 @@ GoesIntoLine shown room More n lost = IsPart (take n shown) × (n ≤ room) × (
 GoesIntoLine shown room Nothing n lost = (n ≡ 0) × (lost ≡ 0)
 GoesIntoLine shown room Failed n lost = ⊥
 
--- the line was begun, and the reader lost what of it came next
+-- the next part of a line was consumed
 abbrev pub ReadsPart : Option (List ℕ) → Option (List ℕ) → Part → List ℕ → List ℕ → Type 0
 ReadsPart old new Whole begun line =
     (bytes : List ℕ) × (line ≡ begun ++ bytes) × Consumes old new (bytes ++ 10 ∷ []) × IsPart bytes
@@ -47,13 +47,13 @@ ReadsPart old new More begun line =
 ReadsPart old new Nothing begun line = (line ≡ begun) × Consumes old new []
 ReadsPart old new Failed begun line = (line ≡ begun) × Consumes old new []
 
--- with the first `lost` of the shown bytes used up, this much of the line that was begun is read
+-- with the first `lost` of the shown bytes consumed, this much of the line that was begun is read
 abbrev pub ReadsPartOfShown : (shown : List ℕ) → Part → (lost : ℕ) → (begun line : List ℕ) → Type 0
 ReadsPartOfShown shown part lost begun line =
     (old new : Option (List ℕ)) → Consumes old new (take lost shown)
     → ReadsPart old new part begun line
 
--- the next line, of which the reader lost the front; at the end of the input there is none
+-- the next line, or the part of it that was consumed; at the end of the input there is none
 abbrev pub ReadsLine : Option (List ℕ) → Option (List ℕ) → Result Bool Stop → List ℕ → Type 0
 ReadsLine old new (Ok true) line =
     Consumes old new (line ++ 10 ∷ []) × IsPart line × (length line ≤ 64)

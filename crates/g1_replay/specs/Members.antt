@@ -1,4 +1,4 @@
--- Racers and sweepers at desks, each with its end of a line of completed buffers.
+-- Racers and sweepers at desks, each with its end of a queue of completed buffers.
 use Rattle.std.specs.Prelude.{◌≡◌, ◌∷◌, ◌++◌}
 use Rattle.g1_replay.specs.Prelude.{ℕ, List, [], Bool, true, false, refl, ap, sym, ◌∙◌}
 use Rattle.g1_replay.specs.Prelude.{array_vec_len, Line, line_home, sender_home, taker_home}
@@ -21,7 +21,7 @@ abbrev pub member_start : Member → Start
 member_start (Racing r s) = racer_start r
 member_start (Sweeping w t) = sweeper_start w
 
--- the line that its end is of, and the shares of the line that this end has
+-- the queue that its end is of, and the shares of the queue that this end has
 abbrev pub member_home : Member → TableId
 member_home (Racing r s) = sender_home s
 member_home (Sweeping w t) = taker_home t
@@ -44,7 +44,7 @@ abbrev pub member_histories : Member → List StoreHistory
 member_histories (Racing r s) = (racer_view r).histories
 member_histories (Sweeping w t) = []
 
--- a member of this race, which began with nulls, with an end of this line
+-- a member of this race, which began with nulls, with an end of this queue
 abbrev pub IsMemberOf : Race → Line → Member → Type 0
 IsMemberOf race line m = (member_race m ≡ race_id race) × (member_home m ≡ line_home line)
     × (member_start m ≡ null_of (race_shape race))
@@ -57,8 +57,8 @@ histories_after (AskStore slot target ∷ asks) hs =
 histories_after (AskFlush ∷ asks) hs = histories_after asks hs
 histories_after (AskWork ∷ asks) hs = histories_after asks hs
 
--- A member made these calls: it is the same member with the same end of the line, and it has stored
--- just what was asked of it, in order.
+-- A member made these calls: it is the same member with the same end of the queue, and it has
+-- stored just what was asked of it, in order.
 pub record MemberDid (m : Member) (asks : List Ask) (n : Member) : Type 0 where
   pub race : member_race n ≡ member_race m
   pub start : member_start n ≡ member_start m

@@ -10,7 +10,7 @@ use Rattle.g1_core.specs.declared.entry.Reply.TheVariants as reply
 use Rattle.g1_trace.specs.declared.command.Command.TheVariants as command
 
 -- What is printed of a command and stands in none of its calls: how many cards a flush moved, the
--- length of the line that a round saw last, and whether a help, a later call of a round or its
+-- length of the queue that a round saw last, and whether a help, a later call of a round or its
 -- growth was refused.
 pub record Shown : Type 0 where
   pub cards : ℕ
@@ -85,7 +85,7 @@ IsPieceOf (command.Call call) (e ∷ []) = IsCallBy 0 call e
 IsPieceOf _ _ = ⊥
 
 -- What these settings allow: a round makes no more calls than one that begins at their `start` and
--- sees no more completed buffers than their line holds.
+-- sees no more completed buffers than their queue holds.
 abbrev pub IsSetBy : Settings → Command → List Entry → Type 0
 IsSetBy s command.Work entries =
     (seen : ℕ) × (seen ≤ s.limit) × (length entries ≤ round_size s.start seen)

@@ -16,7 +16,7 @@ abbrev pub IsOpened : Shape → Options → History → Type 0
 IsOpened layout o book = book ≡ opened layout o.config o.mutators o.history
 
 -- What plays commands over this heap in this dialect: its book is of them, with a mutator for each
--- that they name, and a line of as many completed buffers as the settings of the book say.
+-- that they name, and a queue of as many completed buffers as the settings of the book say.
 abbrev pub IsReady : History → ℕ → Line → Shape → Dialect → Type 0
 IsReady book mutators line layout dialect =
     (layout_in book ≡ layout) × (book.mutators ≡ dialect.mutators) × (mutators ≡ dialect.mutators)

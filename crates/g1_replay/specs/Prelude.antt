@@ -6,6 +6,7 @@ pub use Rattle.std.proofs.Common.{length-take-le, List, map, nat_lt, None, Optio
 pub use Rattle.std.proofs.Common.{Some, subst, suc, sym, take, true, vec_capacity, vec_len}
 pub use Rattle.std.proofs.Common.{zero-add, ℕ, ⊎_elim, ◌∙◌}
 pub use Rattle.std.proofs.KnownBytes.{Appends-nil, Appends-trans, Consumes-nil, Consumes-trans}
+pub use Rattle.std.proofs.Math.Nat.{add_assoc}
 pub use Rattle.std.proofs.Props.{props}
 pub use Rattle.std.proofs.lemmas.Bool.{cases_Bool, cond-false, cond-true, eq-eqb, eqb-true}
 pub use Rattle.std.proofs.lemmas.Bool.{false≢true, le-ltb, lt-ltb, ne_eqb, true≢false}
@@ -16,7 +17,8 @@ pub use Rattle.std.proofs.lemmas.List.Concat.{flat_map-append}
 pub use Rattle.std.proofs.lemmas.List.Elements.{All-cons, All-contains, All-head, All-nil, All-pop}
 pub use Rattle.std.proofs.lemmas.List.Elements.{All-push, All-rest, All-same, All-set, All-tail}
 pub use Rattle.std.proofs.lemmas.List.Elements.{filter_map-append, length_all_zip}
-pub use Rattle.std.proofs.lemmas.List.Sums.{count_by-le-length, sum_by-cons, sum_by_push}
+pub use Rattle.std.proofs.lemmas.List.Sums.{count_by-le-length, sum_by-append, sum_by-cons}
+pub use Rattle.std.proofs.lemmas.List.Sums.{sum_by-set, sum_by_push}
 pub use Rattle.std.proofs.lemmas.Result.{err_from_is_err_and}
 pub use Rattle.std.specs.Io.BufRead.{FillKeeps}
 pub use Rattle.std.specs.Io.KnownBytes.{Appends, Consumes, IsAtEnd}

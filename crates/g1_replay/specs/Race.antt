@@ -1,6 +1,6 @@
 -- What a race writes: how many stores were made, and what the drains that follow answer.
 use Rattle.std.specs.Prelude.{◌≡◌, ◌≢◌, ◌⊎◌, ◌<◌, ◌==◌, ◌&&◌, if◌then◌else◌, ◌∷◌, ◌++◌}
-use Rattle.g1_replay.specs.Prelude.{ℕ, List, [], Bool, true, false, Result, Ok, Err, Option, Some}
+use Rattle.g1_replay.specs.Prelude.{ℕ, List, [], Result, Ok, Err, Option, Some}
 use Rattle.g1_replay.specs.Prelude.{None, Contains, codes, flat_map, count_by, length}
 use Rattle.g1_replay.specs.Prelude.{slice_index_or, option_or, Shape, slot_count, card_of}
 use Rattle.g1_replay.specs.Prelude.{region_of, region_of_card, Table, Holds, Drained, Cards, Short}
@@ -11,10 +11,7 @@ use Rattle.g1_replay.specs.declared.stop.Stop.{Stop}
 use Rattle.g1_replay.specs.declared.stop.Stop.TheVariants.{BookFull, NoThread}
 use Rattle.g1_replay.specs.Drains.{drains}
 use Rattle.g1_replay.specs.Scripted.{IsRunEnd, ScriptEnd}
-
-abbrev pub is_store_command : Command → Bool
-is_store_command (Store mutator slot target) = true
-is_store_command c = false
+use Rattle.g1_replay.specs.Scripts.{is_store_command}
 
 -- what the mutator stores to the slot last, if it stores to it
 abbrev pub last_by : (mutator slot : ℕ) → List Command → Option (Option ℕ)
@@ -89,7 +86,7 @@ IsRaceText l mutators commands r text = ((stop : Stop) × (r ≡ Err stop) × (t
     × (r ≢ Err NoThread) × (r ≡ Ok tt → drained ≡ l.regions)
     × (text ≡ stores_text (count_by is_store_command commands) ++ drained_text answers))
 
--- what racing the scripts of these commands comes to: a race has no book
+-- how a race's scripts end: a race has no book
 abbrev pub RaceRan : ℕ → ScriptEnd
 RaceRan mutators l commands r text =
     IsRunEnd r × (r ≢ Err BookFull) × IsRaceText l mutators commands r text

@@ -1,4 +1,4 @@
--- What comes of a trace that is read to its end before its scripts are run.
+-- A trace that is read whole before its scripts run.
 use Rattle.std.specs.Prelude.{◌≡◌, ◌⊎◌, ◌++◌}
 use Rattle.g1_replay.specs.Prelude.{ℕ, List, [], false, Result, Ok, Option, Some, None, IfSome}
 use Rattle.g1_replay.specs.Prelude.{IfErr, IsErrAnd, refl, sym, ap, ◌∙◌, subst, append-nil}
@@ -29,7 +29,7 @@ pub record WasUnread (d : Dialect) (n n' : ℕ) (rd rd' : Option (List ℕ))
   pub read : Reads d None n n' rd rd' heap commands (end_met r)
   pub silent : text ≡ []
 
--- what the scripts of these commands come to over this heap: how they ended, and what was written
+-- how the scripts of these commands over this heap end, and what they print
 abbrev pub ScriptEnd : Type 1
 ScriptEnd = Shape → List Command → Result (Unit {0}) Stop → List ℕ → Type 0
 

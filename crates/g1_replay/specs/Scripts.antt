@@ -1,9 +1,10 @@
 -- The scripts of a crew: what each caller is to do.
-use Rattle.std.specs.Prelude.{◌≡◌, ◌<◌, ◌≤◌, ◌==◌, ◌∷◌, ◌++◌, if◌then◌else◌}
-use Rattle.g1_replay.specs.Prelude.{ℕ, List, [], length, take, map, count_by, sum_by}
+use Rattle.std.specs.Prelude.{◌≡◌, ◌<◌, ◌≤◌, ◌==◌, ◌+◌, ◌∷◌, ◌++◌, if◌then◌else◌}
+use Rattle.g1_replay.specs.Prelude.{ℕ, List, [], Bool, true, false, length, take, map, count_by}
 use Rattle.g1_replay.specs.Prelude.{slice_index_or, Option, Some, None, Result, Err, refl, sym}
 use Rattle.g1_replay.specs.Prelude.{subst, ap, ◌∙◌, append-nil, append_assoc, filter_map-append}
-use Rattle.g1_replay.specs.Prelude.{filter_map, option_or, Ask, asks_in, is_store_ask, Step, Script}
+use Rattle.g1_replay.specs.Prelude.{add_assoc, add-zero, sum_by-append, sum_by, cond, filter_map}
+use Rattle.g1_replay.specs.Prelude.{option_or, Ask, asks_in, asks_of, is_store_ask, Step, Script}
 use Rattle.g1_replay.specs.Prelude.{Mutate, Refine, Refusal, Command, Store, Flush}
 use Rattle.g1_steps.specs.declared.crew.desk.Step.TheVariants as step
 
@@ -22,13 +23,23 @@ own_step mutator (Some asked) = if asked.0 == mutator then Some asked.1 else Non
 abbrev pub step_for : ℕ → Command → Option Step
 step_for mutator c = own_step mutator (asked_in c)
 
--- The calls of these commands came behind those of their mutators.
+abbrev pub is_store_command : Command → Bool
+is_store_command (Store mutator slot target) = true
+is_store_command c = false
+
+-- how many of the calls are stores
+abbrev pub stores_in : List Step → ℕ
+stores_in steps = count_by is_store_ask (asks_of steps)
+
+-- The calls of these commands came behind those of their mutators, and no store was left out.
 pub record AreKept {E : Type 0} (steps : E → List Step) (old : List E) (cs : List Command)
     (new : List E) : Type 0 where
   pub len : length new ≡ length old
   pub each : (k : ℕ) (d : E) → k < length old
       → steps (slice_index_or new k d)
       ≡ steps (slice_index_or old k d) ++ filter_map (step_for k) cs
+  pub stored : sum_by (λ e. stores_in (steps e)) new
+      ≡ sum_by (λ e. stores_in (steps e)) old + count_by is_store_command cs
 
 -- The script of the caller of this number: that of its mutator, or rounds of refinement.
 abbrev pub IsScriptAt : {E : Type 0} → (E → List Step) → (rounds : ℕ) → List E → ℕ → Script → Type 0
@@ -40,8 +51,11 @@ IsScriptAt {E} steps rounds scripts number (Refine made) =
 
 -- scripts that grow
 pub kept_nothing : {E : Type 0} (steps : E → List Step) (old : List E) → AreKept steps old [] old
-kept_nothing steps old =
-    record { len = refl; each = λ k d h. sym (append-nil (steps (slice_index_or old k d))) }
+kept_nothing steps old = record {
+  len = refl;
+  each = λ k d h. sym (append-nil (steps (slice_index_or old k d)));
+  stored = sym (add-zero (sum_by (λ e. stores_in (steps e)) old));
+}
 
 pub kept_then : {E : Type 0} (steps : E → List Step) (a b c : List E) (cs ds : List Command)
     (xs ys : List ℕ) → AreKept steps a cs b × (xs ≡ []) → AreKept steps b ds c × (ys ≡ [])
@@ -57,6 +71,12 @@ kept_then {E} steps a b c cs ds xs ys p q = (
         (filter_map (step_for k) ds)
         ∙ ap (λ (l : List Step). steps (slice_index_or a k d) ++ l)
         (sym (filter_map-append (step_for k) cs ds));
+    stored =
+        let before : ℕ = sum_by (λ e. stores_in (steps e)) a in
+        q.0.stored ∙ ap (λ n. n + count_by is_store_command ds) p.0.stored
+        ∙ add_assoc before (count_by is_store_command cs) (count_by is_store_command ds)
+        ∙ ap (λ n. before + n)
+        (sym (sum_by-append (λ c. cond (is_store_command c) 1 0) cs ds));
   },
   ap (λ l. l ++ ys) p.1 ∙ q.1,
 )

@@ -1,4 +1,4 @@
--- Logs of mutators that stand still, logs as they begin, and the line of completed buffers at a
+-- Logs of mutators that stand still, logs as they begin, and the queue of completed buffers at a
 -- pause.
 use Rattle.std.specs.Prelude.{◌≡◌, ◌<◌}
 use Rattle.g1_replay.specs.Prelude.{ℕ, Bool, true, false, List, [], length, slice_index_or, Taker}
@@ -22,7 +22,7 @@ abbrev pub AreStill : List Mutator → Type 0
 AreStill mutators =
     (k : ℕ) (d : Mutator) → k < length mutators → (slice_index_or mutators k d).log.cards ≡ []
 
--- The first of the takers emptied a line of at most `most` parcels.
+-- The first of the takers emptied a queue of at most `most` parcels.
 abbrev pub FirstEmpties : List Taker → ℕ → List Taker → Type 0
 FirstEmpties old most new =
     (d : Taker)

@@ -23,13 +23,13 @@ use Rattle.g1_trace.specs.Places.{slot_place, target_place, card_place, region_p
 abbrev pub redirect_of : ℕ → ℕ → Result Call TraceFault
 redirect_of a b = if a == b then Err Twice else Ok (Redirect a b)
 
--- whether the traces of a subcommand have nothing but the calls of mutators
+-- whether a trace in this mode may only store and flush
 abbrev pub is_script : Mode → Bool
 is_script Run = false
 is_script Crew = true
 is_script Race = true
 
--- whether they have nothing but stores
+-- whether a trace in this mode may only store
 abbrev pub has_stores_alone : Mode → Bool
 has_stores_alone Run = false
 has_stores_alone Crew = false

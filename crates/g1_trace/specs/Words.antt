@@ -20,7 +20,7 @@ abbrev pub with_word : List ℕ → List (List ℕ) → List (List ℕ)
 with_word [] words = words
 with_word (b ∷ bytes) words = (b ∷ bytes) ∷ words
 
--- the words of the bytes, where word is what has come of the first
+-- the words of the bytes, where `word` is the beginning of the first
 abbrev pub words_from : List ℕ → List ℕ → List (List ℕ)
 words_from word [] = with_word word []
 words_from word (b ∷ bytes) =

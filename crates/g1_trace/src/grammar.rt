@@ -33,7 +33,7 @@ regions, all of them numbers from 0:
   drain R       a pause: what is pending is refined, and the remembered set of region R listed
   clear R       empties the remembered set of region R, if nothing refers into the region any more
   redirect A B  a pause, after which the references into region A refer into region B
-Empty lines, and lines that begin with '#', are passed over.";
+Empty lines, and lines whose first word begins with '#', are passed over.";
 
 // Whether a trace in this mode may only store and flush.
 fn is_script(mode: Mode) -> bool
@@ -46,7 +46,7 @@ fn is_script(mode: Mode) -> bool
     }
 }
 
-// Whether they have nothing but stores.
+// Whether a trace in this mode may only store.
 fn has_stores_alone(mode: Mode) -> bool
     ensures { result ≡ has_stores_alone mode }
 {

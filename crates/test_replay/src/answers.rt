@@ -8,7 +8,7 @@ use std::sync::Wait;
 use std::test::Fail;
 use std::thread::Threads;
 
-/// Stores from each seventeenth card, so many from the first on, into the last region, and its
+/// Stores from each seventeenth card, this many from the first on, into the last region, and its
 /// drain.
 fn stores_and_drain(alloc: Global, length: u8) -> Result<String, AllocError> {
     let mut trace = String::from_str(alloc, "heap 256 16 16\n")?;
@@ -42,7 +42,7 @@ fn a_list_of_more_than_one_block(rt: HostRuntime) -> Result<(), Fail> {
     Ok(())
 }
 
-/// The drain lists the cards of so many stores.
+/// The drain lists the cards of this many stores.
 fn is_listed<R: Abort + Threads + Wait + Sync + AllocGlobal>(
     rt: &R,
     length: u8,

@@ -10,7 +10,7 @@ use std::sync::Wait;
 use std::test::Fail;
 use std::thread::Threads;
 
-/// Checks that nothing is run if a read fails after so many bytes.
+/// Checks that nothing is run if a read fails after this many bytes.
 fn is_not_run<R: Abort + Threads + Wait + Sync + AllocGlobal>(
     rt: &R,
     mode: Mode,
@@ -38,7 +38,7 @@ fn a_read_that_fails(rt: HostRuntime) -> Result<(), Fail> {
     Ok(())
 }
 
-/// Checks that a write that fails after so many bytes, or takes no byte, is the last one.
+/// Checks that a write that fails after this many bytes, or takes no byte, is the last one.
 fn stops_at<R: Abort + Threads + Wait + Sync + AllocGlobal>(
     rt: &R,
     mode: Mode,

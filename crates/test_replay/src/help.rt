@@ -52,7 +52,9 @@ regions, all of them numbers from 0:
   drain R       a pause: what is pending is refined, and the remembered set of region R listed
   clear R       empties the remembered set of region R, if nothing refers into the region any more
   redirect A B  a pause, after which the references into region A refer into region B
-Empty lines, and lines that begin with '#', are passed over. To replay a file:
+Empty lines, and lines whose first word begins with '#', are passed over.
+
+To replay a file:
   g1replay run < FILE
 
 Example, with logs that one card fills:
@@ -149,9 +151,9 @@ which is how many stores were made and, for each region in turn, the cards to sc
 into it. They may differ from run to run where a slot is stored to more than once.
 
 Each list is exact for references that these stores may leave: it has every card outside the region
-that refers into it, and only cards to which the trace stores such a reference. It is not said that
-the stores, in some order one behind the other, would lead to these references, nor that a card
-which was logged reached a refiner; where it did not, the drains find it dirty.
+that refers into it, and only cards to which the trace stores such a reference. No order of the
+stores, one after the other, need explain these references, and a logged card need not reach a
+refiner: the drains then find it dirty.
 
 Exit status:
   0  the whole trace was done

@@ -10,8 +10,6 @@ mod answers;
 #[cfg(test)]
 mod checks;
 #[cfg(test)]
-mod crew_and_run;
-#[cfg(test)]
 mod crews_and_races;
 #[cfg(test)]
 mod failing_ends;

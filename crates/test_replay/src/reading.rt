@@ -11,8 +11,8 @@ use std::process::Abort;
 use std::sync::Wait;
 use std::test::Fail;
 
-/// What comes of a trace whose second line begins with `count` times this byte and then has `rest`,
-/// through a buffer of 7 bytes.
+/// What a trace prints, and how it ends, if its second line begins with `count` times this byte and
+/// then has `rest`, through a buffer of 7 bytes.
 fn play_line<R: Wait + AllocGlobal>(
     rt: &R,
     byte: u8,
@@ -54,7 +54,7 @@ fn long_lines(rt: HostRuntime) -> Result<(), Fail> {
     Ok(())
 }
 
-/// Checks what comes of such a line.
+/// Checks what such a line prints.
 fn is_answered<R: Abort + Wait + AllocGlobal>(
     rt: &R,
     (byte, count, rest): (u8, u64, &[u8]),
@@ -66,7 +66,7 @@ fn is_answered<R: Abort + Wait + AllocGlobal>(
     Ok(())
 }
 
-/// Checks what the trace prints through a reader's buffer of so many bytes.
+/// Checks what the trace prints through a reader's buffer of this many bytes.
 fn prints<R: Abort + Wait + AllocGlobal>(
     rt: &R,
     trace: &str,

@@ -1,8 +1,9 @@
 //! What a crew prints of its book: how many stores there were, and a drain of each region.
 ghost use Rattle.std.specs.Prelude.{◌≡◌};
-ghost use Rattle.g1_replay.specs.{count_by, is_store, IsHistory, layout_in, CrewRan, played_in};
-ghost use Rattle.g1_replay.specs.{played_none, played_then, HasPlayed, IsBookFull, MayStop};
-ghost use Rattle.g1_replay.specs.{WritesSome};
+ghost use Rattle.g1_replay.specs.{List, [], Err, None, IfSome, length, count_by, Appends};
+ghost use Rattle.g1_replay.specs.{is_store, is_store_command, Command, IsHistory};
+ghost use Rattle.g1_replay.specs.{layout_in, CrewRan, crew_stop, played_in, played_none};
+ghost use Rattle.g1_replay.specs.{played_then, HasPlayed, IsBookFull, WritesSome};
 
 use crate::calls::play_call;
 use crate::drains::{Drains, put_drains};
@@ -34,8 +35,9 @@ impl Drains for Book {
 // How many stores there were, and the drains of all regions.
 fn put_book<W: Write>(book: &mut Book, stores: u64, output: &mut W) -> Result<(), Stop>
     requires { stores ≡ count_by is_store book.old.entries }
-    ensures { WritesSome (CrewRan (layout_in book.old) book.old.limit) (W.contents output.old)
-        (W.contents output.new) result }
+    ensures { (commands : List Command) → stores ≡ count_by is_store_command commands
+        → WritesSome (CrewRan book.old.limit (layout_in book.old) commands)
+        (W.contents output.old) (W.contents output.new) result }
 {
     let layout = book.layout();
     let _before = book.entries();
@@ -46,11 +48,9 @@ fn put_book<W: Write>(book: &mut Book, stores: u64, output: &mut W) -> Result<()
 }
 
 // Why a crew that was refused a call ends: the history is full, or memory was refused.
-fn stop_of(book: &Book, refusal: Refusal, history: u32) -> Stop
-    requires { book.now.limit ≡ history }
-    ensures full { result ≡ Stop.BookFull → IsBookFull book.now }
+fn crew_stop(book: &Book, refusal: Refusal, history: u32) -> Stop
     ensures history { IsHistory book.now }
-    ensures stops { MayStop result }
+    ensures stop { result ≡ crew_stop (length book.now.entries) history refusal }
 {
     let made = book.entries().len();
     if refusal == Refusal::BookFull && made == history as usize {
@@ -59,7 +59,8 @@ fn stop_of(book: &Book, refusal: Refusal, history: u32) -> Stop
     Stop::NoMemory
 }
 
-/// Writes what comes of the crew's book, which has this many stores, if no call was refused.
+/// Prints the crew's result: the number of stores and the drains. If a call was refused, it prints
+/// nothing, and returns why the crew ends.
 pub(crate) fn put_crew<W: Write>(
     book: &mut Book,
     stores: u64,
@@ -69,11 +70,16 @@ pub(crate) fn put_crew<W: Write>(
 ) -> Result<(), Stop>
     requires limit { book.old.limit ≡ history }
     requires stores { stores ≡ count_by is_store book.old.entries }
-    ensures { WritesSome (CrewRan (layout_in book.old) history) (W.contents output.old)
-        (W.contents output.new) result }
+    ensures ran { (commands : List Command)
+        → (refused ≡ None → stores ≡ count_by is_store_command commands)
+        → WritesSome (CrewRan history (layout_in book.old) commands)
+        (W.contents output.old) (W.contents output.new) result }
+    ensures refused { IfSome refused (λ r.
+        (result ≡ Err (crew_stop (length book.old.entries) history r))
+        × Appends (W.contents output.old) (W.contents output.new) []) }
 {
     match refused {
-        Some(refusal) => Err(stop_of(book, refusal, history)),
+        Some(refusal) => Err(crew_stop(book, refusal, history)),
         None => put_book(book, stores, output),
     }
 }

@@ -1,8 +1,9 @@
 //! Reads a trace to its end, makes the calls of each mutator in a thread of its own, and prints the
 //! result.
 ghost use Rattle.std.specs.Prelude.{◌≡◌};
-ghost use Rattle.g1_replay.specs.{true, vec_len, All, slot_count, StepFits, CrewRan, CrewRuns};
-ghost use Rattle.g1_replay.specs.{IsScriptReplayed, dialect_in, WritesSome};
+ghost use Rattle.g1_replay.specs.{List, true, vec_len, All, count_by, sum_by, slot_count};
+ghost use Rattle.g1_replay.specs.{StepFits, Command, CrewRan, IsScriptReplayed, dialect_in};
+ghost use Rattle.g1_replay.specs.{WritesSome, is_store_command, stores_in};
 ghost use Rattle.g1_replay.specs.Scripted.{Scripted};
 ghost use Rattle.g1_trace.specs.declared.mode.Mode.TheVariants.{Crew};
 
@@ -38,8 +39,11 @@ fn run_scripts<T: Threads + Wait + Sync, W: Write>(
     requires count { vec_len scripts ≡ options.now.mutators }
     requires fits { All (λ steps.
         All (StepFits (slot_count layout) true) steps.items) scripts.items }
-    ensures { WritesSome (CrewRan layout options.now.history) (W.contents output.old)
-        (W.contents output.new) result }
+    ensures { (commands : List Command)
+        → sum_by (λ steps. stores_in steps.items) scripts.items
+        ≡ count_by is_store_command commands
+        → WritesSome (CrewRan options.now.history layout commands)
+        (W.contents output.old) (W.contents output.new) result }
 {
     let count = u64::from(options.mutators + options.refiners);
     let book = Book::open(
@@ -65,7 +69,7 @@ fn play_crew<T: Threads + Wait + Sync, R: BufRead, W: Write>(
     output: &mut W,
     options: &Options,
 ) -> Result<(), Stop>
-    ensures { WritesSome (Scripted (CrewRuns options.now.history) (dialect_in Crew options.now)
+    ensures { WritesSome (Scripted (CrewRan options.now.history) (dialect_in Crew options.now)
         source.old.number source.new.number (R.remaining input.old) (R.remaining input.new))
         (W.contents output.old) (W.contents output.new) result }
 {
@@ -83,8 +87,9 @@ fn play_crew<T: Threads + Wait + Sync, R: BufRead, W: Write>(
 /// own with refinement threads beside them, and writes how many stores were made and what a drain
 /// of each region returns (docs/traces.md).
 ///
-/// It writes how many stores a permitted run of the plain table has, then the lines of the drains
-/// that end this run, of each region in order, and then the line of the end, if it has one. Returns
+/// It writes how many stores the trace has, then the lines of the drains of each region in order,
+/// and then the line of the end, if it has one. Some permitted run of the plain table has as many
+/// stores and ends with these drains. Returns
 /// `Whole` only if the trace has no fault and all regions were drained, and `Refused` only if the
 /// trace has a fault: then nothing was run, and only the fault's line was written. With `Stopped`,
 /// either the threads were refused a call, memory or a thread, and that line is all that was
@@ -105,7 +110,7 @@ pub fn crew<T: Threads + Wait + Sync, R: BufRead, W: Write>(
     output: &mut W,
     options: &Options,
 ) -> End
-    ensures { IsScriptReplayed (CrewRuns options.now.history) (dialect_in Crew options.now)
+    ensures { IsScriptReplayed (CrewRan options.now.history) (dialect_in Crew options.now)
         (R.remaining input.old) (R.remaining input.new)
         (W.contents output.old) (W.contents output.new) result }
 {

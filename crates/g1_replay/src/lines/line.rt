@@ -16,7 +16,7 @@ use std::io::{BufRead, Read};
 /// How many bytes a line may have before its line feed (docs/traces.md, Lines and words).
 pub const LINE_LIMIT: usize = 64;
 
-/// How much of the line a reader's bytes have.
+/// How much of a line a reader shows.
 #[derive(Clone, Copy)]
 pub enum Part {
     /// All the rest of it, with its line feed.
@@ -51,8 +51,8 @@ fn part_len(bytes: &[u8]) -> usize
     memchr_iter(b'\n', bytes).next().unwrap_or(bytes.len())
 }
 
-/// How much of a line with room for `room` more the bytes have, how many of them go into it, and
-/// how many are used up.
+/// Returns how much of a line the shown bytes are if it has room for `room` more, how many of them
+/// belong to it, and how many to consume.
 pub fn part_of(shown: &[u8], room: usize) -> (Part, usize, usize)
     ensures goes_on { GoesIntoLine shown.now room result.0 result.1 result.2 }
     ensures fits { result.1 ≤ room }
@@ -113,7 +113,7 @@ fn read_byte<R: Read>(input: &mut R) -> Byte
     }
 }
 
-// What comes of a line with one byte more, or with none: whether there is one, or nothing yet.
+// Adds the byte that was read. Returns whether there is a line, or `None` if more must be read.
 fn settle_byte(byte: Byte, line: &mut ArrayVec<u8, 64>) -> Result<Option<bool>, Stop>
     requires { length line.old.items ≤ 64 }
     ensures settled { (begun old new : Option (List ℕ)) → Consumes begun old line.old.items
@@ -135,7 +135,7 @@ fn settle_byte(byte: Byte, line: &mut ArrayVec<u8, 64>) -> Result<Option<bool>, 
     }
 }
 
-// What comes of a line whose last part is this: whether there is one, or nothing yet. If the reader
+// Returns whether there is a line after this part, or `None` if more must be read. If the reader
 // showed nothing, one read of one byte tells whether the input has ended.
 #[tactic(auto, using(crate::proofs::settled_long))]
 fn settle<R: BufRead>(

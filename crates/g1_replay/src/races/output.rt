@@ -46,7 +46,7 @@ impl Drains for Core {
     ghost stays = { λ s t cs text h. h.heap };
 }
 
-/// Writes what comes of the stores of these commands, by the core that the race has become.
+/// Prints the race's result: the number of stores, and a drain of each region of this core.
 pub(crate) fn put_race<W: Write>(
     core: &mut Core,
     commands: &[Command],

@@ -1,13 +1,14 @@
-use Rattle.g1_replay.specs.{err_from_is_err_and}
+use Rattle.g1_replay.specs.{sym, ◌∙◌, err_from_is_err_and}
 use Rattle.g1_replay.proofs.{stores_failed, book_written}
 use Rattle.g1_replay.proofs.crews.output.put_book.Goals as goal
 
 pub returns-in_err-put_stores : goal.returns-in_err-put_stores
-returns-in_err-put_stores g c =
+returns-in_err-put_stores g c commands many =
     let p = err_from_is_err_and c.from_residual.result c.from_residual.ensures.1 in
-    rw (p.1, p.2) (stores_failed c.args.book.now _ _ c.entries-before.ensures.history (rw c.requires at c.in_err-put_stores.ensures))
+    rw (p.1, p.2) (stores_failed commands c.args.book.now _ _ c.entries-before.ensures.history (sym c.requires ∙ many) (rw c.requires at c.in_err-put_stores.ensures))
 
 pub returns : goal.returns
-returns g c =
+returns g c commands many =
     let drained = rw c.layout-layout.ensures.layout at c.put_drains-result.ensures.drained in
-    book_written c.args.book.now c.put_drains-result.new.left _ (g.W.Write.contents c.put_stores.new.output) _ c.put_drains-result.result c.put_drains-result.ensures.stops c.entries-after.ensures.history (rw c.requires at c.in_ok-put_stores.ensures) drained
+    book_written commands c.args.book.now c.put_drains-result.new.left _ (g.W.Write.contents c.put_stores.new.output) _ c.put_drains-result.result c.put_drains-result.ensures.stops c.entries-after.ensures.history (sym c.requires ∙ many)
+    (rw c.requires at c.in_ok-put_stores.ensures) drained

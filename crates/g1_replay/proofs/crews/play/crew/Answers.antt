@@ -1,9 +1,9 @@
 use Rattle.g1_trace.specs.declared.mode.Mode.TheVariants.{Crew}
-use Rattle.g1_replay.specs.{CrewRuns, dialect_in}
+use Rattle.g1_replay.specs.{CrewRan, dialect_in}
 use Rattle.g1_replay.proofs.{scripts_replayed}
 use Rattle.g1_replay.proofs.crews.play.crew.Goals as goal
 
 pub returns : goal.returns
 returns g c =
     let o = c.args.options.now in
-    scripts_replayed (CrewRuns o.history) (λ l cs r text ran. ran.ends) (dialect_in Crew o) _ _ _ _ _ _ _ c.play_crew-outcome.result _ c.start-source.ensures c.play_crew-outcome.ensures c.put_end.ensures
+    scripts_replayed (CrewRan o.history) (λ l cs r text ran. ran.ends) (dialect_in Crew o) _ _ _ _ _ _ _ c.play_crew-outcome.result _ c.start-source.ensures c.play_crew-outcome.ensures c.put_end.ensures

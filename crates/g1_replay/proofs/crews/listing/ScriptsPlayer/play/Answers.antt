@@ -1,13 +1,13 @@
 use Rattle.std.specs.Prelude.{◌<◌, ◌∷◌, ◌++◌}
 use Rattle.g1_replay.specs.{Some, None, Appends-nil, Err, NoMemory, Ok, List, [], All, length, refl, sym, subst, ap, ◌∙◌, append-nil, true, arith, All-push, All-set, err_from_is_err_and, slot_count, StepFits, Step}
-use Rattle.g1_replay.proofs.{Kept, kept_at, kept_none, asks_one, asked_none, asked_own, asked_other, asked_fits, one_done, one_undone}
+use Rattle.g1_replay.proofs.{Kept, kept_at, kept_none, asks_one, asked_none, asked_own, asked_other, asked_fits, stores_none, stores_one, one_done, one_undone}
 use Rattle.g1_replay.proofs.crews.listing.ScriptsPlayer.play.Goals as goal
 use Rattle.g1_replay.proofs.crews.listing.ScriptsPlayer.play.Goals.{In-Some}
 
 pub returns-in_default-clause-played : goal.returns-in_default-clause-played
 returns-in_default-clause-played g c =
     one_done Kept (λ s. ⊥) c.args.self.now c.args.self.now c.args.command [] _ _ (Ok true)
-    (kept_none (λ script. script.items) c.args.self.now.steps.items (c.args.command ∷ []) (λ k. asks_one k c.args.command None (asked_none c.args.command k (sym c.in_default.ensures))), refl)
+    (kept_none (λ script. script.items) c.args.self.now.steps.items (c.args.command ∷ []) (λ k. asks_one k c.args.command None (asked_none c.args.command k (sym c.in_default.ensures))) (stores_none c.args.command (sym c.in_default.ensures)), refl)
     refl (λ e. cc) (Appends-nil _)
 
 -- the call is of one of the mutators, and fits the heap
@@ -22,7 +22,7 @@ returns-in_err-reserve-clause-played g c =
     let fits = fits g (goal.at.returns-in_err-reserve-clause-played g c).In-Some in
     rw (p.1, p.2) (one_undone Kept (λ s. ⊥) c.args.self.now _ c.args.command _ (Err NoMemory) (
       kept_at (λ script. script.items) c.args.self.now.steps.items c.in-Some.by c.reserve.new.self c.index_mut-script.result.now [] [] fits.0 c.index_mut-script.ensures.value
-          (c.reserve.ensures.items ∙ sym (append-nil c.index_mut-script.result.now.items)) refl (λ k other. refl),
+          (c.reserve.ensures.items ∙ sym (append-nil c.index_mut-script.result.now.items)) refl (λ k other. refl) refl,
       refl,
     ) (omega arith) (λ e. cc))
 
@@ -33,7 +33,7 @@ returns-clause-played g c =
       kept_at (λ script. script.items) c.args.self.now.steps.items c.in-Some.by c.push_reserved.new.self c.index_mut-script.result.now (c.args.command ∷ []) (c.in-Some.step ∷ []) fits.0 c.index_mut-script.ensures.value
           (c.push_reserved.ensures.items ∙ ap (λ (ss : List Step). ss ++ c.in-Some.step ∷ []) c.reserve.ensures.items)
           (asks_one c.in-Some.by c.args.command (Some c.in-Some.step) (asked_own c.args.command _ (sym c.in-Some.ensures)))
-          (λ k other. asks_one k c.args.command None (asked_other c.args.command _ k (sym c.in-Some.ensures) other)),
+          (λ k other. asks_one k c.args.command None (asked_other c.args.command _ k (sym c.in-Some.ensures) other)) (stores_one c.args.command _ (sym c.in-Some.ensures)),
       refl,
     ) refl (λ e. cc) (Appends-nil _)
 
