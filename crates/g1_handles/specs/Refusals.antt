@@ -32,7 +32,7 @@ SaysFewer given room r = (r ≡ refusal.NoRoom) × (room < given)
 abbrev pub SaysTooMany : ℕ → Reason → Type 0
 SaysTooMany given r = (r ≡ refusal.TooManyCards) × (256 < given)
 
--- the handle has no racer or sweeper: it is closed, since no member waits in a handle
+-- the handle has no racer, sweeper or reader: it is closed, since no member waits in a handle
 abbrev pub SaysNoMember : {P : Type 0} {g : Ghosts P} → Option (Member P g) → Reason → Type 0
 SaysNoMember m r = (r ≡ refusal.NotOpen) × (role_in m ≡ None)
 
