@@ -10,8 +10,7 @@ ghost use Rattle.g1_handles.specs.{held_sweepers, role_in, AreClosed, IsOf, coun
 use crate::any_handle::{AnyHandle, closed, into_box, opened};
 use crate::code::Reason;
 use crate::heap::handle::HeapHandle;
-use crate::heap::look::look_at;
-use crate::heap::one_race::share_of_race;
+use crate::heap::one_race::check_members;
 use crate::heap::racing_heap::{AtPause, RacingHeap, UnderWay};
 use crate::member::racer_handle::RacerHandle;
 use crate::member::sweeper_handle::SweeperHandle;
@@ -78,11 +77,9 @@ fn pause_of(
     if racers.len() != under_way.racers.count || sweepers.len() != under_way.sweepers.count {
         return Err(Reason::BadMembers);
     }
-    let members = under_way.race.members();
-    look_at(alloc, racers, members)?;
-    look_at(alloc, sweepers, members)?;
-    let share = share_of_race(alloc, &under_way.race, racers, sweepers);
-    let share = share.ok_or(Reason::OtherRace)?;
+    check_members(alloc, &under_way.race, racers)?;
+    check_members(alloc, &under_way.race, sweepers)?;
+    let share = Arc::try_clone(&under_way.race).or(Err(Reason::OtherRace))?;
     let RacingHeap::Racing(under_way) = heap else {
         unreachable!()
     };
