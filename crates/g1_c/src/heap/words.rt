@@ -9,7 +9,7 @@ use crate::tell::tell;
 use core::mem::replace_with;
 use g1_handles::code::{DONE, Reason};
 use g1_handles::heap::handle::HeapHandle;
-use g1_handles::heap::words::{store_data_at, word_at, words_in};
+use g1_handles::heap::words::{store_data_at, word_at, words_of_heap};
 use std::alloc::Global;
 use std::ptr::null;
 
@@ -21,7 +21,7 @@ pub extern "C" fn g1_heap_words(alloc: Global, heap: &mut HeapHandle, words: &mu
         (SaysNoHeap heap.old.value) }
     ensures same { heap.new.value ≡ heap.old.value }
 {
-    tell(replace_with(heap, alloc, words_in), null(), words)
+    tell(replace_with(heap, alloc, words_of_heap), null(), words)
 }
 
 /// As in `g1.h`.

@@ -16,7 +16,7 @@ use std::alloc::Global;
 /// Returns the address of the words of the heap of a handle, at a pause or not: the word of each
 /// slot, in order. It stays the same for as long as the heap lasts. Returns `NotOpen` if the handle
 /// is closed.
-pub fn words_in(handle: HeapHandle, alloc: Global) -> (HeapHandle, Result<*const u64, Reason>)
+pub fn words_of_heap(handle: HeapHandle, alloc: Global) -> (HeapHandle, Result<*const u64, Reason>)
     ensures words { IfOk result.1 (λ words.
         OfHeap handle.value (λ race. words ≡ race_words race)) }
     ensures why { IfErr result.1 (SaysNoHeap handle.value) }
