@@ -87,12 +87,12 @@ fn pause_of(
     gather(alloc, racers, &mut racing.roles, &mut racing.boxes);
     let sweeping = &mut under_way.sweepers;
     gather(alloc, sweepers, &mut sweeping.roles, &mut sweeping.boxes);
-    replace_with(heap, share, come_in);
+    replace_with(heap, share, enter_pause);
     Ok(())
 }
 
 /// The heap is at a pause once its members are in.
-fn come_in(heap: RacingHeap, share: Arc<Race, Global>) -> (RacingHeap, ())
+fn enter_pause(heap: RacingHeap, share: Arc<Race, Global>) -> (RacingHeap, ())
     requires { OfRacing (Some heap) (λ b. (arc_value share ≡ arc_value b.race)
         × AreFor (arc_value b.race) b.racers.count b.racers.boxes b.racers.roles
         × AreFor (arc_value b.race) b.sweepers.count b.sweepers.boxes b.sweepers.roles) }
