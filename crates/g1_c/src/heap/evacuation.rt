@@ -3,7 +3,7 @@
 ghost use Rattle.std.specs.Prelude.{◌≡◌, ◌≢◌, ◌⊎◌, ◌<◌};
 ghost use Rattle.g1_c.specs.{ClearsAt, Redirects, Wipes, Forgets, RefersOut};
 ghost use Rattle.g1_c.specs.{IsRefusal, IsHeapRefused, IsSameHeap, OfPaused, LacksRegion};
-ghost use Rattle.g1_c.specs.{TellsRefusal};
+ghost use Rattle.g1_c.specs.{SaysNoMove, TellsRefusal};
 
 use crate::calling::on_heap;
 use g1_core::ClearReply;
@@ -55,8 +55,7 @@ pub extern "C" fn g1_heap_redirect(
     ensures redirected { result ≡ 0 → IsSameHeap heap.old.value heap.new.value (λ old new.
         Redirects old from to moved.new new) }
     ensures told { TellsRefusal 0 result heap.old.value heap.new.value (moved.new ≡ 0)
-        (IsHeapRefused heap.old.value (λ old r. LacksRegion old.layout from r
-        ⊎ LacksRegion old.layout to r ⊎ ((r ≡ Reason.SameRegion) × (from ≡ to)))) }
+        (IsHeapRefused heap.old.value (λ old. SaysNoMove old.layout from to)) }
 {
     match on_heap!(alloc, heap, redirect_at(from, to)) {
         Err(refusal) => {
