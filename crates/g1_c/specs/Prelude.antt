@@ -18,7 +18,7 @@ pub use Rattle.g1_handles.specs.Codes.{OfKind, OfOpen, reference_of, refusal_wor
 pub use Rattle.g1_handles.specs.Counting.{stored_as}
 pub use Rattle.g1_handles.specs.HeapCalls.{IsCalled, IsHeapRefused}
 pub use Rattle.g1_handles.specs.Lacks.{LacksCard, LacksPair, LacksPlace, LacksRanges, LacksRegion}
-pub use Rattle.g1_handles.specs.Lacks.{LacksSlot, LacksSlots, SaysNoData, SaysNoMove}
+pub use Rattle.g1_handles.specs.Lacks.{LacksSlot, SaysNoData, SaysNoMove}
 pub use Rattle.g1_handles.specs.Life.{AreLikeOf, AreOfHeap, HasCountedNothing, IsCloseRefused}
 pub use Rattle.g1_handles.specs.Life.{IsFor, IsHeapOpenRefused, IsNewHeap, IsPauseRefused}
 pub use Rattle.g1_handles.specs.Life.{IsResumeRefused, IsSameHeap, OfHeap, OfPaused, SaysNoHeap}

@@ -6,9 +6,8 @@ ghost use Rattle.g1_c.specs.{IsTold};
 ghost use denote.RawPtr.{null_ptr};
 
 use crate::calling::on_heap;
-use crate::tell::tell;
+use crate::tell::{tell, word_of};
 use core::mem::replace_with;
-use g1_handles::code::DONE;
 use g1_handles::heap::handle::HeapHandle;
 use g1_handles::heap::words::{store_data_at, word_at, words_of_heap};
 use std::alloc::Global;
@@ -54,8 +53,5 @@ pub extern "C" fn g1_heap_store_data(
     ensures told { TellsRefusal 0 result heap.old.value heap.new.value (Unit {0})
         (IsHeapRefused heap.old.value (λ old. SaysNoData old.layout slot word)) }
 {
-    match on_heap!(alloc, heap, store_data_at(slot, word)) {
-        Err(refusal) => refusal.word(),
-        Ok(()) => DONE,
-    }
+    word_of(on_heap!(alloc, heap, store_data_at(slot, word)))
 }
