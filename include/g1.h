@@ -90,8 +90,8 @@ extern "C" {
 
 /*
  * Marks a call that may be refused, or do less than it was asked for, although its caller keeps
- * every rule (by memory, a full log, what is pending or what a slot has): the compiler warns if
- * the code that it returns is thrown away.
+ * every rule (by memory, a full log, a short array, what is pending or what a slot has): the
+ * compiler warns if the code that it returns is thrown away.
  */
 #ifdef __GNUC__
 #define G1_MUST_USE __attribute__((__warn_unused_result__))
@@ -855,9 +855,10 @@ uint32_t g1_heap_members(struct g1_heap *heap, uint32_t region, uint32_t *cards,
  *     for (from = 0; g1_heap_next_member(&heap, region, from, &card) == G1_DONE && card != G1_NULL;
  *          from = card + 1)
  *
- * `from` may be greater than any card's number. What a walk meets is what g1_heap_members returns,
- * if nothing was stored meanwhile to a card that it has still to come to. The call reads a word for
- * each 64 cards up to the one that it finds, and takes no memory.
+ * `from` may be greater than any card's number. A walk meets what g1_heap_members returns. You may
+ * store, copy and wipe between its steps: only a refine, a drain, a clear, a redirect and a forget
+ * change what is recorded. The call reads a word for each 64 cards up to the one that it finds, and
+ * takes no memory.
  *
  * Returns G1_DONE, or G1_NOT_OPEN, G1_NOT_PAUSED or G1_NO_REGION: `card` is G1_NULL.
  */

@@ -151,13 +151,6 @@ extern "C" {
     pub fn g1_heap_words(heap: *mut HeapHandle, words: *mut *const u64) -> u32;
     pub fn g1_heap_is_pending(heap: *mut HeapHandle, card: u32, pending: *mut u32) -> u32;
     pub fn g1_heap_status(heap: *mut HeapHandle, totals: *mut Totals) -> u32;
-    pub fn g1_heap_members(
-        heap: *mut HeapHandle,
-        region: u32,
-        cards: *mut u32,
-        cards_length: usize,
-        count: *mut u32,
-    ) -> u32;
     pub fn g1_heap_next_member(
         heap: *mut HeapHandle,
         region: u32,
@@ -165,13 +158,6 @@ extern "C" {
         card: *mut u32,
     ) -> u32;
     pub fn g1_heap_refine(heap: *mut HeapHandle) -> u32;
-    pub fn g1_heap_drain(
-        heap: *mut HeapHandle,
-        region: u32,
-        cards: *mut u32,
-        cards_length: usize,
-        count: *mut u32,
-    ) -> u32;
     pub fn g1_heap_store(heap: *mut HeapHandle, slot: u32, target: u32, kind: *mut u32) -> u32;
     pub fn g1_heap_store_all(
         heap: *mut HeapHandle,

@@ -63,8 +63,19 @@ fn a_walk_meets_the_members_of_a_region() {
     let cards = [5, 700, 1023].map(|card| heap.card(card).expect("a card"));
     assert_eq!(walked, cards);
     assert_eq!(heap.members(region).expect("a list"), cards);
+    // Between its steps, a reference on a card that is not recorded, and null on one that is.
+    let (mut met, mut from) = (Vec::new(), 0);
+    while let Some(card) = heap.next_member(region, from).expect("a step") {
+        let (ahead, last, to) = (slot(&heap, 701), slot(&heap, 1023), slot(&heap, 300));
+        heap.store(ahead, Some(to)).expect("a store");
+        heap.store(last, None).expect("a store");
+        met.push(card);
+        from = card.number() + 1;
+    }
+    assert_eq!(met, cards);
     let other = self::heap().region(1).expect("a region");
     assert_eq!(heap.members_iter(other).err(), Some(Refusal::OtherHeap));
+    assert_eq!(heap.next_member(other, 0), Err(Refusal::OtherHeap));
 }
 
 #[test]

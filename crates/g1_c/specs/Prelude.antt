@@ -18,10 +18,11 @@ pub use Rattle.g1_handles.specs.Codes.{OfKind, OfOpen, reference_of, refusal_wor
 pub use Rattle.g1_handles.specs.Counting.{stored_as}
 pub use Rattle.g1_handles.specs.HeapCalls.{IsCalled, IsHeapRefused}
 pub use Rattle.g1_handles.specs.Lacks.{LacksCard, LacksPair, LacksPlace, LacksRanges, LacksRegion}
-pub use Rattle.g1_handles.specs.Lacks.{LacksSlot, LacksSlots}
-pub use Rattle.g1_handles.specs.Life.{AreLikeOf, AreOfHeap, HasCountedNothing, IsEndRefused, IsFor}
-pub use Rattle.g1_handles.specs.Life.{IsGoingRefused, IsNewHeap, IsOpeningRefused, IsPauseRefused}
-pub use Rattle.g1_handles.specs.Life.{IsSameHeap, OfHeap, OfPaused, SaysNoHeap, SaysNotPaused}
+pub use Rattle.g1_handles.specs.Lacks.{LacksSlot, SaysNoData, SaysNoMove}
+pub use Rattle.g1_handles.specs.Life.{AreLikeOf, AreOfHeap, HasCountedNothing, IsCloseRefused}
+pub use Rattle.g1_handles.specs.Life.{IsFor, IsHeapOpenRefused, IsNewHeap, IsPauseRefused}
+pub use Rattle.g1_handles.specs.Life.{IsResumeRefused, IsSameHeap, OfHeap, OfPaused, SaysNoHeap}
+pub use Rattle.g1_handles.specs.Life.{SaysNotPaused}
 pub use Rattle.g1_handles.specs.Phases.{BeginsReading, ComesToPause, EndsReading, Resumes}
 pub use Rattle.g1_handles.specs.Queries.{Finds, Overflows, RefersTo, TellsMembers, TellsPending}
 pub use Rattle.g1_handles.specs.Queries.{TellsStatus}

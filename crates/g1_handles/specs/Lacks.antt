@@ -1,5 +1,5 @@
 -- What a heap of a layout lacks, and by which refusal a call says so.
-use Rattle.std.specs.Prelude.{◌≡◌, ◌⊎◌, ◌+◌, ◌<◌, ◌≤◌}
+use Rattle.std.specs.Prelude.{◌≡◌, ◌⊎◌, ◌+◌, ◌<◌, ◌≤◌, ◌^◌}
 use Rattle.g1_handles.specs.Prelude.{ℕ, Shape, slot_count, card_count}
 use Rattle.g1_handles.specs.declared.code.Reason.{Reason}
 use Rattle.g1_handles.specs.declared.code.Reason.TheVariants as refusal
@@ -28,6 +28,15 @@ LacksRanges l first count other others r = LacksSlots l first count r ⊎ LacksS
 -- there is no such slot, or no such place of the target
 abbrev pub LacksPlace : Shape → ℕ → ℕ → Reason → Type 0
 LacksPlace l slot target r = (r ≡ refusal.NoSlot) × (IsStoreOf l slot target → ⊥)
+
+-- the slot is not there, or the word is no data
+abbrev pub SaysNoData : Shape → ℕ → ℕ → Reason → Type 0
+SaysNoData l slot word r = LacksSlot l slot r ⊎ ((r ≡ refusal.BadWord) × (word < 2 ^ 32))
+
+-- one of the two regions is not there, or both are the same
+abbrev pub SaysNoMove : Shape → ℕ → ℕ → Reason → Type 0
+SaysNoMove l from to r =
+    LacksRegion l from r ⊎ LacksRegion l to r ⊎ ((r ≡ refusal.SameRegion) × (from ≡ to))
 
 -- the card or the region is not there
 abbrev pub LacksPair : Shape → ℕ → ℕ → Reason → Type 0

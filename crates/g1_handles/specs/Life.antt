@@ -98,15 +98,15 @@ pub record IsNewHeap (l : layout.Shape) (racers sweepers : ℕ) (p : Pause) : Ty
 
 -- a heap of these counts, with this many racers and sweepers, in this handle: it is open already,
 -- or the heap is not to be had
-abbrev pub IsOpeningRefused : Option RacingHeap → layout.Shape → ℕ → ℕ → Reason → Type 0
-IsOpeningRefused h l racers sweepers r =
+abbrev pub IsHeapOpenRefused : Option RacingHeap → layout.Shape → ℕ → ℕ → Reason → Type 0
+IsHeapOpenRefused h l racers sweepers r =
     ((r ≡ refusal.AlreadyOpen) × IsSome h)
     ⊎ ((h ≡ None) × (((r ≡ refusal.BadMembers) × (AreHeapCounts racers sweepers → ⊥))
     ⊎ ((r ≡ refusal.BadLayout) × (IsShape l → ⊥)) ⊎ (r ≡ refusal.NoMemory)))
 
 -- the end of the heap of this handle
-abbrev pub IsEndRefused : Option RacingHeap → Reason → Type 0
-IsEndRefused h r = SaysNoHeap h r ⊎ SaysNotPaused h r
+abbrev pub IsCloseRefused : Option RacingHeap → Reason → Type 0
+IsCloseRefused h r = SaysNoHeap h r ⊎ SaysNotPaused h r
 
 -- the race of the heap
 abbrev pub heap_race : Option RacingHeap → Option Race
@@ -182,7 +182,7 @@ pub record AreFor {P : Type 0} {g : Ghosts P} (race : Race) (count : ℕ)
   pub of : All (λ role. g.of role ≡ race_id race) roles.items
 
 -- the pause has ended, and the members are still to be handed out
-pub record LetsGo (a : AtPause) (b : UnderWay) : Type 0 where
+pub record LeavesPause (a : AtPause) (b : UnderWay) : Type 0 where
   pub race : arc_value b.race ≡ arc_value a.race
   pub racer_count : b.racers.count ≡ length a.pause.logs
   pub sweeper_count : b.sweepers.count ≡ a.pause.sweepers
@@ -200,9 +200,9 @@ pub record LetsGo (a : AtPause) (b : UnderWay) : Type 0 where
   pub sweepers_waited : b.sweepers.boxes ≡ a.sweepers
 
 -- a resume of the heap of the first handle, with the members' handles
-abbrev pub IsGoingRefused : Option RacingHeap → List (Option RacerMember)
+abbrev pub IsResumeRefused : Option RacingHeap → List (Option RacerMember)
     → List (Option SweeperMember) → Reason → Type 0
-IsGoingRefused h racers sweepers r =
+IsResumeRefused h racers sweepers r =
     SaysNoHeap h r ⊎ SaysNotPaused h r
     ⊎ ((r ≡ refusal.BadMembers) × OfPaused h (λ p. Unit {0})
     × (IsFor h (length racers) (length sweepers) → ⊥))

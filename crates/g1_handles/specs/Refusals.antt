@@ -1,5 +1,5 @@
 -- Why a call is refused: each refusal that it may answer, with what is so where it comes.
-use Rattle.std.specs.Prelude.{◌≡◌, ◌⊎◌, ◌<◌, ◌≤◌, ◌^◌}
+use Rattle.std.specs.Prelude.{◌≡◌, ◌⊎◌, ◌<◌, ◌≤◌}
 use Rattle.g1_handles.specs.Prelude.{All, ℕ, List, length, Option, None}
 use Rattle.g1_handles.specs.Prelude.{IsSome, array_vec_len, Shape, IsShape, card_count, Settings}
 use Rattle.g1_handles.specs.Prelude.{AreSettings, Machine, race_layout, Race, Racer}
@@ -9,7 +9,7 @@ use Rattle.g1_handles.specs.declared.member.Role.{Ghosts}
 use Rattle.g1_handles.specs.declared.member.Member.{Member}
 use Rattle.g1_handles.specs.Own.{RacerMember, SweeperMember}
 use Rattle.g1_handles.specs.Codes.{OfOpen}
-use Rattle.g1_handles.specs.Lacks.{LacksSlot, LacksCard, LacksRegion, LacksPlace}
+use Rattle.g1_handles.specs.Lacks.{LacksCard, LacksRegion, LacksPlace, SaysNoData, SaysNoMove}
 use Rattle.g1_handles.specs.Racing.{Racing, role_in, OfRole, racing_in, sweeping_in}
 
 -- the handle is closed
@@ -32,7 +32,7 @@ SaysFewer given room r = (r ≡ refusal.NoRoom) × (room < given)
 abbrev pub SaysTooMany : ℕ → Reason → Type 0
 SaysTooMany given r = (r ≡ refusal.TooManyCards) × (256 < given)
 
--- the handle has no racer or sweeper: it is closed, since no member waits in a handle
+-- the handle has no racer, sweeper or reader: it is closed, since no member waits in a handle
 abbrev pub SaysNoMember : {P : Type 0} {g : Ghosts P} → Option (Member P g) → Reason → Type 0
 SaysNoMember m r = (r ≡ refusal.NotOpen) × (role_in m ≡ None)
 
@@ -65,8 +65,7 @@ IsRaceExchangeRefused m slot expected target =
 -- a store of data by the racer of a handle
 abbrev pub IsRaceDataRefused : Option RacerMember → ℕ → ℕ → Reason → Type 0
 IsRaceDataRefused m slot word =
-    IsRacerRefused m (λ a r. LacksSlot (race_layout a.race) slot r
-    ⊎ ((r ≡ refusal.BadWord) × (word < 2 ^ 32)))
+    IsRacerRefused m (λ a. SaysNoData (race_layout a.race) slot word)
 
 -- the refinement of the card by the sweeper of a handle, which takes no memory
 abbrev pub IsSweepRefused : Option SweeperMember → ℕ → Reason → Type 0
@@ -105,5 +104,4 @@ AreMembersRefused l region r = LacksRegion l region r ⊎ (r ≡ refusal.NoMemor
 -- a redirect from one region to another, with an array for the cards that are refined
 abbrev pub IsRedirectRefused : Shape → ℕ → ℕ → ℕ → Reason → Type 0
 IsRedirectRefused l from to room r =
-    LacksRegion l from r ⊎ LacksRegion l to r ⊎ ((r ≡ refusal.SameRegion) × (from ≡ to))
-    ⊎ SaysNoRoom l room r ⊎ (r ≡ refusal.NoMemory)
+    SaysNoMove l from to r ⊎ SaysNoRoom l room r ⊎ (r ≡ refusal.NoMemory)

@@ -24,8 +24,8 @@ pub const FULL: u32 = 4;
 /// The word for null.
 pub const NULL: u32 = 4_294_967_295;
 
-/// Why a call was refused. Its words are 8 and above. The words below say what a call did that was
-/// not refused.
+/// Why a call was refused. Its words are 8 and above. Lower words say what a call did that was
+/// made.
 #[derive(Clone, Copy, Debug, PartialEq, Eq)]
 pub enum Reason {
     /// The handle is closed.
@@ -52,15 +52,16 @@ pub enum Reason {
     SameRegion,
     /// A clear, while cards are pending.
     StillPending,
-    /// A clear, while a slot outside the region refers into it.
+    /// A clear, while a slot outside the region refers into it; or a forget, while one inside
+    /// refers out.
     StillReferenced,
     /// A racer's log is full.
     LogFull,
-    /// There are not as many handles as the heap has members, or a heap may not have as many.
+    /// Not as many racers, sweepers or readers as the heap has, or as a heap may have.
     BadMembers,
-    /// The handles are not those of all members of the heap, each given once.
+    /// The handles are not those of all members, or of all readers, of the heap, each given once.
     OtherRace,
-    /// The heap is not at a pause: its members are out.
+    /// The heap's members are out, or readers read it.
     NotPaused,
     /// The heap is at a pause: its members are in.
     NotRacing,

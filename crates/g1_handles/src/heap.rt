@@ -3,8 +3,8 @@
 //! - [`racing_heap`] is the heap: at a pause, read there or with its members out. [`handle`] has
 //!   its handle.
 //! - [`open`] begins and ends it, [`resume`] hands its members out, and [`pause`] takes them in.
-//!   Before anything changes, a pause checks that it was given all members of the heap (`look`,
-//!   `one_race`).
+//!   Before anything changes, a pause checks that it was given all members of the heap
+//!   (`one_race`).
 //! - [`queries`], [`sets`], [`drains`], [`stores`], [`copy`], [`evacuation`], [`words`] and
 //!   [`verify`] are the collector's calls at a pause, on an [`at_pause::PausedHeap`].
 //! - [`reading`] lends a heap at a pause to readers, one for each thread that reads it, and
@@ -16,7 +16,6 @@ pub mod copy;
 pub mod drains;
 pub mod evacuation;
 pub mod handle;
-mod look;
 mod one_race;
 pub mod open;
 pub mod pause;

@@ -63,8 +63,8 @@ pub struct Member<P: Role> {
     pub(crate) race: Arc<Race, Global>,
     // Its number among the racers, the sweepers or the readers of its race.
     pub(crate) number: usize,
-    // None while it waits, in no handle: a racer and a sweeper at a pause, a reader but while it
-    // reads.
+    // None while it waits, in no handle: a racer or a sweeper at a pause, a reader outside a
+    // reading.
     pub(crate) role: Option<P>,
     pub(crate) counts: MemberCounts,
     // Padding of a cache line: boxes of racers lie side by side, and a store writes the end of its

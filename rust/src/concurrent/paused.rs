@@ -3,10 +3,10 @@ use super::{Life, Paused, Racer, Racing, Sweeper, Word, Words};
 use super::{NO_RACER, NO_SWEEPER, RACERS, SWEEPERS};
 use crate::answers::done;
 use crate::library::{
-    g1_heap_clear, g1_heap_copy, g1_heap_drain, g1_heap_forget, g1_heap_is_pending,
-    g1_heap_members, g1_heap_next_member, g1_heap_open, g1_heap_redirect, g1_heap_refine,
-    g1_heap_resume, g1_heap_status, g1_heap_store, g1_heap_store_all, g1_heap_store_data,
-    g1_heap_verify, g1_heap_wipe, g1_heap_words, HeapHandle, DONE, NULL,
+    g1_heap_clear, g1_heap_copy, g1_heap_forget, g1_heap_is_pending, g1_heap_next_member,
+    g1_heap_open, g1_heap_redirect, g1_heap_refine, g1_heap_resume, g1_heap_status, g1_heap_store,
+    g1_heap_store_all, g1_heap_store_data, g1_heap_verify, g1_heap_wipe, g1_heap_words, HeapHandle,
+    DONE, NULL,
 };
 use crate::numbers::{Home, Numbers};
 use crate::{Card, Cleared, Counts, Kind, Refusal, Region, Slot, Totals};
@@ -118,7 +118,7 @@ impl Paused {
     ///
     /// Refused with [`Refusal::OtherHeap`].
     pub fn members(&mut self, region: Region) -> Result<Vec<Card>, Refusal> {
-        self.list(region, g1_heap_members)
+        Ok(self.members_iter(region)?.collect())
     }
 
     /// The same cards one by one, with no memory.
@@ -127,10 +127,22 @@ impl Paused {
     pub fn members_iter(&mut self, region: Region) -> Result<Members<'_>, Refusal> {
         self.life.numbers.has(region.home)?;
         Ok(Members {
-            life: &mut self.life,
-            region: region.number,
+            heap: self,
+            region,
             from: 0,
         })
+    }
+
+    /// The least card from the number `from` on that is recorded for a region. Stores, copies and
+    /// wipes between two of these calls do not change what a walk meets. No memory.
+    ///
+    /// Refused with [`Refusal::OtherHeap`].
+    pub fn next_member(&mut self, region: Region, from: u32) -> Result<Option<Card>, Refusal> {
+        self.life.numbers.has(region.home)?;
+        let (mut number, handle) = (NULL, &mut self.life.handle);
+        done(unsafe { g1_heap_next_member(handle, region.number, from, &mut number) })?;
+        // (The word for none is no card's number.)
+        Ok(self.life.numbers.card(number).ok())
     }
 
     /// Refines all that is dirty, empties the racers' logs, and returns the remembered set of a
@@ -139,30 +151,9 @@ impl Paused {
     ///
     /// Refused with [`Refusal::OtherHeap`].
     pub fn drain(&mut self, region: Region) -> Result<Vec<Card>, Refusal> {
-        self.list(region, g1_heap_drain)
-    }
-
-    fn list(
-        &mut self,
-        region: Region,
-        call: unsafe extern "C" fn(*mut HeapHandle, u32, *mut u32, usize, *mut u32) -> u32,
-    ) -> Result<Vec<Card>, Refusal> {
-        let numbers = self.life.numbers;
-        numbers.has(region.home)?;
-        let (mut cards, mut count) = (vec![0; numbers.all_cards() as usize], 0);
-        let (room, length) = (cards.as_mut_ptr(), cards.len());
-        match unsafe {
-            call(
-                &mut self.life.handle,
-                region.number,
-                room,
-                length,
-                &mut count,
-            )
-        } {
-            DONE => Ok(numbers.cards_of(&cards, count)),
-            word => Err(Refusal::of(word)),
-        }
+        self.life.numbers.has(region.home)?;
+        self.refine()?;
+        self.members(region)
     }
 
     /// Refines all that is dirty, and empties the racers' logs. Call it once for a collection set,
@@ -300,8 +291,8 @@ impl Paused {
 
 /// The cards of a region's remembered set at a pause, ascending ([`Paused::members_iter`]).
 pub struct Members<'a> {
-    life: &'a mut Life,
-    region: u32,
+    heap: &'a mut Paused,
+    region: Region,
     from: u32,
 }
 
@@ -309,7 +300,7 @@ impl fmt::Debug for Members<'_> {
     fn fmt(&self, f: &mut fmt::Formatter<'_>) -> fmt::Result {
         let mut shown = f.debug_struct("Members");
         shown
-            .field("region", &self.region)
+            .field("region", &self.region.number)
             .field("from", &self.from)
             .finish_non_exhaustive()
     }
@@ -319,15 +310,9 @@ impl Iterator for Members<'_> {
     type Item = Card;
 
     fn next(&mut self) -> Option<Card> {
-        let (mut number, home) = (NULL, self.life.numbers.home);
-        let handle = &mut self.life.handle;
-        // SAFETY: the handle is open and at a pause, and this call alone uses it.
-        let word = unsafe { g1_heap_next_member(handle, self.region, self.from, &mut number) };
-        assert_eq!(word, DONE, "a question of a paused heap is not refused");
-        if number == NULL {
-            return None;
-        }
-        self.from = number + 1;
-        Some(Card { number, home })
+        let found = self.heap.next_member(self.region, self.from);
+        let card = found.expect("a question of a paused heap is not refused")?;
+        self.from = card.number + 1;
+        Some(card)
     }
 }

@@ -1,10 +1,10 @@
 //! A range of slots of a heap at a pause is copied to another one.
-ghost use Rattle.std.specs.Prelude.{◌≡◌, ◌⊎◌, ◌+◌, ◌≤◌};
+ghost use Rattle.std.specs.Prelude.{◌≡◌, ◌+◌, ◌≤◌};
 ghost use Rattle.g1_c.specs.{slot_count, Copies, IsHeapRefused, IsSameHeap};
-ghost use Rattle.g1_c.specs.{OfPaused, LacksSlots, TellsRefusal};
+ghost use Rattle.g1_c.specs.{OfPaused, LacksRanges, TellsRefusal};
 
 use crate::calling::on_heap;
-use g1_handles::code::DONE;
+use crate::tell::word_of;
 use g1_handles::heap::copy::copy_at;
 use g1_handles::heap::handle::HeapHandle;
 use std::alloc::Global;
@@ -23,11 +23,7 @@ pub extern "C" fn g1_heap_copy(
     ensures answered { OfPaused heap.old.value (λ old. (from + count ≤ slot_count old.layout)
         × (to + count ≤ slot_count old.layout)) → result ≡ 0 }
     ensures told { TellsRefusal 0 result heap.old.value heap.new.value (Unit {0})
-        (IsHeapRefused heap.old.value (λ old r. LacksSlots old.layout from count r
-        ⊎ LacksSlots old.layout to count r)) }
+        (IsHeapRefused heap.old.value (λ old. LacksRanges old.layout from count to count)) }
 {
-    match on_heap!(alloc, heap, copy_at(from, to, count)) {
-        Err(refusal) => refusal.word(),
-        Ok(()) => DONE,
-    }
+    word_of(on_heap!(alloc, heap, copy_at(from, to, count)))
 }

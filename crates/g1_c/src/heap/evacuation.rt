@@ -3,11 +3,12 @@
 ghost use Rattle.std.specs.Prelude.{◌≡◌, ◌≢◌, ◌⊎◌, ◌<◌};
 ghost use Rattle.g1_c.specs.{ClearsAt, Redirects, Wipes, Forgets, RefersOut};
 ghost use Rattle.g1_c.specs.{IsRefusal, IsHeapRefused, IsSameHeap, OfPaused, LacksRegion};
-ghost use Rattle.g1_c.specs.{TellsRefusal};
+ghost use Rattle.g1_c.specs.{SaysNoMove, TellsRefusal};
 
 use crate::calling::on_heap;
+use crate::tell::{tell, word_of};
 use g1_core::ClearReply;
-use g1_handles::code::{DONE, Reason};
+use g1_handles::code::Reason;
 use g1_handles::heap::evacuation::{clear_at, forget_at, redirect_at, wipe_at};
 use g1_handles::heap::handle::HeapHandle;
 use std::alloc::Global;
@@ -55,19 +56,9 @@ pub extern "C" fn g1_heap_redirect(
     ensures redirected { result ≡ 0 → IsSameHeap heap.old.value heap.new.value (λ old new.
         Redirects old from to moved.new new) }
     ensures told { TellsRefusal 0 result heap.old.value heap.new.value (moved.new ≡ 0)
-        (IsHeapRefused heap.old.value (λ old r. LacksRegion old.layout from r
-        ⊎ LacksRegion old.layout to r ⊎ ((r ≡ Reason.SameRegion) × (from ≡ to)))) }
+        (IsHeapRefused heap.old.value (λ old. SaysNoMove old.layout from to)) }
 {
-    match on_heap!(alloc, heap, redirect_at(from, to)) {
-        Err(refusal) => {
-            *moved = 0;
-            refusal.word()
-        }
-        Ok(slots) => {
-            *moved = slots;
-            DONE
-        }
-    }
+    tell(on_heap!(alloc, heap, redirect_at(from, to)), 0, moved)
 }
 
 /// As in `g1.h`.
@@ -79,10 +70,7 @@ pub extern "C" fn g1_heap_wipe(alloc: Global, heap: &mut HeapHandle, region: u32
     ensures told { TellsRefusal 0 result heap.old.value heap.new.value (Unit {0})
         (IsHeapRefused heap.old.value (λ old. LacksRegion old.layout region)) }
 {
-    match on_heap!(alloc, heap, wipe_at(region)) {
-        Err(refusal) => refusal.word(),
-        Ok(()) => DONE,
-    }
+    word_of(on_heap!(alloc, heap, wipe_at(region)))
 }
 
 /// As in `g1.h`.
@@ -94,8 +82,5 @@ pub extern "C" fn g1_heap_forget(alloc: Global, heap: &mut HeapHandle, region: u
         (IsHeapRefused heap.old.value (λ old r. LacksRegion old.layout region r ⊎
         ((r ≡ Reason.StillReferenced) × RefersOut old region))) }
 {
-    match on_heap!(alloc, heap, forget_at(region)) {
-        Err(refusal) => refusal.word(),
-        Ok(()) => DONE,
-    }
+    word_of(on_heap!(alloc, heap, forget_at(region)))
 }

@@ -2,8 +2,8 @@
 //! pause.
 ghost use Rattle.std.specs.Prelude.{◌≡◌, ◌<◌};
 ghost use Rattle.g1_c.specs.{None, length, layout_of, IsRefusal, OfPaused, IsFor};
-ghost use Rattle.g1_c.specs.{IsNewHeap, IsOpeningRefused, IsGoingRefused, IsPauseRefused};
-ghost use Rattle.g1_c.specs.{IsEndRefused, AreLikeOf, AreOfHeap, HasCountedNothing, ComesToPause};
+ghost use Rattle.g1_c.specs.{IsNewHeap, IsHeapOpenRefused, IsResumeRefused, IsPauseRefused};
+ghost use Rattle.g1_c.specs.{IsCloseRefused, AreLikeOf, AreOfHeap, HasCountedNothing, ComesToPause};
 ghost use Rattle.g1_c.specs.{Resumes, held_racers, held_sweepers, TellsRefusal};
 
 use crate::tell::word_of;
@@ -30,7 +30,7 @@ pub extern "C" fn g1_heap_open(
     ensures counts { result ≡ 0 → HasCountedNothing heap.new.value }
     ensures closed { result ≡ 0 → heap.old.value ≡ None }
     ensures told { TellsRefusal 0 result heap.old.value heap.new.value (Unit {0})
-        (IsOpeningRefused heap.old.value (layout_of counts.now) racers sweepers) }
+        (IsHeapOpenRefused heap.old.value (layout_of counts.now) racers sweepers) }
 {
     word_of(open_heap(alloc, heap, counts, racers, sweepers))
 }
@@ -47,7 +47,7 @@ pub extern "C" fn g1_heap_resume(
         heap.old.value heap.new.value (held_racers racers.old) (held_racers racers.new)
         (held_sweepers sweepers.old) (held_sweepers sweepers.new) }
     ensures why { 0 < result →
-        IsRefusal result (IsGoingRefused heap.old.value (held_racers racers.old)
+        IsRefusal result (IsResumeRefused heap.old.value (held_racers racers.old)
         (held_sweepers sweepers.old)) }
     ensures refused { 0 < result → (heap.new.value ≡ heap.old.value)
         × (held_racers racers.new ≡ held_racers racers.old)
@@ -89,7 +89,7 @@ pub extern "C" fn g1_heap_pause(
 pub extern "C" fn g1_heap_close(alloc: Global, heap: &mut HeapHandle) -> u32
     ensures closed { result ≡ 0 → heap.new.value ≡ None }
     ensures paused { result ≡ 0 → OfPaused heap.old.value (λ p. Unit {0}) }
-    ensures why { 0 < result → IsRefusal result (IsEndRefused heap.old.value) }
+    ensures why { 0 < result → IsRefusal result (IsCloseRefused heap.old.value) }
     ensures refused { 0 < result → heap.new.value ≡ heap.old.value }
 {
     word_of(close_heap(alloc, heap))

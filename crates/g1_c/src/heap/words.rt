@@ -1,15 +1,15 @@
 //! The words of a heap: where they lie, and, at a pause, what a slot's is and a store of data.
-ghost use Rattle.std.specs.Prelude.{◌≡◌, ◌⊎◌, ◌<◌, ◌^◌};
+ghost use Rattle.std.specs.Prelude.{◌≡◌};
 ghost use Rattle.g1_c.specs.{race_words, HasWord, StoresDataAt, IsHeapRefused};
-ghost use Rattle.g1_c.specs.{IsSameHeap, OfHeap, SaysNoHeap, LacksSlot, TellsRefusal, IsTold};
+ghost use Rattle.g1_c.specs.{IsSameHeap, OfHeap, SaysNoHeap, LacksSlot, SaysNoData, TellsRefusal};
+ghost use Rattle.g1_c.specs.{IsTold};
 ghost use denote.RawPtr.{null_ptr};
 
 use crate::calling::on_heap;
-use crate::tell::tell;
+use crate::tell::{tell, word_of};
 use core::mem::replace_with;
-use g1_handles::code::{DONE, Reason};
 use g1_handles::heap::handle::HeapHandle;
-use g1_handles::heap::words::{store_data_at, word_at, words_in};
+use g1_handles::heap::words::{store_data_at, word_at, words_of_heap};
 use std::alloc::Global;
 use std::ptr::null;
 
@@ -21,7 +21,7 @@ pub extern "C" fn g1_heap_words(alloc: Global, heap: &mut HeapHandle, words: &mu
         (SaysNoHeap heap.old.value) }
     ensures same { heap.new.value ≡ heap.old.value }
 {
-    tell(replace_with(heap, alloc, words_in), null(), words)
+    tell(replace_with(heap, alloc, words_of_heap), null(), words)
 }
 
 /// As in `g1.h`.
@@ -51,11 +51,7 @@ pub extern "C" fn g1_heap_store_data(
     ensures stored { result ≡ 0 → IsSameHeap heap.old.value heap.new.value (λ old new.
         StoresDataAt old slot word new) }
     ensures told { TellsRefusal 0 result heap.old.value heap.new.value (Unit {0})
-        (IsHeapRefused heap.old.value (λ old r. LacksSlot old.layout slot r ⊎ ((r ≡ Reason.BadWord)
-        × (word < 2 ^ 32)))) }
+        (IsHeapRefused heap.old.value (λ old. SaysNoData old.layout slot word)) }
 {
-    match on_heap!(alloc, heap, store_data_at(slot, word)) {
-        Err(refusal) => refusal.word(),
-        Ok(()) => DONE,
-    }
+    word_of(on_heap!(alloc, heap, store_data_at(slot, word)))
 }

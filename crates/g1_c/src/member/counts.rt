@@ -4,7 +4,7 @@ ghost use Rattle.g1_c.specs.{OfRacer, OfSweeper, SaysNoMember, stored_as, TellsR
 
 use crate::calling::{on_racer, on_sweeper};
 use g1_handles::code::DONE;
-use g1_handles::member::counts::{store_counts_of, sweep_counts_of};
+use g1_handles::member::counts::{store_counts_by, sweep_counts_by};
 use g1_handles::member::racer_handle::RacerHandle;
 use g1_handles::member::sweeper_handle::SweeperHandle;
 use g1_layout::Kind;
@@ -30,7 +30,7 @@ pub extern "C" fn g1_racer_counts(
         (SaysNoMember racer.old.value) }
     ensures same { racer.new.value ≡ racer.old.value }
 {
-    match on_racer!(alloc, racer, store_counts_of()) {
+    match on_racer!(alloc, racer, store_counts_by()) {
         Err(refusal) => {
             *null = 0;
             *same_region = 0;
@@ -62,7 +62,7 @@ pub extern "C" fn g1_sweeper_counts(
         (SaysNoMember sweeper.old.value) }
     ensures same { sweeper.new.value ≡ sweeper.old.value }
 {
-    match on_sweeper!(alloc, sweeper, sweep_counts_of()) {
+    match on_sweeper!(alloc, sweeper, sweep_counts_by()) {
         Err(refusal) => {
             *refined = 0;
             *cleaned = 0;

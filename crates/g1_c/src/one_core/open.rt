@@ -6,7 +6,7 @@ ghost use Rattle.g1_c.specs.{settings_of, IsRefusal, IsOpenRefused, SaysNotOpen,
 use crate::tell::word_of;
 use core::mem::replace_with;
 use g1_handles::one_core::handle::Handle;
-use g1_handles::one_core::open::{Counts, close_in, open_core};
+use g1_handles::one_core::open::{Counts, close_core, open_core};
 use std::alloc::Global;
 
 /// As in `g1.h`.
@@ -35,5 +35,5 @@ pub extern "C" fn g1_close(alloc: Global, handle: &mut Handle) -> u32
     ensures refused { (0 < result) ↔ (handle.old.value ≡ None) }
     ensures why { 0 < result → IsRefusal result (SaysNotOpen handle.old.value) }
 {
-    replace_with(handle, alloc, close_in)
+    replace_with(handle, alloc, close_core)
 }

@@ -4,6 +4,7 @@ ghost use Rattle.std.specs.Prelude.{◌≡◌, ◌≢◌, ◌<◌, ◌⊎◌};
 ghost use Rattle.g1_handles.specs.{true, ℕ, false, IfOk, OnOk, IfErr, OnErr};
 ghost use Rattle.g1_handles.specs.{region_of, Crosses, table_at, IsRaceWith, ClearsAt, Redirects};
 ghost use Rattle.g1_handles.specs.{Wipes, Forgets, RefersOut, cleared_of, IsClearWord, LacksRegion};
+ghost use Rattle.g1_handles.specs.{SaysNoMove};
 
 use crate::code::Reason;
 use crate::heap::at_pause::PausedHeap;
@@ -33,8 +34,7 @@ pub fn clear_at(heap: &mut PausedHeap, region: u32) -> Result<(u32, u32), Reason
 /// `NoRegion`, for either region, or `SameRegion` if the call was refused: nothing has changed.
 pub fn redirect_at(heap: &mut PausedHeap, from: u32, to: u32) -> Result<u32, Reason>
     ensures redirected { IfOk result (λ slots. Redirects heap.old from to slots heap.new) }
-    ensures why { IfErr result (λ refusal. LacksRegion heap.old.layout from refusal
-        ⊎ LacksRegion heap.old.layout to refusal ⊎ ((refusal ≡ Reason.SameRegion) × (from ≡ to))) }
+    ensures why { IfErr result (SaysNoMove heap.old.layout from to) }
     ensures refused { OnErr result (heap.new ≡ heap.old) }
     ensures kept { IsRaceWith heap.new.logs heap.old heap.new }
 {

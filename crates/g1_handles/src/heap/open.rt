@@ -2,7 +2,7 @@
 ghost use Rattle.std.specs.Prelude.{◌≡◌, ◌<◌};
 ghost use Rattle.g1_handles.specs.{IsTrue, Some, None, All, IfOk, IfErr, OnOk, OnErr, ℕ};
 ghost use Rattle.g1_handles.specs.{slice_index_or, vec_len, arc_value, layout_of, IsNewHeap};
-ghost use Rattle.g1_handles.specs.{IsOpeningRefused, AreHeapCounts, OfPaused, IsEndRefused};
+ghost use Rattle.g1_handles.specs.{IsHeapOpenRefused, AreHeapCounts, OfPaused, IsCloseRefused};
 ghost use Rattle.g1_handles.specs.{HasCountedNothing, no_counts};
 
 use crate::any_handle::{closed, into_box, is_closed, opened};
@@ -35,7 +35,7 @@ pub fn open_heap(
     ensures counts { OnOk result (HasCountedNothing handle.new.value) }
     ensures closed { OnOk result (handle.old.value ≡ None) }
     ensures why { IfErr result (λ refusal.
-        IsOpeningRefused handle.old.value (layout_of counts.now) racers sweepers refusal) }
+        IsHeapOpenRefused handle.old.value (layout_of counts.now) racers sweepers refusal) }
     ensures refused { OnErr result (handle.new.value ≡ handle.old.value) }
 {
     if !is_closed(alloc, handle) {
@@ -137,7 +137,7 @@ fn waiting<P: Role>(
 pub fn close_heap(alloc: Global, handle: &mut HeapHandle) -> Result<(), Reason>
     ensures closed { OnOk result (handle.new.value ≡ None) }
     ensures paused { OnOk result (OfPaused handle.old.value (λ p. Unit {0})) }
-    ensures why { IfErr result (λ refusal. IsEndRefused handle.old.value refusal) }
+    ensures why { IfErr result (λ refusal. IsCloseRefused handle.old.value refusal) }
     ensures refused { OnErr result (handle.new.value ≡ handle.old.value) }
 {
     let heap = into_box(replace(handle, closed(alloc))).ok_or(Reason::NotOpen)?;

@@ -10,8 +10,7 @@ ghost use Rattle.g1_handles.specs.{held_sweepers, role_in, AreClosed, IsOf, coun
 use crate::any_handle::{AnyHandle, closed, into_box, opened};
 use crate::code::Reason;
 use crate::heap::handle::HeapHandle;
-use crate::heap::look::look_at;
-use crate::heap::one_race::share_of_race;
+use crate::heap::one_race::check_members;
 use crate::heap::racing_heap::{AtPause, RacingHeap, UnderWay};
 use crate::member::racer_handle::RacerHandle;
 use crate::member::sweeper_handle::SweeperHandle;
@@ -78,11 +77,9 @@ fn pause_of(
     if racers.len() != under_way.racers.count || sweepers.len() != under_way.sweepers.count {
         return Err(Reason::BadMembers);
     }
-    let members = under_way.race.member_count();
-    look_at(alloc, racers, members)?;
-    look_at(alloc, sweepers, members)?;
-    let share = share_of_race(alloc, &under_way.race, racers, sweepers);
-    let share = share.ok_or(Reason::OtherRace)?;
+    check_members(alloc, &under_way.race, racers)?;
+    check_members(alloc, &under_way.race, sweepers)?;
+    let share = Arc::try_clone(&under_way.race).or(Err(Reason::OtherRace))?;
     let RacingHeap::Racing(under_way) = heap else {
         unreachable!()
     };
@@ -90,12 +87,12 @@ fn pause_of(
     gather(alloc, racers, &mut racing.roles, &mut racing.boxes);
     let sweeping = &mut under_way.sweepers;
     gather(alloc, sweepers, &mut sweeping.roles, &mut sweeping.boxes);
-    replace_with(heap, share, come_in);
+    replace_with(heap, share, enter_pause);
     Ok(())
 }
 
 /// The heap is at a pause once its members are in.
-fn come_in(heap: RacingHeap, share: Arc<Race, Global>) -> (RacingHeap, ())
+fn enter_pause(heap: RacingHeap, share: Arc<Race, Global>) -> (RacingHeap, ())
     requires { OfRacing (Some heap) (λ b. (arc_value share ≡ arc_value b.race)
         × AreFor (arc_value b.race) b.racers.count b.racers.boxes b.racers.roles
         × AreFor (arc_value b.race) b.sweepers.count b.sweepers.boxes b.sweepers.roles) }

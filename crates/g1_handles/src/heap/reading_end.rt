@@ -7,8 +7,7 @@ ghost use Rattle.g1_handles.specs.{IsReadBy, IsReadEndRefused, AreOut};
 use crate::any_handle::{closed, into_box, opened};
 use crate::code::Reason;
 use crate::heap::handle::HeapHandle;
-use crate::heap::look::look_at;
-use crate::heap::one_race::are_of;
+use crate::heap::one_race::check_members;
 use crate::heap::pause::gather;
 use crate::heap::racing_heap::{AtPause, BeingRead, RacingHeap, Readers, Room};
 use crate::heap::reading::move_boxes;
@@ -65,10 +64,7 @@ fn end_read_of(
     if readers.len() != being_read.readers.out.count {
         return Err(Reason::BadMembers);
     }
-    look_at(alloc, readers, being_read.race.member_count())?;
-    if !are_of(alloc, &being_read.race, readers) {
-        return Err(Reason::OtherRace);
-    }
+    check_members(alloc, &being_read.race, readers)?;
     let RacingHeap::Read(being_read) = heap else {
         unreachable!()
     };

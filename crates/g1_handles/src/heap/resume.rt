@@ -1,8 +1,8 @@
 //! How a heap whose stores race goes on after a pause.
 ghost use Rattle.std.specs.Prelude.{◌≡◌};
 ghost use Rattle.g1_handles.specs.{Some, All, IfErr, OnOk, OnErr, length, map, vec_capacity};
-ghost use Rattle.g1_handles.specs.{arc_value, Race, OfPaused, LetsGo, OfAtPause, OfRacing};
-ghost use Rattle.g1_handles.specs.{IsGoingRefused, AreFor, boxed_counts, Resumes, held_racers};
+ghost use Rattle.g1_handles.specs.{arc_value, Race, OfPaused, LeavesPause, OfAtPause, OfRacing};
+ghost use Rattle.g1_handles.specs.{IsResumeRefused, AreFor, boxed_counts, Resumes, held_racers};
 ghost use Rattle.g1_handles.specs.{held_sweepers, role_in, IsOf, counts_of};
 
 use crate::any_handle::{AnyHandle, are_closed, closed, into_box, opened};
@@ -32,7 +32,7 @@ pub fn resume_heap(
         handle.old.value handle.new.value (held_racers racers.old) (held_racers racers.new)
         (held_sweepers sweepers.old) (held_sweepers sweepers.new)) }
     ensures why { IfErr result (λ refusal.
-        IsGoingRefused handle.old.value (held_racers racers.old)
+        IsResumeRefused handle.old.value (held_racers racers.old)
         (held_sweepers sweepers.old) refusal) }
     ensures refused { OnErr result ((handle.new.value ≡ handle.old.value)
         × (held_racers racers.new ≡ held_racers racers.old)
@@ -54,7 +54,7 @@ fn resume_of(
         (Some heap.old) (Some heap.new) (held_racers racers.old) (held_racers racers.new)
         (held_sweepers sweepers.old) (held_sweepers sweepers.new)) }
     ensures why { IfErr result (λ refusal.
-        IsGoingRefused (Some heap.old) (held_racers racers.old)
+        IsResumeRefused (Some heap.old) (held_racers racers.old)
         (held_sweepers sweepers.old) refusal) }
     ensures refused { OnErr result ((heap.new ≡ heap.old)
         × (held_racers racers.new ≡ held_racers racers.old)
@@ -69,7 +69,7 @@ fn resume_of(
     if !are_closed(alloc, racers) || !are_closed(alloc, sweepers) {
         return Err(Reason::AlreadyOpen);
     }
-    replace_with(heap, (), let_go);
+    replace_with(heap, (), leave_pause);
     let RacingHeap::Racing(under_way) = heap else {
         unreachable!()
     };
@@ -81,9 +81,9 @@ fn resume_of(
 }
 
 /// Ends the pause. The members are not handed out yet.
-fn let_go(heap: RacingHeap, _nothing: ()) -> (RacingHeap, ())
+fn leave_pause(heap: RacingHeap, _nothing: ()) -> (RacingHeap, ())
     requires { OfPaused (Some heap) (λ p. Unit {0}) }
-    ensures { OfAtPause (Some heap) (λ a. OfRacing (Some result.0) (LetsGo a)) }
+    ensures { OfAtPause (Some heap) (λ a. OfRacing (Some result.0) (LeavesPause a)) }
 {
     let RacingHeap::Paused(at) = heap else {
         unreachable!()

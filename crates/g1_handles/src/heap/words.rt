@@ -1,9 +1,9 @@
 //! The words of a heap: where they lie, and, at a pause, what a slot's is and a store of data,
 //! which refers to nothing.
-ghost use Rattle.std.specs.Prelude.{◌≡◌, ◌⊎◌, ◌<◌, ◌^◌};
+ghost use Rattle.std.specs.Prelude.{◌≡◌};
 ghost use Rattle.g1_handles.specs.{Some, IfOk, OnOk, IfErr, OnErr, race_words};
 ghost use Rattle.g1_handles.specs.{IsRaceWith, HasWord, StoresDataAt, OfHeap, SaysNoHeap};
-ghost use Rattle.g1_handles.specs.{LacksSlot};
+ghost use Rattle.g1_handles.specs.{LacksSlot, SaysNoData};
 
 use crate::any_handle::{closed, into_box, opened};
 use crate::code::Reason;
@@ -16,7 +16,7 @@ use std::alloc::Global;
 /// Returns the address of the words of the heap of a handle, at a pause or not: the word of each
 /// slot, in order. It stays the same for as long as the heap lasts. Returns `NotOpen` if the handle
 /// is closed.
-pub fn words_in(handle: HeapHandle, alloc: Global) -> (HeapHandle, Result<*const u64, Reason>)
+pub fn words_of_heap(handle: HeapHandle, alloc: Global) -> (HeapHandle, Result<*const u64, Reason>)
     ensures words { IfOk result.1 (λ words.
         OfHeap handle.value (λ race. words ≡ race_words race)) }
     ensures why { IfErr result.1 (SaysNoHeap handle.value) }
@@ -49,8 +49,7 @@ pub fn word_at(heap: &mut PausedHeap, slot: u32) -> Result<u64, Reason>
 /// `BadWord` for a lower word, if the call was refused: nothing has changed.
 pub fn store_data_at(heap: &mut PausedHeap, slot: u32, word: u64) -> Result<(), Reason>
     ensures stored { OnOk result (StoresDataAt heap.old slot word heap.new) }
-    ensures why { IfErr result (λ refusal. LacksSlot heap.old.layout slot refusal
-        ⊎ ((refusal ≡ Reason.BadWord) × (word < 2 ^ 32))) }
+    ensures why { IfErr result (SaysNoData heap.old.layout slot word) }
     ensures refused { OnErr result (heap.new ≡ heap.old) }
     ensures kept { IsRaceWith heap.new.logs heap.old heap.new }
 {

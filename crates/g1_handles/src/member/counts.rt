@@ -84,7 +84,7 @@ impl MemberCounts {
 }
 
 /// Returns what a racer has stored, or `NotOpen`. Nothing changes.
-pub fn store_counts_of(member: &Member<Racer>) -> Result<StoreCounts, Reason>
+pub fn store_counts_by(member: &Member<Racer>) -> Result<StoreCounts, Reason>
     ensures counts { IfOk result (λ counts.
         OfRacer (Some member.now) (λ a. counts ≡ a.counts)) }
     ensures why { IfErr result (SaysNoMember (Some member.now)) }
@@ -96,7 +96,7 @@ pub fn store_counts_of(member: &Member<Racer>) -> Result<StoreCounts, Reason>
 }
 
 /// Returns what a sweeper has refined, or `NotOpen`. Nothing changes.
-pub fn sweep_counts_of(member: &Member<Sweeper>) -> Result<SweepCounts, Reason>
+pub fn sweep_counts_by(member: &Member<Sweeper>) -> Result<SweepCounts, Reason>
     ensures counts { IfOk result (λ counts.
         OfSweeper (Some member.now) (λ a. counts ≡ a.counts)) }
     ensures why { IfErr result (SaysNoMember (Some member.now)) }

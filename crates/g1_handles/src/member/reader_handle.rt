@@ -13,8 +13,7 @@ use std::marker::Model;
 /// A reader behind a pointer that C can hold, or nothing if the pointer is null.
 ///
 /// Contracts see what the handle holds: the member, or `None` if the handle is closed. Dropping a
-/// handle frees nothing: `g1_heap_close` does, once
-/// `g1_heap_read_end` has taken the reader in.
+/// handle frees nothing: `g1_heap_close` does, once `g1_heap_read_end` has taken the reader in.
 #[repr(C)]
 #[derive(Drop)]
 pub struct ReaderHandle {

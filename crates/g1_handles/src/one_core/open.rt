@@ -66,7 +66,7 @@ pub fn open_core(
 
 /// Closes a handle, and drops its core. Returns 0, or the word of `NotOpen` if the handle was
 /// closed.
-pub fn close_in(handle: Handle, alloc: Global) -> (Handle, u32)
+pub fn close_core(handle: Handle, alloc: Global) -> (Handle, u32)
     ensures closed { result.0.value ≡ None }
     ensures done { IsSome handle.value → result.1 ≡ 0 }
     ensures refused { (0 < result.1) ↔ (handle.value ≡ None) }

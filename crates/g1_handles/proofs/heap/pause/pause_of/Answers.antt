@@ -1,4 +1,4 @@
--- A look at the members finds a handle with none, or a member of another race.
+-- A check of the members finds a handle with none, or a member of another race.
 use Rattle.std.specs.Prelude.{◌≡◌, ◌⊎◌}
 use Rattle.g1_handles.specs.{◌∙◌, ℕ, List, arith, rules, All, length, map, refl, ap, subst, arc_value, View, racer_view, sweeper_view, racer_log, log_of, role_in, role_view, counts_of, IsOf, AreFor, OfPaused, IsPauseOf, inl, inr, Some, Any, SaysNoMember, IsPauseRefused, held_racers, held_sweepers}
 use Rattle.g1_handles.specs.declared.code.Reason.TheVariants as refusal
@@ -6,28 +6,28 @@ use Rattle.std.proofs.lemmas.Grind.{common_steps}
 use Rattle.g1_handles.proofs.{passed, seen_alike}
 use Rattle.g1_handles.proofs.heap.pause.pause_of.Goals as goal
 
-pub returns-in_err-look_at-clause-why : goal.returns-in_err-look_at-clause-why
-returns-in_err-look_at-clause-why c =
+pub returns-in_err-check_members-clause-why : goal.returns-in_err-check_members-clause-why
+returns-in_err-check_members-clause-why c =
     let h = Some c.args.heap.now in
     let rs = held_racers c.args.racers.now in
     let ss = held_sweepers c.args.sweepers.now in
-    passed (λ r. (r ≡ refusal.OtherRace) ⊎ Any (λ m. SaysNoMember m r) rs) (IsPauseRefused h rs ss) c.look_at.result _ _ c.in_err-look_at.was c.look_at.ensures.why c.from_residual.ensures.1
+    passed (λ r. (r ≡ refusal.OtherRace) ⊎ Any (λ m. SaysNoMember m r) rs) (IsPauseRefused h rs ss) c.check_members.result _ _ c.in_err-check_members.was c.check_members.ensures.why c.from_residual.ensures.1
     (λ w. elim w [ inl other ↦ inr (inr (inr (inr (inr other)))) | inr none ↦ inr (inr (inr (inl none))) ])
 
-pub returns-in_err-look_at-2-clause-why : goal.returns-in_err-look_at-2-clause-why
-returns-in_err-look_at-2-clause-why c =
+pub returns-in_err-check_members-2-clause-why : goal.returns-in_err-check_members-2-clause-why
+returns-in_err-check_members-2-clause-why c =
     let h = Some c.args.heap.now in
     let rs = held_racers c.args.racers.now in
     let ss = held_sweepers c.args.sweepers.now in
-    passed (λ r. (r ≡ refusal.OtherRace) ⊎ Any (λ m. SaysNoMember m r) ss) (IsPauseRefused h rs ss) c.look_at-2.result _ _ c.in_err-look_at-2.was c.look_at-2.ensures.why c.from_residual-in_err-look_at-2.ensures.1
+    passed (λ r. (r ≡ refusal.OtherRace) ⊎ Any (λ m. SaysNoMember m r) ss) (IsPauseRefused h rs ss) c.check_members-2.result _ _ c.in_err-check_members-2.was c.check_members-2.ensures.why c.from_residual-in_err-check_members-2.ensures.1
     (λ w. elim w [ inl other ↦ inr (inr (inr (inr (inr other)))) | inr none ↦ inr (inr (inr (inr (inl none)))) ])
 
 pub replace_with-requires : goal.replace_with-requires
 replace_with-requires c =
     let b = c.in-Racing-heap.under_way in
     let race = arc_value b.race in
-    let rs = c.share_of_race-share.new.racers in
-    let ss = c.share_of_race-share.new.sweepers in
+    let rs = c.check_members.new.handles in
+    let ss = c.check_members-2.new.handles in
     let of : All (IsOf race) (held_racers rs) = first_of (search rules, grind (arith, common_steps)) in
     let too : All (IsOf race) (held_sweepers ss) = first_of (search rules, grind (arith, common_steps)) in
     let racers : length rs ≡ b.racers.count = first_of (search rules, grind (arith, common_steps)) in
@@ -44,8 +44,8 @@ returns-clause-paused c =
     let ss = held_sweepers c.args.sweepers.now in
     let came = c.gather.ensures in
     let too = c.gather-2.ensures in
-    let racers : held_racers c.share_of_race-share.new.racers ≡ rs = c.share_of_race-share.ensures.same.0 ∙ c.look_at.ensures.same in
-    let sweepers : held_sweepers c.share_of_race-share.new.sweepers ≡ ss = c.share_of_race-share.ensures.same.1 ∙ c.look_at-2.ensures.same in
+    let racers = c.check_members.ensures.same in
+    let sweepers = c.check_members-2.ensures.same in
     let given = came.roles ∙ ap (map role_in) racers in
     let lent = too.roles ∙ ap (map role_in) sweepers in
     let paused = subst (λ (x : List View × List View × List (List ℕ)). OfPaused (Some c.replace_with.new.dest) (IsPauseOf race x.0 x.1 x.2)) (λ i. (

@@ -2,7 +2,6 @@
 use Rattle.std.specs.Prelude.{◌≡◌}
 use Rattle.g1_handles.specs.{arith, rules, ℕ, List, Some, All, length, map, ap, subst, Option, arc_value, TableId, Race, Pause, start_at, known, BeingRead, ReaderMember, held_readers, role_in, IsOf, AreOut, AreReadersAt, IsLentPause}
 use Rattle.g1_handles.specs.declared.heap.racing_heap.AtPause.{AtPause}
-use Rattle.g1_handles.specs.declared.heap.racing_heap.RacingHeap.TheVariants as heap
 use Rattle.std.proofs.lemmas.Grind.{common_steps}
 use Rattle.g1_handles.proofs.ReaderLemmas.{KnowsPause, handed_out}
 use Rattle.g1_handles.proofs.heap.reading.read_of.Goals as goal

@@ -1,4 +1,4 @@
--- A look at the readers finds a handle with none, or a reader of another race.
+-- A check of the readers finds a handle with none, or a reader of another race.
 use Rattle.std.specs.Prelude.{◌≡◌, ◌⊎◌}
 use Rattle.g1_handles.specs.{ℕ, arith, rules, All, length, refl, sym, subst, arc_value, TableId, start_at, known, AreFor, AreReadersAt, inl, inr, List, Option, Some, Any, Reason, RacingHeap, ReaderMember, SaysNoMember, held_readers, IsReadEndRefused}
 use Rattle.g1_handles.specs.declared.code.Reason.TheVariants as refusal
@@ -12,11 +12,11 @@ of_readers : (h : Option RacingHeap) (rs : List (Option ReaderMember)) (r : Reas
 of_readers h rs r (inl other) = inr (inr (inr (inr other)))
 of_readers h rs r (inr none) = inr (inr (inr (inl none)))
 
-pub returns-in_err-look_at-clause-why : goal.returns-in_err-look_at-clause-why
-returns-in_err-look_at-clause-why c =
+pub returns-in_err-check_members-clause-why : goal.returns-in_err-check_members-clause-why
+returns-in_err-check_members-clause-why c =
     let h = Some c.args.heap.now in
     let rs = held_readers c.args.readers.now in
-    passed (λ r. (r ≡ refusal.OtherRace) ⊎ Any (λ m. SaysNoMember m r) rs) (IsReadEndRefused h rs) c.look_at.result _ _ c.in_err-look_at.was c.look_at.ensures.why c.from_residual.ensures.1
+    passed (λ r. (r ≡ refusal.OtherRace) ⊎ Any (λ m. SaysNoMember m r) rs) (IsReadEndRefused h rs) c.check_members.result _ _ c.in_err-check_members.was c.check_members.ensures.why c.from_residual.ensures.1
     (of_readers h rs _)
 
 pub replace_with-requires : goal.replace_with-requires
@@ -24,9 +24,9 @@ replace_with-requires c =
     let b = c.in-Read-heap.being_read in
     let race = arc_value b.race in
     let p = b.reading.pause in
-    let ms = held_readers c.are_of.new.handles in
+    let ms = held_readers c.check_members.new.handles in
     let there : AreReadersAt race p ms = first_of (search rules, grind (arith, common_steps)) in
-    let count : length c.are_of.new.handles ≡ b.readers.out.count = first_of (search rules, grind (arith, common_steps)) in
+    let count : length c.check_members.new.handles ≡ b.readers.out.count = first_of (search rules, grind (arith, common_steps)) in
     let came = c.gather.ensures in
     record {
       counted = refl;

@@ -1,12 +1,12 @@
 -- The race goes on as the pause left it, with the members that are handed out.
 use Rattle.std.specs.Prelude.{◌≡◌}
-use Rattle.g1_handles.specs.{arith, rules, List, Some, All, map, sym, ap, ◌∙◌, refl, Option, arc_value, racer_log, IsNewRacer, IsNewSweeper, start_at, UnderWay, RacingHeap, RacerMember, SweeperMember, GoesOn, LetsGo, boxed_counts, heap_counts, log_of, held_racers, held_sweepers, role_in, IsOf}
+use Rattle.g1_handles.specs.{arith, rules, List, Some, All, map, sym, ap, ◌∙◌, refl, Option, arc_value, racer_log, IsNewRacer, IsNewSweeper, start_at, UnderWay, RacingHeap, RacerMember, SweeperMember, GoesOn, LeavesPause, boxed_counts, heap_counts, log_of, held_racers, held_sweepers, role_in, IsOf}
 use Rattle.g1_handles.specs.declared.heap.racing_heap.AtPause.{AtPause}
 use Rattle.std.proofs.lemmas.Grind.{common_steps}
 use Rattle.g1_handles.proofs.{found, seen_alike}
 use Rattle.g1_handles.proofs.heap.resume.resume_of.Goals as goal
 
-goes_on : (a : AtPause) (b : UnderWay) (rs : List (Option RacerMember)) (ss : List (Option SweeperMember)) → LetsGo a b
+goes_on : (a : AtPause) (b : UnderWay) (rs : List (Option RacerMember)) (ss : List (Option SweeperMember)) → LeavesPause a b
     → map role_in rs ≡ map (λ r. Some r) b.racers.roles.items → map role_in ss ≡ map (λ w. Some w) b.sweepers.roles.items
     → All (IsOf (arc_value b.race)) rs → All (IsOf (arc_value b.race)) ss → GoesOn a.pause (arc_value b.race) rs ss
 goes_on a b rs ss go racers sweepers of too =

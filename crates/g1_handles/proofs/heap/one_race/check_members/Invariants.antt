@@ -1,11 +1,11 @@
 -- The handles hold what they held, and the first i are as they are to be.
 use Rattle.std.specs.Prelude.{◌≡◌}
-use Rattle.g1_handles.specs.{length, map, AllWithin, IsAmong}
-use Rattle.g1_handles.proofs.heap.look.look_at.Given as goal
+use Rattle.g1_handles.specs.{length, map, AllWithin, arc_value, race_shape, IsAmong}
+use Rattle.g1_handles.proofs.heap.one_race.check_members.Given as goal
 
 abbrev pub invariant-loop-i : goal.invariant-loop-i
 invariant-loop-i g l = record {
   sized : length l.handles ≡ length l.initial.handles;
   same : map g.H.AnyHandle.value l.handles ≡ map g.H.AnyHandle.value l.fn.handles;
-  among : AllWithin (λ h. IsAmong l.members (g.H.AnyHandle.value h)) l.handles 0 l.i;
+  among : AllWithin (λ h. IsAmong (race_shape (arc_value l.race)).members (g.H.AnyHandle.value h)) l.handles 0 l.i;
 }

@@ -1,6 +1,6 @@
 -- The pause holds the race by a share of it.
 use Rattle.g1_handles.specs.{map, subst, Race, racer_view, sweeper_view, racer_log, IsPauseOf}
-use Rattle.g1_handles.proofs.heap.pause.come_in.Goals as goal
+use Rattle.g1_handles.proofs.heap.pause.enter_pause.Goals as goal
 
 pub returns-clause-paused : goal.returns-clause-paused
 returns-clause-paused c =
