@@ -86,3 +86,7 @@ stores did layout line old new counts now m n taker slot target card (Ok reply) 
       helped = h.helped;
       made = store_at layout (record { counts = counts; mutator = Some m; taker = taker }) (record { counts = now; mutator = Some n; taker = taker }) card slot target first reply h.stored.help h.stored.answer made h.stored.plain h.stored.own h.put h.empty;
     }
+
+-- a caller whose mutator was lent is that caller
+pub lent_caller : (counts : CallerCounts) (taker : Taker) (m : Mutator) (mutator : Option Mutator) (c : CallerState) → Some m ≡ mutator → record { counts = counts; mutator = mutator; taker = taker } ≡ c → (P : CallerState → Type 0) → P (record { counts = counts; mutator = Some m; taker = taker }) → P c
+lent_caller counts taker m mutator c is was P p = subst P ((λ i. record { counts = counts; mutator = is i; taker = taker }) ∙ was) p

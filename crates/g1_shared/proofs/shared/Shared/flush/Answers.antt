@@ -2,18 +2,14 @@
 use Rattle.std.specs.Prelude.{◌≡◌}
 use Rattle.g1_shared.specs.{Some, ap, sym, subst, ◌∙◌, Line, CallerState, FlushesBy}
 use Rattle.std.specs.Option.{option_copied_mut}
-use Rattle.g1_shared.proofs.HelpLemmas.{flushes}
+use Rattle.g1_shared.proofs.HelpLemmas.{flushes, lent_caller}
 use Rattle.g1_shared.proofs.shared.Shared.flush.Goals as goal
 
 pub returns-clause-flushed : goal.returns-clause-flushed
 returns-clause-flushed g c =
     let layout = g.M.Terms.terms.layout in
     let caller = c.caller.inside in
-    let m = c.unwrap-mutator.result.now in
-    let n = c.flush.new.self in
     let now = c.flush.new.calls.counts.now in
-    let is : Some m ≡ caller.mutator = sym (ap option_copied_mut c.unwrap-mutator.ensures) ∙ c.as_mut.ensures.value in
-    let was : record { counts = caller.counts; mutator = Some m; taker = caller.taker } ≡ c.args.caller.now = (λ i. record { counts = caller.counts; mutator = is i; taker = caller.taker }) ∙ c.caller.view_is in
-    let P : Line → CallerState → Type 0 = λ l s. FlushesBy layout l s c.flush.result (record { counts = now; mutator = Some n; taker = caller.taker }) in
-    subst (λ l. P l c.args.caller.now) c.self.view_is (subst (λ s. P c.self.inside.line s) was
-    (flushes _ layout c.self.inside.line _ _ caller.counts now m n caller.taker c.flush.result (λ ms h. (h.1, h.2)) (λ e i. (e i).counts.now) c.flush.ensures))
+    let P : Line → CallerState → Type 0 = λ l s. FlushesBy layout l s c.flush.result (record { counts = now; mutator = Some c.flush.new.self; taker = caller.taker }) in
+    subst (λ l. P l c.args.caller.now) c.self.view_is (lent_caller caller.counts caller.taker c.unwrap-mutator.result.now caller.mutator c.args.caller.now (sym (ap option_copied_mut c.unwrap-mutator.ensures) ∙ c.as_mut.ensures.value) c.caller.view_is (P c.self.inside.line)
+    (flushes _ layout c.self.inside.line _ _ caller.counts now c.unwrap-mutator.result.now c.flush.new.self caller.taker c.flush.result (λ ms h. (h.1, h.2)) (λ e i. (e i).counts.now) c.flush.ensures))

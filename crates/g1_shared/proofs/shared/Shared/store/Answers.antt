@@ -2,7 +2,7 @@
 use Rattle.std.specs.Prelude.{◌≡◌}
 use Rattle.g1_shared.specs.{Some, ap, sym, subst, ◌∙◌, card_of, IfOk, Line, CallerState, StoresBy}
 use Rattle.std.specs.Option.{option_copied_mut}
-use Rattle.g1_shared.proofs.HelpLemmas.{stores}
+use Rattle.g1_shared.proofs.HelpLemmas.{lent_caller, stores}
 use Rattle.g1_shared.proofs.KindLemmas.{store_kind}
 use Rattle.g1_shared.proofs.shared.Shared.store.Goals as goal
 
@@ -13,11 +13,7 @@ pub returns-clause-stored : goal.returns-clause-stored
 returns-clause-stored g c =
     let layout = g.M.Terms.terms.layout in
     let caller = c.caller.inside in
-    let m = c.unwrap-mutator.result.now in
-    let n = c.store.new.self in
     let now = c.store.new.calls.counts.now in
-    let is : Some m ≡ caller.mutator = sym (ap option_copied_mut c.unwrap-mutator.ensures) ∙ c.as_mut.ensures.value in
-    let was : record { counts = caller.counts; mutator = Some m; taker = caller.taker } ≡ c.args.caller.now = (λ i. record { counts = caller.counts; mutator = is i; taker = caller.taker }) ∙ c.caller.view_is in
-    let P : Line → CallerState → Type 0 = λ l s. IfOk c.store.result (λ reply. StoresBy layout l s (card_of layout c.args.slot) reply (record { counts = now; mutator = Some n; taker = caller.taker })) in
-    subst (λ l. P l c.args.caller.now) c.self.view_is (subst (λ s. P c.self.inside.line s) was
-    (stores _ layout c.self.inside.line _ _ caller.counts now m n caller.taker c.args.slot c.args.target _ c.store.result (λ ms h. (h.1, h.2)) c.store.ensures))
+    let P : Line → CallerState → Type 0 = λ l s. IfOk c.store.result (λ reply. StoresBy layout l s (card_of layout c.args.slot) reply (record { counts = now; mutator = Some c.store.new.self; taker = caller.taker })) in
+    subst (λ l. P l c.args.caller.now) c.self.view_is (lent_caller caller.counts caller.taker c.unwrap-mutator.result.now caller.mutator c.args.caller.now (sym (ap option_copied_mut c.unwrap-mutator.ensures) ∙ c.as_mut.ensures.value) c.caller.view_is (P c.self.inside.line)
+    (stores _ layout c.self.inside.line _ _ caller.counts now c.unwrap-mutator.result.now c.store.new.self caller.taker c.args.slot c.args.target _ c.store.result (λ ms h. (h.1, h.2)) c.store.ensures))
