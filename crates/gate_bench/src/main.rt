@@ -1,6 +1,7 @@
 //! Makes calls a number of times, and prints a checksum of what they answered.
 //!
-//! With six words it makes one call of the core, on a heap of a given layout. What a call costs in
+//! With six words it makes one call of the core, or at the pause of a race, on a heap of a given
+//! layout. What a call costs in
 //! instructions is the difference of two runs under callgrind, by the difference of their numbers
 //! of calls: making the heap and recording its references is the same in both. `measure` in this
 //! folder prints the table.
@@ -14,6 +15,7 @@
 //!
 //! - [`plan`]: the six words.
 //! - [`workload`]: the heap whose calls are measured.
+//! - [`at_pause`]: the same heap at the pause of a race.
 //! - [`timed`]: the five words.
 //! - [`list`]: the stores of a round.
 //! - [`rounds`]: the rounds of a thread.
@@ -23,6 +25,7 @@
 #![tactic(auto)]
 
 mod alone;
+mod at_pause;
 mod list;
 mod locked;
 mod meter;
@@ -105,6 +108,9 @@ fn measured(rt: &HostRuntime, plan: &Plan) -> Result<u64, NoMemory> {
         Call::Redirect => workload.redirect(times)?,
         Call::PlacesApart => workload.walk_places_apart(times),
         Call::RefineApart => workload.refine_apart(times)?,
+        Call::PausedLogged => workload.pause_race(rt.alloc(), times, 0)?,
+        Call::PausedDrain => workload.pause_race(rt.alloc(), times, 1)?,
+        Call::PausedIdle => workload.pause_race(rt.alloc(), 0, times)?,
     }
     Ok(workload.checksum())
 }

@@ -3,6 +3,7 @@ ghost use Rattle.std.specs.Prelude.{◌≡◌, ◌+◌, All, vec_len};
 ghost use Rattle.g1_race.specs.Members.{race_id, race_shape, racer_race, sweeper_race};
 
 use crate::meter::now;
+use crate::raced::Member;
 use g1_core::Drained;
 use g1_layout::{Layout, NoMemory};
 use g1_race::{Paused, Race, Racer, Sweeper};
@@ -162,13 +163,13 @@ fn race_on<R: Threads + Sync + Clock>(
     requires sweepers { All (λ s. sweeper_race s ≡ race_id race) sweepers.items }
 {
     let began = now(rt);
-    let racers = store_all(rt, &race, racers, dirty);
+    let racers = touch_all(rt, &race, racers, dirty);
     let stores = since(rt, began);
     let began = now(rt);
-    let sweepers = refine_all(rt, &race, sweepers, dirty);
+    let sweepers = touch_all(rt, &race, sweepers, dirty);
     let refinements = since(rt, began);
     let began = now(rt);
-    let racers = store_all(rt, &race, racers, dirty);
+    let racers = touch_all(rt, &race, racers, dirty);
     let again = since(rt, began);
     let began = now(rt);
     let paused = race.pause(racers, sweepers);
@@ -212,48 +213,28 @@ fn since(clock: &impl Clock, began: Option<Instant>) -> u64 {
     u64::try_from(ended.duration_since(began).as_nanos()).unwrap_or(u64::MAX)
 }
 
-// The racer stores in a thread of its own.
-fn store_all<R: Threads + Sync>(
+// The members go over the dirty cards, one after the other.
+fn touch_all<R: Threads + Sync, M: Member + Send>(
     rt: &R,
     race: &Race,
-    mut racers: Vec<Racer>,
+    mut members: Vec<M>,
     dirty: Dirty,
-) -> Vec<Racer>
-    requires racers { All (λ r. racer_race r ≡ race_id race.now) racers.items }
-    ensures all { All (λ r. racer_race r ≡ race_id race.now) result.items }
-    ensures len { vec_len result ≡ vec_len racers }
+) -> Vec<M>
+    requires members { All (λ m. M.race_of m ≡ race_id race.now) members.items }
+    ensures all { All (λ m. M.race_of m ≡ race_id race.now) result.items }
+    ensures len { vec_len result ≡ vec_len members }
 {
     thread::for_each_mut(
         rt,
-        racers.as_mut_slice(),
+        members.as_mut_slice(),
         1,
-        &|_, racer| store_each(race, racer, dirty),
+        &|_, member: &mut M| member.touch(race, dirty),
     );
-    racers
+    members
 }
 
-// The sweeper refines in a thread of its own.
-fn refine_all<R: Threads + Sync>(
-    rt: &R,
-    race: &Race,
-    mut sweepers: Vec<Sweeper>,
-    dirty: Dirty,
-) -> Vec<Sweeper>
-    requires sweepers { All (λ s. sweeper_race s ≡ race_id race.now) sweepers.items }
-    ensures all { All (λ s. sweeper_race s ≡ race_id race.now) result.items }
-    ensures len { vec_len result ≡ vec_len sweepers }
-{
-    thread::for_each_mut(
-        rt,
-        sweepers.as_mut_slice(),
-        1,
-        &|_, sweeper| refine_each(race, sweeper, dirty),
-    );
-    sweepers
-}
-
-// Stores a reference to the first place of the next region into the first slot of each card.
-fn store_each(race: &Race, racer: &mut Racer, dirty: Dirty)
+/// Stores a reference to the first place of the next region into the first slot of each card.
+pub fn store_each(race: &Race, racer: &mut Racer, dirty: Dirty)
     requires { racer_race racer.old ≡ race_id race.now }
     ensures { racer_race racer.new ≡ racer_race racer.old }
 {
@@ -273,8 +254,8 @@ fn store_each(race: &Race, racer: &mut Racer, dirty: Dirty)
     }
 }
 
-// Refines each of these cards.
-fn refine_each(race: &Race, sweeper: &mut Sweeper, dirty: Dirty)
+/// Refines each of these cards.
+pub fn refine_each(race: &Race, sweeper: &mut Sweeper, dirty: Dirty)
     requires { sweeper_race sweeper.old ≡ race_id race.now }
     ensures { sweeper_race sweeper.new ≡ sweeper_race sweeper.old }
 {
