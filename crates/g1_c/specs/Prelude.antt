@@ -5,13 +5,14 @@ pub use Rattle.std.specs.Prelude.{Err, IfSome, IsSome, IsSomeAnd, length, None, 
 pub use Rattle.std.specs.Prelude.{Some, take, ℕ}
 pub use Rattle.arrayvec.specs.ArrayVec.{array_vec_len}
 pub use Rattle.g1_core.specs.Barrier.{stored_machine}
+pub use Rattle.g1_core.specs.Calls.{DoesCopy}
 pub use Rattle.g1_core.specs.Machine.{IsOnlyRead, new_machine}
+pub use Rattle.g1_core.specs.Queries.{TellsMembers, TellsPending, TellsStatus, TellsTarget}
 pub use Rattle.g1_core.specs.Run.{kind_of}
 pub use Rattle.g1_handles.proofs.CalledLemmas.{called_ok, called_same, called_why}
 pub use Rattle.g1_handles.proofs.VisitLemmas.{role_if, role_of, role_ok, role_why, visit_same}
 pub use Rattle.g1_handles.proofs.VisitLemmas.{visit_so}
-pub use Rattle.g1_handles.specs.AtPause.{DrainsAtPause, HasWord, RefersOut, SlotRefers}
-pub use Rattle.g1_handles.specs.AtPause.{StoresAllAt}
+pub use Rattle.g1_handles.specs.AtPause.{DrainsAtPause, HasWord, RefersOut, StoresAllAt}
 pub use Rattle.g1_handles.specs.Batch.{IsFaultAt, made_all}
 pub use Rattle.g1_handles.specs.Codes.{Between, IsRefusal, IsStoreOf, IsVisit, kind_word, layout_of}
 pub use Rattle.g1_handles.specs.Codes.{OfKind, OfOpen, reference_of, refusal_word, settings_of}
@@ -24,8 +25,7 @@ pub use Rattle.g1_handles.specs.Life.{IsFor, IsHeapOpenRefused, IsNewHeap, IsPau
 pub use Rattle.g1_handles.specs.Life.{IsResumeRefused, IsSameHeap, OfHeap, OfPaused, SaysNoHeap}
 pub use Rattle.g1_handles.specs.Life.{SaysNotPaused}
 pub use Rattle.g1_handles.specs.Phases.{BeginsReading, ComesToPause, EndsReading, Resumes}
-pub use Rattle.g1_handles.specs.Queries.{Finds, Overflows, RefersTo, TellsMembers, TellsPending}
-pub use Rattle.g1_handles.specs.Queries.{TellsStatus}
+pub use Rattle.g1_handles.specs.Queries.{Finds, Overflows}
 pub use Rattle.g1_handles.specs.RaceStores.{CanStoreAll, Exchanges, FindsOther, StoresAll, Swaps}
 pub use Rattle.g1_handles.specs.RaceWords.{CanStoreWord, FindsOtherWord, IsExchangeWordRefused}
 pub use Rattle.g1_handles.specs.RaceWords.{IsSwapWordRefused, MayHave, SwapsWord}
@@ -34,15 +34,14 @@ pub use Rattle.g1_handles.specs.Racing.{IfSweeper, OfRacer, OfRole, OfSweeper, r
 pub use Rattle.g1_handles.specs.Racing.{StoresData, sweeping_in, Sweeps, TakesLog}
 pub use Rattle.g1_handles.specs.Readers.{AreReadersLike, AreReadersOf, IsReadBy, IsReadEndRefused}
 pub use Rattle.g1_handles.specs.Readers.{IsReaderRefused, IsReadRefused, OfReader, reader_layout}
-pub use Rattle.g1_handles.specs.Readers.{reading_in, ReadsNext, ReadsPair, ReadsPending}
-pub use Rattle.g1_handles.specs.Readers.{ReadsTarget, ReadsWord}
+pub use Rattle.g1_handles.specs.Readers.{reading_in, ReadsPair, ReadsWord, table_of_reader}
 pub use Rattle.g1_handles.specs.Refusals.{AreMembersRefused, AreStoresRefused, IsCallRefused}
 pub use Rattle.g1_handles.specs.Refusals.{IsDrainRefused, IsOpenRefused, IsRaceDataRefused}
 pub use Rattle.g1_handles.specs.Refusals.{IsRaceExchangeRefused, IsRaceStoreRefused}
 pub use Rattle.g1_handles.specs.Refusals.{IsRedirectRefused, IsRefinementRefused, IsRoleRefused}
 pub use Rattle.g1_handles.specs.Refusals.{IsSweepRefused, SaysNoMember, SaysNotOpen}
-pub use Rattle.g1_handles.specs.Replies.{AreOnlyRead, ClearsTo, CopiesSlots, DrainsTo, FitIn}
-pub use Rattle.g1_handles.specs.Replies.{IsWritten, RedirectsTo, RefinesTo, reply_of}
+pub use Rattle.g1_handles.specs.Replies.{AreOnlyRead, ClearsTo, DrainsTo, FitIn, IsWritten}
+pub use Rattle.g1_handles.specs.Replies.{RedirectsTo, RefersTo, RefinesTo, reply_of, StoresTo}
 pub use Rattle.g1_handles.specs.Sets.{HasFirst}
 pub use Rattle.g1_handles.specs.declared.code.Reason.{Reason}
 pub use Rattle.g1_handles.specs.declared.heap.racing_heap.RacingHeap.{RacingHeap}

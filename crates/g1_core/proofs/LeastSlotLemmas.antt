@@ -134,12 +134,6 @@ read_next heap now new index before here =
     let slots : now.layout.slots ≡ heap.layout.slots = ap (λ (h : Cells). h.layout.slots) before.cells in
     read_more heap now new (index * heap.layout.slots) now.layout.slots ((index + 1) * heap.layout.slots) before here (omega arith)
 
--- what was read for some of the cards and for one of them more is at most what all of them have
-pub read_one_more : (heap now new : Cells) (index many : ℕ) → AreRead heap now (index * heap.layout.slots) → AreRead now new now.layout.slots → index < many → AreRead heap new (many * heap.layout.slots)
-read_one_more heap now new index many before here fits =
-    let all : index + 1 ≤ many = omega arith in
-    read_at_most heap new ((index + 1) * heap.layout.slots) (many * heap.layout.slots) (read_next heap now new index before here) (mul-le-mul_right heap.layout.slots all)
-
 -- what is read for the cards up to an index but one of them
 abbrev pub before_but : ℕ → ℕ → ℕ
 before_but index at = index - min 1 (index - at)

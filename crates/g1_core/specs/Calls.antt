@@ -1,9 +1,9 @@
 -- What each call of a core enters in a history, from what it returns, and what it does, from one
 -- machine to the next.
-use Rattle.std.specs.Prelude.{◌≡◌, ◌≢◌, ◌≤◌, ◌<◌, ◌+◌, ◌-◌, ◌*◌, ◌^◌}
+use Rattle.std.specs.Prelude.{◌≡◌, ◌≢◌, ◌≤◌, ◌<◌, ◌+◌, ◌*◌}
 use Rattle.g1_core.specs.Prelude.{ℕ, Bool, List, [], Option}
-use Rattle.g1_core.specs.Prelude.{false, length, All, IfSome, IsNone, min, Shape, slot_count}
-use Rattle.g1_core.specs.Prelude.{card_count, Cards}
+use Rattle.g1_core.specs.Prelude.{false, length, All, IfSome, IsNone, Shape, slot_count}
+use Rattle.g1_core.specs.Prelude.{card_count, Cards, reads_after}
 use Rattle.std.specs.FinSet as set
 use Rattle.g1_core.specs.declared.reply.StoreReply.{StoreReply}
 use Rattle.g1_core.specs.declared.reply.RefineReply.{RefineReply}
@@ -23,7 +23,8 @@ use Rattle.g1_core.specs.Barrier.{logged, buffer_of, fill_of, stored_machine}
 use Rattle.g1_core.specs.Clearing.{member_count}
 use Rattle.g1_core.specs.Machine.{Machine, IsOnlyRead}
 use Rattle.g1_core.specs.Pause.{IsDrainOf}
-use Rattle.g1_core.specs.Redirect.{IsRedirectOf}
+use Rattle.g1_core.specs.Copying.{copied}
+use Rattle.g1_core.specs.Redirect.{DoesRedirect}
 use Rattle.g1_core.specs.Refinement.{IsRefined, AreCardsRead}
 use Rattle.g1_core.specs.Run.{kind_of}
 use Rattle.g1_core.specs.Table.{target_of, AreMembers}
@@ -138,7 +139,7 @@ pub record DoesTarget (slot : ℕ) (target : Option ℕ) (old new : Machine) : T
   pub machine : new ≡ record {
     state = old.state;
     settings = old.settings;
-    reads = min (old.reads + 1) (2 ^ 64 - 1);
+    reads = reads_after old.reads 1;
   }
 
 pub record DoesPending (card : ℕ) (answer : Bool) (old new : Machine) : Type 0 where
@@ -165,8 +166,13 @@ pub record DoesClear (region : ℕ) (answer : ClearReply) (old new : Machine) : 
   pub unread : 1 ≤ set.len old.state.table.pending → new.reads ≡ old.reads
   pub reads : new.reads ≤ old.reads + member_count old.state.table region * (layout_at old).slots
 
-abbrev pub DoesRedirect : ℕ → ℕ → Redirected → Machine → Machine → Type 0
-DoesRedirect from to answer old new = IsRedirectOf old from to answer new
+-- What a copy of so many slots does: no log gets a card.
+abbrev pub DoesCopy : ℕ → ℕ → ℕ → Machine → Machine → Type 0
+DoesCopy from to count old new = new ≡ record {
+  state = record { table = copied from to count old.state.table; ring = old.state.ring };
+  settings = old.settings;
+  reads = reads_after old.reads count;
+}
 
 -- What a call does that lends nothing, by its values, its reply and the cards that it refined.
 abbrev pub DoesAsked : Call → Reply → List ℕ → Machine → Machine → Type 0

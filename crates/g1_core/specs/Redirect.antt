@@ -82,6 +82,6 @@ pub record IsShortRedirect (old : Machine) (from : ℕ) (cards : List ℕ)
       + (length cards + member_count (refined cards old.state.table) from + 1)
       * old.state.table.layout.slots
 
-abbrev pub IsRedirectOf : Machine → ℕ → ℕ → Redirected → Machine → Type 0
-IsRedirectOf old from to (Moved slots cards) new = IsWholeRedirect old from to cards new
-IsRedirectOf old from to (Short cards) new = IsShortRedirect old from cards new
+abbrev pub DoesRedirect : ℕ → ℕ → Redirected → Machine → Machine → Type 0
+DoesRedirect from to (Moved slots cards) old new = IsWholeRedirect old from to cards new
+DoesRedirect from to (Short cards) old new = IsShortRedirect old from cards new

@@ -1,10 +1,10 @@
 -- The step of the plain table that each entry of a history is, and permitted runs.
 use Rattle.std.specs.Prelude.{◌≡◌, ◌≢◌, ◌∷◌, if◌then◌else◌, ◌==◌, ◌<◌, ◌≤◌}
 use Rattle.g1_core.specs.Prelude.{ℕ, List, [], Option}
-use Rattle.g1_core.specs.Prelude.{Some, None, length, take, drop, All, Contains, fold, not}
+use Rattle.g1_core.specs.Prelude.{Some, None, length, take, drop, All, Contains, fold}
 use Rattle.g1_core.specs.Prelude.{slice_set, IfSome, IsStrictlyIncreasing, Kind, SameRegion, Null}
 use Rattle.g1_core.specs.Prelude.{AlreadyDirty, Logged, Shape, slot_count, card_count, card_of}
-use Rattle.g1_core.specs.Prelude.{region_of, region_of_card, CardSet}
+use Rattle.g1_core.specs.Prelude.{region_of, region_of_card, CardSet, without}
 use Rattle.std.specs.FinSet as set
 use Rattle.g1_core.specs.declared.entry.Call.{Call}
 use Rattle.g1_core.specs.declared.entry.Call.TheVariants.{Store, Refine, Target, Pending, Members}
@@ -57,7 +57,7 @@ settled (Clear region) (reply.Clear clear_reply.Cleared) t =
       layout = t.layout;
       refs = t.refs;
       pending = t.pending;
-      recorded = set.retain t.recorded (λ pair. not (pair.1 == region));
+      recorded = without t.recorded region;
     }
 settled (Redirect from to) (reply.Moved _) t = moved from to t
 settled _ _ t = t

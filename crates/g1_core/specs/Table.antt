@@ -6,7 +6,7 @@ use Rattle.g1_core.specs.Prelude.{Option, Some, None, IsTrue, replicate, slice_i
 use Rattle.g1_core.specs.Prelude.{All, map, count_by, not, false, IsDistinct, filter_map}
 use Rattle.g1_core.specs.Prelude.{enumerate_from, Shape, slot_count, card_count, card_of, region_of}
 use Rattle.g1_core.specs.Prelude.{region_of_card, same_offset, HoldsIn, AreCardsOf, CardSet}
-use Rattle.g1_core.specs.Prelude.{PairSet, set_of}
+use Rattle.g1_core.specs.Prelude.{PairSet, set_of, without}
 use Rattle.std.specs.FinSet as set
 
 pub record Table : Type 0 where
@@ -119,9 +119,8 @@ moved from to t =
       layout = t.layout;
       refs = map (moved_target t.layout from to) slots;
       pending = t.pending;
-      recorded = set.retain (set.union t.recorded
-          (set.from_list (filter_map (moved_pair t.layout from to) slots))) (λ pair.
-          not (pair.1 == from));
+      recorded = without (set.union t.recorded
+          (set.from_list (filter_map (moved_pair t.layout from to) slots))) from;
     }
 
 -- how many slots that changes

@@ -1,5 +1,5 @@
 //! Adoption: makes a core of a table that exists already, and lists the pairs of a core's table.
-ghost use Rattle.std.specs.Prelude.{◌≡◌, ◌<◌, ◌^◌, ◌++◌};
+ghost use Rattle.std.specs.Prelude.{◌≡◌, ◌<◌, ◌++◌};
 ghost use Rattle.g1_core.specs.{All, IfSome, IfOk, OnOk, length, map};
 ghost use Rattle.g1_core.specs.{replicate, slot_count, card_count, list_at, AreTied, Clean};
 ghost use Rattle.g1_core.specs.{IsCovered, pending_of, IsPairOf, marks_for, table_with};

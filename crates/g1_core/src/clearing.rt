@@ -1,5 +1,5 @@
 //! The clear: a region's remembered set is emptied once no reference enters the region.
-ghost use Rattle.std.specs.Prelude.{◌≡◌, ◌≢◌, ◌≤◌, ◌<◌, ◌+◌, ◌-◌, ◌*◌, ◌∷◌};
+ghost use Rattle.std.specs.Prelude.{◌≡◌, ◌≤◌, ◌<◌, ◌-◌, ◌*◌, ◌∷◌};
 ghost use Rattle.g1_core.specs.{ℕ, [], None, IfSome};
 ghost use Rattle.g1_core.specs.{IfNone, All, Contains, length, card_count, card_of, PairSet};
 ghost use Rattle.g1_core.specs.{list_at, AreTied, table_from, IsLeastOn, AreRead};

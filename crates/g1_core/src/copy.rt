@@ -1,5 +1,5 @@
 //! A range of slots is copied to another one.
-ghost use Rattle.std.specs.Prelude.{◌≡◌, ◌+◌, ◌≤◌, ◌<◌, ◌^◌};
+ghost use Rattle.std.specs.Prelude.{◌≡◌, ◌+◌, ◌≤◌, ◌<◌};
 ghost use Rattle.g1_core.specs.{slot_count};
 
 use crate::machinery::Core;
@@ -7,7 +7,7 @@ use crate::verify::slot_behind;
 use g1_layout::Slot;
 
 impl Core {
-    ghost use Rattle.g1_core.specs.{reads_after, IsCovered, target_of, IsLater, stored, copied};
+    ghost use Rattle.g1_core.specs.{reads_after, target_of, IsLater, stored, DoesCopy};
 
     /// Copies what `count` slots refer to, from `from` on, into as many slots from `to` on. The two
     /// ranges may overlap: each slot gets what its source had before the call.
@@ -18,10 +18,7 @@ impl Core {
     pub fn copy_slots(&mut self, from: Slot, to: Slot, count: u32)
         requires from { from + count ≤ slot_count self.old.state.table.layout }
         requires to { to + count ≤ slot_count self.old.state.table.layout }
-        ensures table { self.new.state.table ≡ copied from to count self.old.state.table }
-        ensures ring { self.new.state.ring ≡ self.old.state.ring }
-        ensures reads { self.new.reads ≡ reads_after self.old.reads count }
-        ensures cover { IsCovered self.new.state.table }
+        ensures did { DoesCopy from to count self.old self.new }
         ensures later { IsLater self.old self.new }
     {
         let layout = self.layout();

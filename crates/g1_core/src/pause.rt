@@ -1,8 +1,8 @@
 //! The pause: what is still pending is refined, and then a remembered set is relied on.
-ghost use Rattle.std.specs.Prelude.{◌≡◌, ◌<◌, ◌≤◌, ◌+◌, ◌*◌, ◌++◌, ◌∷◌};
+ghost use Rattle.std.specs.Prelude.{◌≡◌, ◌<◌, ◌≤◌, ◌+◌};
 ghost use Rattle.g1_core.specs.{[], ℕ, true, false, length};
-ghost use Rattle.g1_core.specs.{slice_index, slice_get, IfOk, OnOk, OnErr, IfSome, IfNone, Some};
-ghost use Rattle.g1_core.specs.{nat_lt, vec_len, vec_capacity, All, card_count};
+ghost use Rattle.g1_core.specs.{slice_get, IfOk, OnOk, OnErr, IfSome, IfNone, Some};
+ghost use Rattle.g1_core.specs.{nat_lt, vec_len, vec_capacity, card_count};
 ghost use Rattle.std.specs.FinSet as set;
 
 use crate::list::CardList;
@@ -11,8 +11,8 @@ use crate::reply::Drained;
 use g1_layout::{Card, NoMemory, Region};
 
 impl Core {
-    ghost use Rattle.g1_core.specs.{reads_after, popped, IsLater, IsStep, is_dirty, drain_entry};
-    ghost use Rattle.g1_core.specs.{DoesDrain, Drains, IsShortDrain, IsDrainOrder, IsRingDrained};
+    ghost use Rattle.g1_core.specs.{popped, IsLater, IsStep, is_dirty, drain_entry};
+    ghost use Rattle.g1_core.specs.{DoesDrain, IsShortDrain, IsRingDrained};
     ghost use Rattle.g1_core.specs.{IsCardDrained, IsCardRead, IsDirtyDrained, IsDirtyStopped};
     ghost use Rattle.g1_core.specs.{IsAllDrained, reset_machine};
 

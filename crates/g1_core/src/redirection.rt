@@ -1,8 +1,8 @@
 //! The redirect: the references into a region are moved to another one, and its remembered set is
 //! emptied.
-ghost use Rattle.std.specs.Prelude.{◌≡◌, ◌≢◌, ◌≤◌, ◌<◌, ◌+◌, ◌*◌, ◌++◌};
+ghost use Rattle.std.specs.Prelude.{◌≡◌, ◌≢◌, ◌<◌, ◌+◌, ◌*◌, ◌++◌};
 ghost use Rattle.g1_core.specs.Prelude.{ℕ, All, IfOk, OnOk};
-ghost use Rattle.g1_core.specs.Prelude.{OnErr, length, slot_count, card_count, Cells, list_at};
+ghost use Rattle.g1_core.specs.Prelude.{OnErr, length, slot_count, card_count, list_at};
 ghost use Rattle.g1_core.specs.Prelude.{AreTied};
 ghost use Rattle.std.specs.FinSet as set;
 ghost use Rattle.g1_core.specs.Clearing.{AreRead};

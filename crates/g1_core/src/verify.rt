@@ -1,7 +1,7 @@
 //! Checks for a debug build: of the table against what a runtime's memory has, and of the cards.
 ghost use Rattle.std.specs.Prelude.{◌≡◌, ◌+◌, ◌<◌, ◌≤◌, ◌↔◌};
 ghost use Rattle.g1_core.specs.Prelude.{IsTrue, IfSome, length, map};
-ghost use Rattle.g1_core.specs.Prelude.{slot_count, card_count};
+ghost use Rattle.g1_core.specs.Prelude.{slot_count};
 ghost use Rattle.std.specs.FinSet as set;
 
 use crate::machinery::Core;
@@ -72,10 +72,10 @@ impl Core {
     /// card is neither pending nor recorded for that region, so that no drain would return the
     /// card. Returns `None` if there is none.
     ///
-    /// The clause `cover` of each call says that there is none. So it is for a debug build that
-    /// looks whether something else wrote to the core's memory (HotSpot's `VerifyRememberedSets`
-    /// looks for the same). Takes time in proportion to the slots, each of which is read, and no
-    /// memory.
+    /// The clause `later` of each call says that there is none (`cover`, of a sound core). So it is
+    /// for a debug build that looks whether something else wrote to the core's memory (HotSpot's
+    /// `VerifyRememberedSets` looks for the same). Takes time in proportion to the slots, each of
+    /// which is read, and no memory.
     pub fn first_missing(&mut self, first: Slot, count: u32) -> Option<Slot>
         requires { first + count ≤ slot_count self.old.state.table.layout }
         ensures first { IsFirst (IsMissing self.old.state.table) first count result }

@@ -1,6 +1,6 @@
 -- How long the lists are that a core answers: no longer than the heap has cards.
 use Rattle.std.specs.Prelude.{◌<◌, ◌≤◌}
-use Rattle.g1_handles.specs.{ℕ, List, All, length, arith, eqb-true, All-contains, card_count, card_count_limit, IsPending, AreRefinable, AreMembers, Machine, State, IsSound, IsDrainOf, drain_cards, Drained}
+use Rattle.g1_handles.specs.{ℕ, List, All, length, arith, eqb-true, All-contains, card_count, card_count_limit, IsPending, AreRefinable, AreMembers, Machine, State, IsSound, DoesDrain, drain_cards, Drained}
 use Rattle.std.proofs.lemmas.Map.Steps.{length-le_from_distinct_below}
 use Rattle.std.proofs.lemmas.Map.Views.{length-le_from_below, Contains-from_any}
 use Rattle.std.proofs.lemmas.Map.Keys.{sorted_from_strictly_increasing}
@@ -17,9 +17,9 @@ few_members s region cards sound h =
     length-le_from_below (card_count s.table.layout) cards (sorted_from_strictly_increasing cards h.ascending) (All_by_member (λ card. card < card_count s.table.layout) cards (λ card c. (sound.recorded card region (h.recorded card c)).0))
 
 -- the cards of a drain's answer
-pub few_drained : (old new : Machine) (region : ℕ) (answer : Drained) (n : ℕ) → IsDrainOf old region answer new → All (λ card. card < n) (drain_cards answer) → length (drain_cards answer) ≤ n
-few_drained old new region (Cards cards refined) n h below = length-le_from_below n cards (sorted_from_strictly_increasing cards h.1.ascending) below
-few_drained old new region (Short refined) n h below = omega arith
+pub few_drained : (old new : Machine) (region : ℕ) (answer : Drained) → DoesDrain region answer old new → length (drain_cards answer) ≤ card_count old.state.table.layout
+few_drained old new region (Cards cards refined) did = length-le_from_below (card_count old.state.table.layout) cards (sorted_from_strictly_increasing cards did.drained.1.ascending) did.within
+few_drained old new region (Short refined) did = omega arith
 
 -- a heap has at most 2^24 cards
 pub fits_words : (s : State) (cards : List ℕ) → IsSound s → length cards ≤ card_count s.table.layout → length cards ≤ 16777216

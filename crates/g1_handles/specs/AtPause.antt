@@ -1,17 +1,12 @@
 -- What else the collector's calls on a heap at a pause do, and why they are refused.
 use Rattle.std.specs.Prelude.{◌≡◌}
-use Rattle.g1_handles.specs.Prelude.{ℕ, List, fold, Option, get_elem?, region_of, Table}
-use Rattle.g1_handles.specs.Prelude.{Crosses, target_of, IsStep, drained, stored, target_entry}
+use Rattle.g1_handles.specs.Prelude.{ℕ, List, fold, get_elem?, region_of, Table}
+use Rattle.g1_handles.specs.Prelude.{Crosses, IsStep, drained, stored}
 use Rattle.g1_handles.specs.Prelude.{IsWord, word_of, Pause, table_at, IsSameRace, IsRefinedRace}
 use Rattle.g1_handles.specs.Prelude.{SlotsBecome, same_word, one_word, IsExactAtPause}
 use mathlib.Core.Option.{some}
 use Rattle.g1_handles.specs.declared.one_core.batch.Store.{Store}
 use Rattle.g1_handles.specs.Codes.{reference_of}
-
--- the slot refers to the target
-pub record SlotRefers (heap : Pause) (slot : ℕ) (target : Option ℕ) : Type 0 where
-  pub refers : target ≡ target_of (table_at heap) slot
-  pub step : (caller : ℕ) → IsStep (table_at heap) (target_entry caller slot target) (table_at heap)
 
 -- all is refined, and these cards are every one that holds into the region, and only such or
 -- recorded ones

@@ -20,7 +20,7 @@ pub use Rattle.std.specs.List.{AllWithin}
 pub use Rattle.std.specs.Option.{ForSome}
 pub use Rattle.std.specs.Prelude.{All, Any, Bool, Contains, drop, Err, false, fold, IfErr, IfNone}
 pub use Rattle.std.specs.Prelude.{IfOk, IfSome, IsErrAnd, IsOk, IsOkAnd, IsSome, IsSomeAnd, IsTrue}
-pub use Rattle.std.specs.Prelude.{length, MatchOption, min, None, not, Ok, OnErr, OnOk, Option}
+pub use Rattle.std.specs.Prelude.{length, MatchOption, None, not, Ok, OnErr, OnOk, Option}
 pub use Rattle.std.specs.Prelude.{replicate, Result, slice_set, Some, SomeIff, Vec, vec_capacity}
 pub use Rattle.std.specs.Prelude.{vec_len, ⊤}
 pub use Rattle.std.specs.contracts.impls.GlobalAllocator.TheImpl.{ghosts}
@@ -39,14 +39,16 @@ pub use prog.Wp.{Calls, Loops, WpFn}
 pub use seplogic.Ra.Ura.{Ura}
 pub use Rattle.arrayvec.specs.ArrayVec.{array_vec_len}
 pub use Rattle.atomic_table.specs.Seated.{TableId}
-pub use Rattle.g1_core.specs.Barrier.{stored_machine}
-pub use Rattle.g1_core.specs.Calls.{clear_entry, drain_cards, drain_entry, drain_refined}
+pub use Rattle.g1_core.specs.Barrier.{stored_machine, unfilled}
+pub use Rattle.g1_core.specs.Calls.{clear_entry, DoesClear, DoesCopy, DoesDrain, DoesRefine}
+pub use Rattle.g1_core.specs.Calls.{DoesStore}
+pub use Rattle.g1_core.specs.Calls.{DoesTarget, drain_cards, drain_entry, drain_refined}
 pub use Rattle.g1_core.specs.Calls.{members_entry, pending_entry, redirect_entry, redirect_refined}
 pub use Rattle.g1_core.specs.Calls.{refine_entry, status_entry, store_entry, target_entry}
-pub use Rattle.g1_core.specs.Copying.{copied}
 pub use Rattle.g1_core.specs.Machine.{IsLater, IsOnlyRead, IsSound, Machine, machine_code}
 pub use Rattle.g1_core.specs.Machine.{new_machine, State}
-pub use Rattle.g1_core.specs.Pause.{IsDrainOf}
+pub use Rattle.g1_core.specs.Queries.{TellsMembers, TellsPending, TellsStatus, TellsTarget}
+pub use Rattle.g1_core.specs.Redirect.{DoesRedirect}
 pub use Rattle.g1_core.specs.Run.{drained, IsStep, kind_of, stored}
 pub use Rattle.g1_core.specs.Settings.{AreSettings}
 pub use Rattle.g1_core.specs.Table.{AreMembers, AreRefinable, Crosses, IsCovered, IsPending}

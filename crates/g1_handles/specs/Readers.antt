@@ -1,11 +1,9 @@
 -- Several threads that read one pause, each by a reader.
 use Rattle.std.specs.Prelude.{◌≡◌, ◌⊎◌, ◌<◌, ◌↔◌}
 use Rattle.g1_handles.specs.Prelude.{ℕ, Bool, List, length, All, Any, Option}
-use Rattle.g1_handles.specs.Prelude.{IsTrue, arc_value, get_elem?, Shape, Table, target_of}
+use Rattle.g1_handles.specs.Prelude.{IsTrue, arc_value, get_elem?, Shape, Table}
 use Rattle.g1_handles.specs.Prelude.{IsRecorded, IsWord, Race, race_layout, race_shape, Pause}
 use Rattle.g1_handles.specs.Prelude.{table_at, start_at, Known, known, table_read, IsReaderOf}
-use Rattle.g1_handles.specs.Prelude.{IsNextMember}
-use Rattle.std.specs.FinSet as set
 use mathlib.Core.Option.{some}
 use Rattle.g1_handles.specs.declared.code.Reason.{Reason}
 use Rattle.g1_handles.specs.declared.code.Reason.TheVariants as refusal
@@ -95,26 +93,14 @@ IsReadEndRefused h readers r =
     ⊎ Any (λ m. SaysNoMember m r) readers
     ⊎ (r ≡ refusal.OtherRace)
 
--- the slot refers to the target
-abbrev pub ReadsTarget : ReaderAt → ℕ → Option ℕ → Type 0
-ReadsTarget a slot target = target ≡ target_of (table_of_reader a) slot
-
 -- the slot has this word
 abbrev pub ReadsWord : ReaderAt → ℕ → ℕ → Type 0
 ReadsWord a slot word =
     (get_elem? a.reader.start.words slot ≡ some word) × IsWord a.reader.start.shape word
 
--- the answer is whether the card is pending
-abbrev pub ReadsPending : ReaderAt → ℕ → Bool → Type 0
-ReadsPending a card answer = answer ≡ set.contains (table_of_reader a).pending card
-
 -- the answer is whether the card is recorded for the region
 abbrev pub ReadsPair : ReaderAt → ℕ → ℕ → Bool → Type 0
 ReadsPair a card region answer = IsTrue answer ↔ IsRecorded (table_of_reader a) card region
-
--- this is the least card from the one on that is recorded for the region, if there is one
-abbrev pub ReadsNext : ReaderAt → ℕ → ℕ → Option ℕ → Type 0
-ReadsNext a region from next = IsNextMember (table_of_reader a) region from next
 
 -- a call by the reader of a handle, which is refused of the reader for this
 abbrev pub IsReaderRefused : Option ReaderMember → (ReaderAt → Reason → Type 0) → Reason → Type 0

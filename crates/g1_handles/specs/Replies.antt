@@ -1,23 +1,37 @@
 -- What the words that C gets stand for.
-use Rattle.std.specs.Prelude.{◌≡◌, ◌≤◌, ◌+◌, ◌-◌, ◌*◌, ◌^◌, ◌==◌, if◌then◌else◌}
+use Rattle.std.specs.Prelude.{◌≡◌, ◌≤◌, ◌==◌, if◌then◌else◌}
 use Rattle.g1_handles.specs.Prelude.{drop, ℕ}
 use Rattle.g1_handles.specs.Prelude.{Option, Some, None, List, length, not, ⊤, Machine, IsLater}
-use Rattle.g1_handles.specs.Prelude.{IsOnlyRead, IsStep, IsDrainOf, clear_entry, drain_entry}
-use Rattle.g1_handles.specs.Prelude.{redirect_entry, refine_entry, ClearReply, Drained, min, copied}
-use Rattle.std.specs.FinSet as set
-use Rattle.g1_core.specs.Refinement.{IsTurned, AreCardsRead}
-use Rattle.g1_core.specs.Clearing.{member_count}
-use Rattle.g1_core.specs.Redirect.{IsRedirectOf}
+use Rattle.g1_handles.specs.Prelude.{IsOnlyRead, IsStep, clear_entry, drain_entry, target_entry}
+use Rattle.g1_handles.specs.Prelude.{redirect_entry, refine_entry, store_entry, unfilled}
+use Rattle.g1_handles.specs.Prelude.{ClearReply, Drained, Kind, DoesClear, DoesDrain, DoesRedirect}
+use Rattle.g1_handles.specs.Prelude.{DoesRefine, DoesStore, DoesTarget}
+use Rattle.g1_core.specs.declared.entry.Entry.{Entry}
 use Rattle.g1_core.specs.declared.reply.RefineReply.{RefineReply}
 use Rattle.g1_core.specs.declared.reply.Redirected.{Redirected}
 
--- A refinement of these cards got the reply.
-pub record RefinesTo (old : Machine) (cards : List ℕ) (reply : RefineReply)
-    (new : Machine) : Type 0 where
-  pub turned : IsTurned old.state cards reply new.state
-  pub reads : AreCardsRead old reply new
-  pub step : (caller : ℕ) → IsStep old.state.table (refine_entry caller reply) new.state.table
+-- What a call of a core did, and that it is the step of its entry, whoever the caller is.
+pub record MakesStep (entry : ℕ → Entry) (does : Machine → Machine → Type 0)
+    (old new : Machine) : Type 0 where
+  pub did : does old new
+  pub step : (caller : ℕ) → IsStep old.state.table (entry caller) new.state.table
   pub later : IsLater old new
+
+-- A store of the target into the slot was of this kind.
+abbrev pub StoresTo : Machine → ℕ → Option ℕ → Kind → Machine → Type 0
+StoresTo old slot target kind new =
+    MakesStep (λ caller. store_entry caller slot target (unfilled kind))
+    (DoesStore slot target (unfilled kind)) old new
+
+-- The slot refers to the target.
+abbrev pub RefersTo : Machine → ℕ → Option ℕ → Machine → Type 0
+RefersTo old slot target new =
+    MakesStep (λ caller. target_entry caller slot target) (DoesTarget slot target) old new
+
+-- A refinement of these cards got the reply.
+abbrev pub RefinesTo : Machine → List ℕ → RefineReply → Machine → Type 0
+RefinesTo old cards reply new =
+    MakesStep (λ caller. refine_entry caller reply) (DoesRefine (Some cards) reply) old new
 
 -- the reply of a refinement that C is told by a word (0 where it is not short), the refined cards
 -- and two counts
@@ -33,11 +47,9 @@ reply_of word refined hot skipped =
     }
 
 -- A drain of the region answered this.
-pub record DrainsTo (old : Machine) (region : ℕ) (answer : Drained) (new : Machine) : Type 0 where
-  pub drained : IsDrainOf old region answer new
-  pub step : (caller : ℕ) → IsStep old.state.table (drain_entry caller region answer)
-      new.state.table
-  pub later : IsLater old new
+abbrev pub DrainsTo : Machine → ℕ → Drained → Machine → Type 0
+DrainsTo old region answer new =
+    MakesStep (λ caller. drain_entry caller region answer) (DoesDrain region answer) old new
 
 -- The cards fit into an array of this length, and C can be told how many they are.
 abbrev pub FitIn : ℕ → List ℕ → Type 0
@@ -48,29 +60,15 @@ abbrev pub IsWritten : List ℕ → ℕ → List ℕ → Type 0
 IsWritten old count new = (count ≤ length old) × (drop count new ≡ drop count old)
 
 -- A clear of the region got the reply.
-pub record ClearsTo (old : Machine) (region : ℕ) (reply : ClearReply) (new : Machine) : Type 0 where
-  pub step : (caller : ℕ) → IsStep old.state.table (clear_entry caller region reply) new.state.table
-  pub ring : new.state.ring ≡ old.state.ring
-  pub unread : 1 ≤ set.len old.state.table.pending → new.reads ≡ old.reads
-  pub reads : new.reads ≤ old.reads + member_count old.state.table region
-      * old.state.table.layout.slots
-  pub later : IsLater old new
+abbrev pub ClearsTo : Machine → ℕ → ClearReply → Machine → Type 0
+ClearsTo old region reply new =
+    MakesStep (λ caller. clear_entry caller region reply) (DoesClear region reply) old new
 
 -- A redirect from one region to another answered this.
-pub record RedirectsTo (old : Machine) (from to : ℕ) (answer : Redirected)
-    (new : Machine) : Type 0 where
-  pub redirected : IsRedirectOf old from to answer new
-  pub step : (caller : ℕ) → IsStep old.state.table (redirect_entry caller from to answer)
-      new.state.table
-  pub later : IsLater old new
-
--- as many slots from one on have what those from another on had; nothing else has changed but the
--- count of reads
-pub record CopiesSlots (old : Machine) (from to count : ℕ) (new : Machine) : Type 0 where
-  pub table : new.state.table ≡ copied from to count old.state.table
-  pub ring : new.state.ring ≡ old.state.ring
-  pub settings : new.settings ≡ old.settings
-  pub reads : new.reads ≡ min (old.reads + count) (2 ^ 64 - 1)
+abbrev pub RedirectsTo : Machine → ℕ → ℕ → Redirected → Machine → Type 0
+RedirectsTo old from to answer new =
+    MakesStep (λ caller. redirect_entry caller from to answer) (DoesRedirect from to answer)
+    old new
 
 -- Nothing but the count of reads has changed.
 abbrev pub AreOnlyRead : Option Machine → Option Machine → Type 0

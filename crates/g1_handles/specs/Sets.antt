@@ -1,10 +1,9 @@
 -- What C is told of a region's set at a pause.
 use Rattle.std.specs.Prelude.{◌≡◌, ◌<◌, ◌+◌, ◌++◌}
 use Rattle.g1_handles.specs.Prelude.{ℕ, List, Result, IfOk, IfErr, OnErr}
-use Rattle.g1_handles.specs.Prelude.{length, take, Pause, table_at}
+use Rattle.g1_handles.specs.Prelude.{length, take, Pause, table_at, TellsMembers}
 use Rattle.g1_handles.specs.Replies.{IsWritten}
 use Rattle.g1_handles.specs.AtPause.{DrainsAtPause}
-use Rattle.g1_handles.specs.Queries.{TellsMembers}
 use Rattle.g1_handles.specs.declared.code.Reason.{Reason}
 use Rattle.g1_handles.specs.declared.heap.sets.SetTold.{SetTold}
 use Rattle.g1_handles.specs.declared.heap.sets.SetTold.TheVariants.{All as All-of, First}

@@ -16,7 +16,7 @@ pub enum Mark {
     Clean,
     /// The card is pending: it waits for refinement.
     Dirty,
-    /// The card is pending: it is hot, and the hot card cache holds it back.
+    /// The card is pending: it is hot, and the hot ring holds it back.
     Held,
 }
 

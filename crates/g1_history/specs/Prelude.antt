@@ -9,12 +9,13 @@ pub use Rattle.g1_core.proofs.LengthLemmas.{refined_few, turned_few}
 pub use Rattle.g1_core.proofs.RunLemmas.{has_slots, permitted_step, run_covered, run_layout}
 pub use Rattle.g1_core.proofs.TableLemmas.{is_slot, opening_covered}
 pub use Rattle.g1_core.specs.Calls.{clear_entry, DoesAsked, DoesClear, DoesDrain, DoesMembers}
-pub use Rattle.g1_core.specs.Calls.{DoesPending, DoesRedirect, DoesRefine, DoesStatus, DoesStore}
+pub use Rattle.g1_core.specs.Calls.{DoesPending, DoesRefine, DoesStatus, DoesStore}
 pub use Rattle.g1_core.specs.Calls.{DoesTarget, drain_cards, drain_entry, drain_refined}
 pub use Rattle.g1_core.specs.Calls.{drain_reply, IsLent, members_entry, pending_entry}
 pub use Rattle.g1_core.specs.Calls.{redirect_entry, redirect_refined, redirect_reply, refine_entry}
 pub use Rattle.g1_core.specs.Calls.{status_entry, store_entry, target_entry}
 pub use Rattle.g1_core.specs.Machine.{IsLater, IsSound, Machine, machine_code, new_machine, State}
+pub use Rattle.g1_core.specs.Redirect.{DoesRedirect}
 pub use Rattle.g1_core.specs.Run.{drained, HeldSince, IsAllowed, IsCallOf, IsExact, IsPermitted}
 pub use Rattle.g1_core.specs.Run.{IsStep, settled, table_after, table_of_history, written}
 pub use Rattle.g1_core.specs.Table.{IsCovered, moved_target, opening, refined, Table}

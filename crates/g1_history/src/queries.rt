@@ -33,8 +33,8 @@ impl<H: Keeps> Book<H> {
         Ok(target)
     }
 
-    /// Returns whether a card is pending, that is, dirty or held in the hot card ring, and enters
-    /// the call.
+    /// Returns whether a card is pending, that is, dirty or held in the hot ring, and enters the
+    /// call.
     ///
     /// Returns `BookFull` exactly if the history is full, `NoMemory` if room for the entry was
     /// refused. Either changes nothing. Constant time except for the growth of the history. The

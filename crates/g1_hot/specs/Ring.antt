@@ -1,4 +1,4 @@
--- What contracts see of the refinement counts and the hot card ring, and the rule of hotness.
+-- What contracts see of the refinement counts and the hot ring, and the rule of hotness.
 use Rattle.std.specs.Prelude.{ℕ, List, [], ◌∷◌, ◌++◌, ◌+◌, ◌≤◌, ◌<◌, All, length, drop, min, nat_lt}
 use Rattle.std.specs.Prelude.{slice_index, slice_set, if◌then◌else◌, replicate, refl}
 use Rattle.std.specs.Coded.{Coded, code_by, coded×, coded_ℕ, coded_list}

@@ -22,10 +22,6 @@ lent_slot {race = race} is view lt = omega (arith, lt, ap (λ (s : RaceShape). s
 pub held_table : {race held : Race} (words : List ℕ) → race ≡ held → table_of (ended race.layout race.shape words) ≡ table_of (ended held.layout held.shape words)
 held_table words = ap (λ (r : Race). table_of (ended r.layout r.shape words))
 
--- a call that only reads leaves the table
-pub read_table : (held : Race) {words new : List ℕ} {logs : List (List ℕ)} {sweepers : ℕ} {pause : Pause} → new ≡ words → at_pause_of held words logs sweepers ≡ pause → table_of (ended held.layout held.shape new) ≡ table_at pause
-read_table held same view = ap (λ (ws : List ℕ). table_of (ended held.layout held.shape ws)) same ∙ ap table_at view
-
 -- from the table of the race that was lent, before and after, to that of the pause
 pub at_pause : {race held : Race} {words : List ℕ} {logs : List (List ℕ)} {sweepers : ℕ} {pause : Pause} (change : Table → Table → Type 0) (new : List ℕ) → race ≡ held → at_pause_of held words logs sweepers ≡ pause
     → change (table_of (ended race.layout race.shape words)) (table_of (ended race.layout race.shape new)) → change (table_at pause) (table_of (ended held.layout held.shape new))

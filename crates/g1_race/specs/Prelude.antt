@@ -66,6 +66,7 @@ pub use Rattle.g1_core.specs.Calls.{members_entry, pending_entry, redirect_entry
 pub use Rattle.g1_core.specs.Calls.{status_entry, store_entry, target_entry}
 pub use Rattle.g1_core.specs.Copying.{copied}
 pub use Rattle.g1_core.specs.Machine.{IsSound, Machine, pending_of, State}
+pub use Rattle.g1_core.specs.Queries.{TellsMembers, TellsPending, TellsStatus, TellsTarget}
 pub use Rattle.g1_core.specs.Run.{drained, IsStep, kind_of, pending_after, settled, stored}
 pub use Rattle.g1_core.specs.Run.{table_after, written}
 pub use Rattle.g1_core.specs.Table.{AreMembers, AreRefinable, Crosses, Enters, enters, Holds}

@@ -11,11 +11,12 @@ pub use Rattle.std.specs.Prelude.{vec_capacity, ℕ}
 pub use Rattle.std.specs.Vec.Iter.{into_iter_items, into_iter_len}
 pub use Rattle.g1_core.specs.Barrier.{buffer_of, logged}
 pub use Rattle.g1_core.specs.Calls.{clear_entry, DoesClear, DoesDrain, DoesMembers, DoesPending}
-pub use Rattle.g1_core.specs.Calls.{DoesRedirect, DoesRefine, DoesStatus, DoesStore, DoesTarget}
+pub use Rattle.g1_core.specs.Calls.{DoesRefine, DoesStatus, DoesStore, DoesTarget}
 pub use Rattle.g1_core.specs.Calls.{drain_entry, IsLent, members_entry, pending_entry}
 pub use Rattle.g1_core.specs.Calls.{redirect_entry, refine_entry, status_entry, store_entry}
 pub use Rattle.g1_core.specs.Calls.{target_entry}
 pub use Rattle.g1_core.specs.Machine.{IsSound, Machine, State}
+pub use Rattle.g1_core.specs.Redirect.{DoesRedirect}
 pub use Rattle.g1_core.specs.Run.{IsAllowed, IsPermitted, IsStep, kind_of, table_after}
 pub use Rattle.g1_core.specs.Table.{Table}
 pub use Rattle.g1_core.specs.declared.entry.Entry.{Entry}

@@ -1,7 +1,7 @@
 //! Queries on a heap at a pause: what a slot refers to, whether a card is pending, how much is
 //! pending and recorded, and what is recorded for a region.
 ghost use Rattle.std.specs.Prelude.{◌≡◌, ◌≢◌, ◌<◌, ◌≤◌, ◌==◌};
-ghost use Rattle.g1_c.specs.{take, table_at, SlotRefers, TellsPending};
+ghost use Rattle.g1_c.specs.{take, table_at, TellsTarget, TellsPending};
 ghost use Rattle.g1_c.specs.{TellsStatus, TellsMembers, IsWritten, IsRefusal, reference_of};
 ghost use Rattle.g1_c.specs.{IsHeapRefused, IsSameHeap, HasFirst, LacksCard, LacksRegion};
 ghost use Rattle.g1_c.specs.{LacksSlot, IsNextMember, IsRaceWith, IsTold};
@@ -27,7 +27,7 @@ pub extern "C" fn g1_heap_target(
 ) -> u32
     ensures told { IsTold result target.new (target.new ≡ 4294967295) heap.old.value heap.new.value
         (λ target. IsSameHeap heap.old.value heap.new.value (λ old new.
-        SlotRefers old slot (reference_of target)))
+        TellsTarget (table_at old) slot (reference_of target)))
         (IsHeapRefused heap.old.value (λ old. LacksSlot old.layout slot)) }
 {
     let answer = on_heap!(alloc, heap, target_at(slot));

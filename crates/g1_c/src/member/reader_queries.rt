@@ -1,8 +1,9 @@
 //! Queries by a reader: what a slot refers to and its word, whether a card is pending, and what is
 //! recorded for a region.
 ghost use Rattle.std.specs.Prelude.{◌≡◌, ◌≤◌, ◌==◌};
-ghost use Rattle.g1_c.specs.{reference_of, OfReader, reader_layout, ReadsTarget};
-ghost use Rattle.g1_c.specs.{ReadsWord, ReadsPair, ReadsPending, ReadsNext, IsReaderRefused};
+ghost use Rattle.g1_c.specs.{reference_of, OfReader, reader_layout, table_of_reader};
+ghost use Rattle.g1_c.specs.{TellsTarget, TellsPending, IsNextMember, ReadsWord, ReadsPair};
+ghost use Rattle.g1_c.specs.{IsReaderRefused};
 ghost use Rattle.g1_c.specs.{LacksCard, LacksPair, LacksRegion, LacksSlot, IsTold};
 
 use crate::calling::on_reader;
@@ -24,7 +25,8 @@ pub extern "C" fn g1_reader_target(
 ) -> u32
     ensures told { IsTold result target.new (target.new ≡ 4294967295)
         reader.old.value reader.new.value
-        (λ target. OfReader reader.old.value (λ a. ReadsTarget a slot (reference_of target)))
+        (λ target. OfReader reader.old.value (λ a.
+        TellsTarget (table_of_reader a) slot (reference_of target)))
         (IsReaderRefused reader.old.value (λ a. LacksSlot (reader_layout a) slot)) }
 {
     let answer = on_reader!(alloc, reader, target_by(slot));
@@ -57,7 +59,7 @@ pub extern "C" fn g1_reader_is_pending(
 ) -> u32
     ensures told { IsTold result (pending.new == 1) (pending.new ≡ 0)
         reader.old.value reader.new.value
-        (λ answer. OfReader reader.old.value (λ a. ReadsPending a card answer))
+        (λ answer. OfReader reader.old.value (λ a. TellsPending (table_of_reader a) card answer))
         (IsReaderRefused reader.old.value (λ a. LacksCard (reader_layout a) card)) }
     ensures word { pending.new ≤ 1 }
 {
@@ -93,7 +95,8 @@ pub extern "C" fn g1_reader_next_member(
     card: &mut u32,
 ) -> u32
     ensures told { IsTold result card.new (card.new ≡ 4294967295) reader.old.value reader.new.value
-        (λ card. OfReader reader.old.value (λ a. ReadsNext a region from (reference_of card)))
+        (λ card. OfReader reader.old.value (λ a.
+        IsNextMember (table_of_reader a) region from (reference_of card)))
         (IsReaderRefused reader.old.value (λ a. LacksRegion (reader_layout a) region)) }
 {
     let answer = on_reader!(alloc, reader, next_member_by(region, from));

@@ -1,7 +1,7 @@
 //! A range of slots of a core is copied to another one.
 ghost use Rattle.std.specs.Prelude.{◌≡◌, ◌+◌, ◌≤◌};
 ghost use Rattle.g1_c.specs.{IfSome, slot_count, Between, LacksRanges};
-ghost use Rattle.g1_c.specs.{IsCallRefused, CopiesSlots, TellsRefusal};
+ghost use Rattle.g1_c.specs.{IsCallRefused, DoesCopy, TellsRefusal};
 
 use crate::calling::on_core;
 use crate::tell::word_of;
@@ -13,7 +13,7 @@ use std::alloc::Global;
 #[unsafe(no_mangle)]
 pub extern "C" fn g1_copy(alloc: Global, handle: &mut Handle, from: u32, to: u32, count: u32) -> u32
     ensures copied { result ≡ 0 → Between handle.old.value handle.new.value (λ old new.
-        CopiesSlots old from to count new) }
+        DoesCopy from to count old new) }
     ensures answered { IfSome handle.old.value (λ old.
         from + count ≤ slot_count old.state.table.layout
         → to + count ≤ slot_count old.state.table.layout → result ≡ 0) }

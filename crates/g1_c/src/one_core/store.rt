@@ -1,7 +1,7 @@
 //! Stores.
 ghost use Rattle.std.specs.Prelude.{◌≡◌};
-ghost use Rattle.g1_c.specs.{IfSome, kind_word, reference_of, IsStoreOf, Between, OfOpen};
-ghost use Rattle.g1_c.specs.{LacksPlace, IsCallRefused, kind_of, stored_machine, TellsRefusal};
+ghost use Rattle.g1_c.specs.{IfSome, reference_of, IsStoreOf, Between, OfKind, StoresTo};
+ghost use Rattle.g1_c.specs.{LacksPlace, IsCallRefused, TellsRefusal};
 
 use crate::calling::on_core;
 use g1_handles::code::{DONE, kind_word};
@@ -18,10 +18,8 @@ pub extern "C" fn g1_store(
     target: u32,
     kind: &mut u32,
 ) -> u32
-    ensures kind { result ≡ 0 → OfOpen handle.old.value (λ old.
-        kind.new ≡ kind_word (kind_of old.state.table slot (reference_of target))) }
-    ensures machine { result ≡ 0 → Between handle.old.value handle.new.value (λ old new.
-        new ≡ stored_machine old slot (reference_of target)) }
+    ensures stored { result ≡ 0 → Between handle.old.value handle.new.value (λ old new.
+        OfKind kind.new (λ k. StoresTo old slot (reference_of target) k new)) }
     ensures taken { IfSome handle.old.value (λ old. IsStoreOf old.state.table.layout slot target
         → result ≡ 0) }
     ensures told { TellsRefusal 0 result handle.old.value handle.new.value (kind.new ≡ 0)

@@ -1,7 +1,7 @@
 //! Queries at a pause: what a slot refers to, whether a card is pending, how much is pending and
 //! recorded, and what is recorded for a region, card by card.
 ghost use Rattle.std.specs.Prelude.{◌≡◌};
-ghost use Rattle.g1_handles.specs.{IfOk, IfErr, reference_of, IsRaceWith, SlotRefers};
+ghost use Rattle.g1_handles.specs.{IfOk, IfErr, reference_of, IsRaceWith, TellsTarget};
 ghost use Rattle.g1_handles.specs.{TellsPending, TellsStatus, table_at, IsNextMember, LacksCard};
 ghost use Rattle.g1_handles.specs.{LacksRegion, LacksSlot};
 
@@ -12,7 +12,8 @@ use g1_core::Status;
 
 /// Returns the word of what a slot refers to, or `NoSlot`.
 pub fn target_at(heap: &mut PausedHeap, slot: u32) -> Result<u32, Reason>
-    ensures target { IfOk result (λ word. SlotRefers heap.old slot (reference_of word)) }
+    ensures target { IfOk result (λ word.
+        TellsTarget (table_at heap.old) slot (reference_of word)) }
     ensures why { IfErr result (LacksSlot heap.old.layout slot) }
     ensures same { heap.new ≡ heap.old }
     ensures kept { IsRaceWith heap.new.logs heap.old heap.new }

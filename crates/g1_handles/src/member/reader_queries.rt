@@ -1,7 +1,8 @@
 //! What a reader answers, as the heap does at its pause.
 ghost use Rattle.std.specs.Prelude.{◌≡◌};
 ghost use Rattle.g1_handles.specs.{Some, IfOk, IfErr, reference_of, OfReader, reader_layout};
-ghost use Rattle.g1_handles.specs.{ReadsTarget, ReadsWord, ReadsPending, ReadsPair, ReadsNext};
+ghost use Rattle.g1_handles.specs.{table_of_reader, TellsTarget, TellsPending, IsNextMember};
+ghost use Rattle.g1_handles.specs.{ReadsWord, ReadsPair};
 ghost use Rattle.g1_handles.specs.{IsReaderRefused, LacksCard, LacksPair, LacksRegion, LacksSlot};
 
 use crate::code::{NULL, Reason};
@@ -13,7 +14,8 @@ use g1_race::Reader;
 /// stays as it is.
 pub fn target_by(member: &mut Member<Reader>, slot: u32) -> Result<u32, Reason>
     ensures target { IfOk result (λ word.
-        OfReader (Some member.old) (λ a. ReadsTarget a slot (reference_of word))) }
+        OfReader (Some member.old) (λ a.
+        TellsTarget (table_of_reader a) slot (reference_of word))) }
     ensures why { IfErr result (IsReaderRefused (Some member.old)
         (λ a. LacksSlot (reader_layout a) slot)) }
     ensures same { member.new ≡ member.old }
@@ -47,7 +49,8 @@ pub fn word_by(member: &mut Member<Reader>, slot: u32) -> Result<u64, Reason>
 /// is.
 pub fn is_pending_by(member: &mut Member<Reader>, card: u32) -> Result<bool, Reason>
     ensures pending { IfOk result (λ answer.
-        OfReader (Some member.old) (λ a. ReadsPending a card answer)) }
+        OfReader (Some member.old) (λ a.
+        TellsPending (table_of_reader a) card answer)) }
     ensures why { IfErr result (IsReaderRefused (Some member.old)
         (λ a. LacksCard (reader_layout a) card)) }
     ensures same { member.new ≡ member.old }
@@ -82,7 +85,8 @@ pub fn has_by(member: &mut Member<Reader>, card: u32, region: u32) -> Result<boo
 /// The reader stays as it is.
 pub fn next_member_by(member: &mut Member<Reader>, region: u32, from: u32) -> Result<u32, Reason>
     ensures next { IfOk result (λ word.
-        OfReader (Some member.old) (λ a. ReadsNext a region from (reference_of word))) }
+        OfReader (Some member.old) (λ a.
+        IsNextMember (table_of_reader a) region from (reference_of word))) }
     ensures why { IfErr result (IsReaderRefused (Some member.old)
         (λ a. LacksRegion (reader_layout a) region)) }
     ensures same { member.new ≡ member.old }

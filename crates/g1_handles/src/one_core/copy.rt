@@ -1,7 +1,7 @@
 //! A range of slots of a core is copied to another one.
 ghost use Rattle.std.specs.Prelude.{◌≡◌, ◌+◌, ◌≤◌, ◌↔◌};
 ghost use Rattle.g1_handles.specs.{IsTrue, IsOk, OnOk, IfErr, OnErr};
-ghost use Rattle.g1_handles.specs.{slot_count, CopiesSlots, LacksRanges};
+ghost use Rattle.g1_handles.specs.{slot_count, DoesCopy, LacksRanges};
 
 use crate::code::Reason;
 use g1_core::Core;
@@ -10,7 +10,7 @@ use g1_layout::Layout;
 /// Copies what `count` slots of a core refer to, from the slot `from` on, to as many from the slot
 /// `to` on. Returns `NoSlot` if one of the two ranges leaves the heap: nothing has changed.
 pub fn copy_in(core: &mut Core, from: u32, to: u32, count: u32) -> Result<(), Reason>
-    ensures copied { OnOk result (CopiesSlots core.old from to count core.new) }
+    ensures copied { OnOk result (DoesCopy from to count core.old core.new) }
     ensures answered { from + count ≤ slot_count core.old.state.table.layout
         → to + count ≤ slot_count core.old.state.table.layout → IsOk result }
     ensures why { IfErr result

@@ -1,8 +1,7 @@
 //! Stores.
 ghost use Rattle.std.specs.Prelude.{◌≡◌, ◌<◌};
-ghost use Rattle.g1_handles.specs.{IfSome, IfNone, IfOk, IfErr, IsOk, OnOk, OnErr};
-ghost use Rattle.g1_handles.specs.{slot_count, kind_of, reference_of, IsStoreOf, stored_machine};
-ghost use Rattle.g1_handles.specs.{LacksPlace};
+ghost use Rattle.g1_handles.specs.{IfSome, IfNone, IfOk, IfErr, IsOk, OnErr};
+ghost use Rattle.g1_handles.specs.{slot_count, reference_of, IsStoreOf, StoresTo, LacksPlace};
 
 use crate::code::{NULL, Reason};
 use g1_core::Core;
@@ -12,9 +11,8 @@ use g1_layout::{Kind, Layout, Slot};
 /// or the target: nothing has changed.
 #[inline(always)]
 pub fn store_in(core: &mut Core, slot: u32, target: u32) -> Result<Kind, Reason>
-    ensures kind { IfOk result (λ kind.
-        kind ≡ kind_of core.old.state.table slot (reference_of target)) }
-    ensures machine { OnOk result (core.new ≡ stored_machine core.old slot (reference_of target)) }
+    ensures stored { IfOk result (λ kind.
+        StoresTo core.old slot (reference_of target) kind core.new) }
     ensures taken { IsStoreOf core.old.state.table.layout slot target → IsOk result }
     ensures why { IfErr result (LacksPlace core.old.state.table.layout slot target) }
     ensures refused { OnErr result (core.new ≡ core.old) }

@@ -1,11 +1,10 @@
 //! What a pause reads and stores.
 ghost use Rattle.std.specs.Prelude.{◌≡◌, ◌<◌};
-ghost use Rattle.g1_race.specs.{ℕ, IfSome, slice_set, some, get_elem?, slot_count, card_count};
-ghost use Rattle.g1_race.specs.{target_of, IsStep, kind_of, stored, target_entry, pending_entry};
+ghost use Rattle.g1_race.specs.{IfSome, slice_set, some, get_elem?, slot_count, card_count};
+ghost use Rattle.g1_race.specs.{kind_of, stored, TellsTarget, TellsPending};
 ghost use Rattle.g1_race.specs.{IsBegun, started, crosses, word_count, shape_of, word_of};
 ghost use Rattle.g1_race.specs.{table_at, WordsBecome, one_word, IsDirtied, IsPauseReader};
 ghost use Rattle.g1_race.specs.{reader_race, race_id, table_read, StoresAt};
-ghost use Rattle.std.specs.FinSet as set;
 
 use crate::paused::Paused;
 use crate::paused::holds::HoldsRace;
@@ -18,10 +17,7 @@ impl<R: HoldsRace> Paused<R> {
     /// Returns what a slot refers to, or `None` for null. Reads one word.
     pub fn target(&mut self, slot: Slot) -> Option<Slot>
         requires { slot < slot_count self.old.layout }
-        ensures target { result ≡ target_of (table_at self.old) slot }
-        ensures within { IfSome result (λ place. place < slot_count self.old.layout) }
-        ensures step { (caller : ℕ)
-            → IsStep (table_at self.old) (target_entry caller slot result) (table_at self.new) }
+        ensures told { TellsTarget (table_at self.old) slot result }
         ensures same { self.new ≡ self.old }
     {
         self.reader.target(self.race.race(), slot)
@@ -30,9 +26,7 @@ impl<R: HoldsRace> Paused<R> {
     /// Returns whether a card is pending: dirty, by a store or from the beginning. Reads one word.
     pub fn is_pending(&mut self, card: Card) -> bool
         requires { card < card_count self.old.layout }
-        ensures pending { result ≡ set.contains (table_at self.old).pending card }
-        ensures step { (caller : ℕ)
-            → IsStep (table_at self.old) (pending_entry caller card result) (table_at self.new) }
+        ensures told { TellsPending (table_at self.old) card result }
         ensures same { self.new ≡ self.old }
     {
         self.reader.is_pending(self.race.race(), card)

@@ -1,9 +1,8 @@
 //! The pairs that are recorded at a pause, and the cards that are dirty.
 ghost use Rattle.std.specs.Prelude.{◌≡◌, ◌<◌, ◌≤◌, ◌^◌, ◌↔◌};
-ghost use Rattle.g1_race.specs.{IsTrue, IfOk, IfSome, ℕ, [], length, vec_len, vec_capacity};
-ghost use Rattle.g1_race.specs.{card_count, IsRecorded, AreMembers, IsStep, members_entry};
-ghost use Rattle.g1_race.specs.{status_entry, table_at, IsNextPending, IsNextMember, marked_cards};
-ghost use Rattle.g1_race.specs.{member_cards};
+ghost use Rattle.g1_race.specs.{IsTrue, IfOk, IfSome, [], length, vec_len, vec_capacity};
+ghost use Rattle.g1_race.specs.{card_count, IsRecorded, AreMembers, TellsMembers, TellsStatus};
+ghost use Rattle.g1_race.specs.{table_at, IsNextPending, IsNextMember, marked_cards, member_cards};
 ghost use Rattle.std.specs.FinSet as set;
 
 use crate::paused::Paused;
@@ -29,10 +28,8 @@ impl<R: HoldsRace> Paused<R> {
     /// Returns `NoMemory` if the room for the list was refused.
     pub fn members(&mut self, alloc: Global, region: Region) -> Result<CardList, NoMemory>
         requires { region < self.old.layout.regions }
-        ensures members { IfOk result (λ cards. AreMembers (table_at self.old) region cards) }
+        ensures told { IfOk result (TellsMembers (table_at self.old) region) }
         ensures few { IfOk result (λ cards. length cards ≤ card_count self.old.layout) }
-        ensures step { IfOk result (λ cards. (caller : ℕ)
-            → IsStep (table_at self.old) (members_entry caller region cards) (table_at self.new)) }
         ensures same { self.new ≡ self.old }
     {
         self.reader.members(self.race.race(), alloc, region)
@@ -53,10 +50,7 @@ impl<R: HoldsRace> Paused<R> {
     /// one more word for each recorded pair.
     #[tactic(auto, using(crate::proofs::of_a_pause))]
     pub fn status(&mut self) -> Status
-        ensures pending { result.pending ≡ set.len (table_at self.old).pending }
-        ensures recorded { result.recorded ≡ set.len (table_at self.old).recorded }
-        ensures step { (caller : ℕ) →
-            IsStep (table_at self.old) (status_entry caller result) (table_at self.new) }
+        ensures told { TellsStatus (table_at self.old) result }
         ensures same { self.new ≡ self.old }
     {
         let race = self.race.race();

@@ -1,10 +1,9 @@
 //! What a reader reads at a pause.
 ghost use Rattle.std.specs.Prelude.{◌≡◌, ◌<◌, ◌≤◌, ◌↔◌};
-ghost use Rattle.g1_race.specs.{ℕ, IsTrue, IfOk, IfSome, slot_count, card_count, target_of};
-ghost use Rattle.g1_race.specs.{AreMembers, IsRecorded, IsStep, target_entry, pending_entry};
-ghost use Rattle.g1_race.specs.{members_entry, race_id, race_layout, IsNextMember, IsNextPending};
-ghost use Rattle.g1_race.specs.{reader_race, table_read, length, HasBit, IsPair};
-ghost use Rattle.std.specs.FinSet as set;
+ghost use Rattle.g1_race.specs.{IsTrue, IfOk, IfSome, slot_count, card_count, IsRecorded};
+ghost use Rattle.g1_race.specs.{TellsTarget, TellsPending, TellsMembers, race_id, race_layout};
+ghost use Rattle.g1_race.specs.{IsNextMember, IsNextPending, reader_race, table_read, length};
+ghost use Rattle.g1_race.specs.{HasBit, IsPair};
 
 use crate::bits::bit_of;
 use crate::paused::next::{Sought, card_at};
@@ -23,10 +22,7 @@ impl Reader {
     pub fn target(&mut self, race: &Race, slot: Slot) -> Option<Slot>
         requires reader { reader_race self.old ≡ race_id race.now }
         requires slot { slot < slot_count (race_layout race.now) }
-        ensures target { result ≡ target_of (table_read race.now self.old) slot }
-        ensures within { IfSome result (λ place. place < slot_count (race_layout race.now)) }
-        ensures step { (caller : ℕ) → let table = table_read race.now self.old in
-            IsStep table (target_entry caller slot result) table }
+        ensures told { TellsTarget (table_read race.now self.old) slot result }
         ensures same { self.new ≡ self.old }
     {
         let word = self.see(race, slot.number() as usize);
@@ -40,9 +36,7 @@ impl Reader {
     pub fn is_pending(&mut self, race: &Race, card: Card) -> bool
         requires reader { reader_race self.old ≡ race_id race.now }
         requires card { card < card_count (race_layout race.now) }
-        ensures pending { result ≡ set.contains (table_read race.now self.old).pending card }
-        ensures step { (caller : ℕ) → let table = table_read race.now self.old in
-            IsStep table (pending_entry caller card result) table }
+        ensures told { TellsPending (table_read race.now self.old) card result }
         ensures same { self.new ≡ self.old }
     {
         self.see(race, race.shape.slots + card.number() as usize) == 1
@@ -81,11 +75,7 @@ impl Reader {
     ) -> Result<CardList, NoMemory>
         requires reader { reader_race self.old ≡ race_id race.now }
         requires region { region < (race_layout race.now).regions }
-        ensures members { IfOk result (λ cards.
-            AreMembers (table_read race.now self.old) region cards) }
-        ensures step { let table = table_read race.now self.old in
-            IfOk result (λ cards. (caller : ℕ) →
-            IsStep table (members_entry caller region cards) table) }
+        ensures told { IfOk result (TellsMembers (table_read race.now self.old) region) }
         ensures few { IfOk result (λ cards. length cards ≤ card_count (race_layout race.now)) }
         ensures same { self.new ≡ self.old }
     {

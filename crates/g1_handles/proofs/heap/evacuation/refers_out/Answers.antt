@@ -21,7 +21,7 @@ returns-then-ne-clause-some c = λ _.
       slot = slot;
       place = place;
       crosses = record {
-        refers = subst (λ (h : Pause). target_of (table_at h) slot ≡ Some place) c.loop-i.invariant.0 (sym c.target.ensures.target ∙ c.in-Some-target.is);
+        refers = subst (λ (h : Pause). target_of (table_at h) slot ≡ Some place) c.loop-i.invariant.0 (sym c.target.ensures.told.refers ∙ c.in-Some-target.is);
         across = λ e. other (c.region_of.ensures.quotient ∙ (sym (subst (λ (s : Shape). region_of s slot ≡ region_of s place) (sym c.requires.layout) e) ∙ inside));
       };
       inside = subst (λ (s : Shape). region_of s slot ≡ c.args.region) c.requires.layout inside;

@@ -6,4 +6,4 @@ pub returns-clause-cleared : goal.returns-clause-cleared
 returns-clause-cleared c =
     subst (λ (reply : ClearReply). ClearsTo c.args.core.now c.args.region reply c.clear.new.self) (sym c.words_of.ensures.reply)
     (subst (λ (region : ℕ). ClearsTo c.args.core.now region c.clear.result c.clear.new.self) c.in-Some.ensures.1
-    (record { step = c.clear.ensures.step; ring = c.clear.ensures.did.ring; unread = c.clear.ensures.did.unread; reads = c.clear.ensures.did.reads; later = c.clear.ensures.later }))
+    (record { did = c.clear.ensures.did; step = c.clear.ensures.step; later = c.clear.ensures.later }))

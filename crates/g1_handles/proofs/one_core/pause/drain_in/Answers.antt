@@ -7,5 +7,5 @@ use Rattle.g1_handles.proofs.one_core.pause.drain_in.Goals as goal
 pub returns-in-Ok-clause-cards : goal.returns-in-Ok-clause-cards
 returns-in-Ok-clause-cards c =
     let count : card_count c.layout-layout.result ≡ card_count c.args.core.now.state.table.layout = ap card_count c.layout-layout.ensures.value in
-    let few = few_drained c.args.core.now c.drain.new.self c.in-Some.region c.in-Ok.answer (card_count c.args.core.now.state.table.layout) c.in-Ok.ensures.did.drained c.in-Ok.ensures.did.within in
+    let few = few_drained c.args.core.now c.drain.new.self c.in-Some.region c.in-Ok.answer c.in-Ok.ensures.did in
     (omega (arith, few, count, c.card_count-most.ensures.count, c.if-room-most.false), fits_words c.args.core.now.state (drain_cards c.in-Ok.answer) c.layout-layout.ensures.sound few)

@@ -6,4 +6,4 @@ pub returns-clause-target : goal.returns-clause-target
 returns-clause-target c =
     subst (λ (slot : ℕ). RefersTo c.args.core.now slot (reference_of c.word_of.result) c.target.new.self) c.in-Some.ensures.1
     (subst (λ (target : Option ℕ). RefersTo c.args.core.now c.in-Some.slot target c.target.new.self) (sym c.word_of.ensures)
-    (record { refers = c.target.ensures.did.answer; machine = c.target.ensures.did.machine; step = c.target.ensures.step }))
+    (record { did = c.target.ensures.did; step = c.target.ensures.step; later = c.target.ensures.later }))

@@ -9,7 +9,7 @@ returns-then-not-refers_to-clause-first g c =
     let memory = c.args.memory.now in
     first_found (Differs t c.args.first (map P memory)) c.args.first _ c.loop-i.i c.slot_behind-slot.result c.slot_behind-slot.ensures c.loop-i-test.true
     (slot_differs P memory t (table_at c.loop-i.self) c.args.first c.loop-i.i c.slot_behind-slot.result c.index-memory-i.result c.target.result c.slot_behind-slot.ensures c.loop-i-test.true c.index-memory-i.is
-    (ap table_at was.same) c.target.ensures.target (λ e. absurd (let y = c.refers_to.ensures.1 e in let n = c.if-not-refers_to.true in cc (y, n)))) was.none
+    (ap table_at was.same) c.target.ensures.told.refers (λ e. absurd (let y = c.refers_to.ensures.1 e in let n = c.if-not-refers_to.true in cc (y, n)))) was.none
 
 pub loop-i-preserved : goal.loop-i-preserved
 loop-i-preserved g c =
@@ -18,7 +18,7 @@ loop-i-preserved g c =
     let memory = c.args.memory.now in
     record {
       none = below_more _ _ was.none (slot_same P memory (table_at c.args.self.now) (table_at c.loop-i.self) c.args.first c.loop-i.i c.slot_behind-slot.result c.index-memory-i.result c.target.result c.slot_behind-slot.ensures c.loop-i-test.true c.index-memory-i.is
-          (ap table_at was.same) c.target.ensures.target (c.refers_to.ensures.0 c.if-not-refers_to.false));
+          (ap table_at was.same) c.target.ensures.told.refers (c.refers_to.ensures.0 c.if-not-refers_to.false));
       same = c.target.ensures.same ∙ was.same;
     }
 

@@ -8,12 +8,10 @@ use Rattle.g1_race.proofs.paused.reading.Reader.members.Goals as goal
 cards_are : (c : goal.After-of) → c.of.result ≡ member_cards c.args.race.now.shape c.args.self.now.start.words c.number.result
 cards_are c = c.of.ensures ∙ (c.list.ensures.cards ∙ ap (λ (ws : List ℕ). member_cards c.args.race.now.shape ws c.number.result) (ap (λ r. r.start.words) c.count-count.ensures.same))
 
-pub returns-clause-members : goal.returns-clause-members
-returns-clause-members c =
+pub returns-clause-told : goal.returns-clause-told
+returns-clause-told c =
     let race = c.args.race.now in
     let words = c.args.self.now.start.words in
-    subst (λ (cs : List ℕ). AreMembers (table_of (ended race.layout race.shape words)) c.args.region cs) (sym (cards_are c))
-    (members_are race.shape race.layout race.laid words c.args.region c.number.result (reader_begun c.args.race.now c.requires.reader c.self.view_is c.self.invariant.0.begun) c.number.ensures (omega (arith, c.requires.region, c.number.ensures, ap (λ (s : RaceShape). s.regions) race.laid)))
-
-pub returns-clause-step : goal.returns-clause-step
-returns-clause-step c = λ caller. members_step caller (table_read c.args.race.now c.args.self.now) c.args.region c.of.result c.requires.region (returns-clause-members c)
+    let members = subst (λ (cs : List ℕ). AreMembers (table_of (ended race.layout race.shape words)) c.args.region cs) (sym (cards_are c))
+        (members_are race.shape race.layout race.laid words c.args.region c.number.result (reader_begun c.args.race.now c.requires.reader c.self.view_is c.self.invariant.0.begun) c.number.ensures (omega (arith, c.requires.region, c.number.ensures, ap (λ (s : RaceShape). s.regions) race.laid))) in
+    record { members = members; step = λ caller. members_step caller (table_read race c.args.self.now) c.args.region c.of.result c.requires.region members }
