@@ -40,8 +40,8 @@ pub use Rattle.std.specs.Option.{SomeIff}
 pub use Rattle.std.specs.Ordering.{eq_by_cmp, nat_cmp}
 pub use Rattle.std.specs.Prelude.{All, Contains, count_by, fold, IfNone, IfOk, IfSome, IsNone}
 pub use Rattle.std.specs.Prelude.{IsTrue, MatchOption, min, nat_eq, nat_lt, not, OnErr, OnOk}
-pub use Rattle.std.specs.Prelude.{option_map, replicate, slice_get, slice_index, slice_index_or}
-pub use Rattle.std.specs.Prelude.{slice_set, sum_by, vec_capacity}
+pub use Rattle.std.specs.Prelude.{option_map, replicate, slice_get, slice_index_or, slice_set}
+pub use Rattle.std.specs.Prelude.{sum_by, vec_capacity}
 pub use Rattle.g1_heap.specs.Cells.{AreCells, Cells, HasNoDirty, HoldsIn, IsFirstDirty, new_cells}
 pub use Rattle.g1_heap.specs.Cells.{reads_after, with_mark, with_reads, with_ref}
 pub use Rattle.g1_heap.specs.declared.mark.Mark.{Mark}

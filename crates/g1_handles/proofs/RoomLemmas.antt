@@ -1,6 +1,6 @@
 -- How long the lists are that a core answers: no longer than the heap has cards.
 use Rattle.std.specs.Prelude.{◌<◌, ◌≤◌}
-use Rattle.g1_handles.specs.{ℕ, List, All, length, arith, eqb-true, All-contains, card_count, card_count_limit, IsPending, AreRefinable, AreMembers, Machine, State, IsSound, DoesDrain, drain_cards, Drained}
+use Rattle.g1_handles.specs.{ℕ, List, length, arith, eqb-true, All-contains, card_count, card_count_limit, IsPending, AreRefinable, AreMembers, Machine, State, IsSound, DoesDrain, drain_cards, Drained}
 use Rattle.std.proofs.lemmas.Map.Steps.{length-le_from_distinct_below}
 use Rattle.std.proofs.lemmas.Map.Views.{length-le_from_below, Contains-from_any}
 use Rattle.std.proofs.lemmas.Map.Keys.{sorted_from_strictly_increasing}

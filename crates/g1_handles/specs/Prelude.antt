@@ -41,10 +41,9 @@ pub use Rattle.arrayvec.specs.ArrayVec.{array_vec_len}
 pub use Rattle.atomic_table.specs.Seated.{TableId}
 pub use Rattle.g1_core.specs.Barrier.{stored_machine, unfilled}
 pub use Rattle.g1_core.specs.Calls.{clear_entry, DoesClear, DoesCopy, DoesDrain, DoesRefine}
-pub use Rattle.g1_core.specs.Calls.{DoesStore}
-pub use Rattle.g1_core.specs.Calls.{DoesTarget, drain_cards, drain_entry, drain_refined}
-pub use Rattle.g1_core.specs.Calls.{members_entry, pending_entry, redirect_entry, redirect_refined}
-pub use Rattle.g1_core.specs.Calls.{refine_entry, status_entry, store_entry, target_entry}
+pub use Rattle.g1_core.specs.Calls.{DoesStore, DoesTarget, drain_cards, drain_entry, drain_refined}
+pub use Rattle.g1_core.specs.Calls.{redirect_entry, redirect_refined, refine_entry, store_entry}
+pub use Rattle.g1_core.specs.Calls.{target_entry}
 pub use Rattle.g1_core.specs.Machine.{IsLater, IsOnlyRead, IsSound, Machine, machine_code}
 pub use Rattle.g1_core.specs.Machine.{new_machine, State}
 pub use Rattle.g1_core.specs.Queries.{TellsMembers, TellsPending, TellsStatus, TellsTarget}
@@ -67,15 +66,14 @@ pub use Rattle.g1_layout.specs.declared.kind.Kind.TheVariants.{AlreadyDirty, Log
 pub use Rattle.g1_layout.specs.declared.kind.Kind.TheVariants.{SameRegion}
 pub use Rattle.g1_race.specs.Calls.{ClearsAt, Copies, Forgets, Redirects, Refines, StoresAt}
 pub use Rattle.g1_race.specs.Calls.{StoresDataAt, Wipes}
-pub use Rattle.g1_race.specs.Evacuating.{AreAllRefined, copied_word, forgotten, IsExactAtPause}
-pub use Rattle.g1_race.specs.Evacuating.{IsRaceWith, IsRefinedRace, IsSameRace, one_word}
-pub use Rattle.g1_race.specs.Evacuating.{plain_reply, same_word, SlotsBecome, wiped, wiped_word}
+pub use Rattle.g1_race.specs.Evacuating.{forgotten, IsExactAtPause, IsRaceWith, IsRefinedRace}
+pub use Rattle.g1_race.specs.Evacuating.{IsSameRace, one_word, same_word, SlotsBecome, wiped}
 pub use Rattle.g1_race.specs.Members.{HasDiffered, HasNotStored, HasOverwritten, HasStored}
 pub use Rattle.g1_race.specs.Members.{is_logged, IsKind, IsNewRacer, IsNewSweeper, race_begun}
 pub use Rattle.g1_race.specs.Members.{race_id, race_layout, race_shape, race_words, racer_log}
 pub use Rattle.g1_race.specs.Members.{racer_race, racer_view, sweeper_race, sweeper_start}
 pub use Rattle.g1_race.specs.Members.{sweeper_view}
-pub use Rattle.g1_race.specs.Over.{Ended, ended, ended_of, Pause, start_at, table_at, table_of}
+pub use Rattle.g1_race.specs.Over.{ended, ended_of, Pause, start_at, table_at, table_of}
 pub use Rattle.g1_race.specs.Race.{IsKnown, IsOver, stored_view, word_of}
 pub use Rattle.g1_race.specs.Reading.{IsNextMember, IsReaderOf, Known, known, reader_race}
 pub use Rattle.g1_race.specs.Reading.{table_read}

@@ -1,6 +1,6 @@
 -- A history goes on by a step.
 use Rattle.std.specs.Prelude.{◌≡◌, ◌+◌, ◌<◌, ◌≤◌, ◌∷◌, ◌++◌}
-use Rattle.g1_history.specs.{ℕ, Bool, true, false, cond, [], length, refl, sym, subst, ap, ◌∙◌, arith, length-append, Shape, IsShape, card_count, Machine, IsLater, IsSound, Table, opening, IsCovered, Entry, Reply, IsStep, IsAllowed, IsPermitted, table_of_history, drained, drain_entry, drain_cards, drain_reply, redirect_entry, redirect_reply, DoesDrain, DoesRedirect, Drained, Cards, Short, opening_covered, permitted_step, run_covered, run_layout, has_slots, Past, IsHistory, IsTallied, IsKept, Made, MakesCall, AnswersExactly, AnswersBy, table_in, layout_in, history_of, past_with, made_of, is_store, MadeAsked, Ok}
+use Rattle.g1_history.specs.{ℕ, Bool, true, false, cond, [], length, refl, sym, subst, ap, ◌∙◌, arith, length-append, Shape, IsShape, Machine, IsLater, IsSound, Table, opening, IsCovered, Entry, Reply, IsStep, IsAllowed, IsPermitted, table_of_history, drained, drain_entry, drain_reply, redirect_entry, redirect_reply, DoesDrain, DoesRedirect, Drained, Cards, Short, opening_covered, permitted_step, run_covered, run_layout, has_slots, Past, IsHistory, IsTallied, IsKept, Made, MakesCall, AnswersExactly, AnswersBy, table_in, layout_in, history_of, past_with, made_of, is_store, MadeAsked, Ok}
 use Rattle.g1_core.specs.declared.entry.Call.TheVariants as call
 use Rattle.g1_core.specs.declared.reply.Redirected.{Redirected}
 use Rattle.g1_core.specs.declared.reply.Redirected.TheVariants as redirected

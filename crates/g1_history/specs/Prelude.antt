@@ -1,13 +1,13 @@
 -- What the crate takes from the libraries below it.
 pub use Rattle.std.proofs.Common.{ap, arith, get_or, inl, inr, refl, subst, suc, sym, take, zero, ℕ}
 pub use Rattle.std.proofs.Common.{◌∙◌}
-pub use Rattle.std.proofs.lemmas.List.{length-append, length-map, length-replicate, length-set}
-pub use Rattle.std.specs.Prelude.{[], All, Bool, cond, count_by, Err, false, fold, IfOk, IfSome}
-pub use Rattle.std.specs.Prelude.{IsNone, length, List, None, Ok, OnErr, OnOk, Option, option_map}
-pub use Rattle.std.specs.Prelude.{Result, Some, true, vec_capacity, vec_len}
+pub use Rattle.std.proofs.lemmas.List.{length-append}
+pub use Rattle.std.specs.Prelude.{[], All, Bool, cond, count_by, Err, false, IfOk, IfSome, IsNone}
+pub use Rattle.std.specs.Prelude.{length, List, None, Ok, OnErr, OnOk, Option, option_map, Result}
+pub use Rattle.std.specs.Prelude.{Some, true, vec_capacity, vec_len}
 pub use Rattle.g1_core.proofs.LengthLemmas.{refined_few, turned_few}
 pub use Rattle.g1_core.proofs.RunLemmas.{has_slots, permitted_step, run_covered, run_layout}
-pub use Rattle.g1_core.proofs.TableLemmas.{is_slot, opening_covered}
+pub use Rattle.g1_core.proofs.TableLemmas.{opening_covered}
 pub use Rattle.g1_core.specs.Calls.{clear_entry, DoesAsked, DoesClear, DoesDrain, DoesMembers}
 pub use Rattle.g1_core.specs.Calls.{DoesPending, DoesRefine, DoesStatus, DoesStore}
 pub use Rattle.g1_core.specs.Calls.{DoesTarget, drain_cards, drain_entry, drain_refined}
@@ -16,9 +16,9 @@ pub use Rattle.g1_core.specs.Calls.{redirect_entry, redirect_refined, redirect_r
 pub use Rattle.g1_core.specs.Calls.{status_entry, store_entry, target_entry}
 pub use Rattle.g1_core.specs.Machine.{IsLater, IsSound, Machine, machine_code, new_machine, State}
 pub use Rattle.g1_core.specs.Redirect.{DoesRedirect}
-pub use Rattle.g1_core.specs.Run.{drained, HeldSince, IsAllowed, IsCallOf, IsExact, IsPermitted}
-pub use Rattle.g1_core.specs.Run.{IsStep, settled, table_after, table_of_history, written}
-pub use Rattle.g1_core.specs.Table.{IsCovered, moved_target, opening, refined, Table}
+pub use Rattle.g1_core.specs.Run.{drained, IsAllowed, IsCallOf, IsExact, IsPermitted, IsStep}
+pub use Rattle.g1_core.specs.Run.{table_of_history}
+pub use Rattle.g1_core.specs.Table.{IsCovered, opening, refined, Table}
 pub use Rattle.g1_core.specs.declared.entry.Call.{Call}
 pub use Rattle.g1_core.specs.declared.entry.Call.TheVariants.{Clear, Redirect, Refine, Store}
 pub use Rattle.g1_core.specs.declared.entry.Entry.{Entry}

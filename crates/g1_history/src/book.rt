@@ -1,5 +1,5 @@
 //! A core and what is remembered of its calls.
-ghost use Rattle.std.specs.Prelude.{◌≡◌, ◌≤◌, ◌<◌, ◌^◌};
+ghost use Rattle.std.specs.Prelude.{◌≡◌, ◌≤◌, ◌<◌};
 ghost use Rattle.g1_history.specs.Prelude.{[], IfOk};
 
 use crate::keeps::{Keeps, Kept, Tallied};

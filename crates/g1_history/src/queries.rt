@@ -1,5 +1,5 @@
 //! Questions to the core that are entered in the history.
-ghost use Rattle.std.specs.Prelude.{◌≡◌, ◌<◌};
+ghost use Rattle.std.specs.Prelude.{◌<◌};
 ghost use Rattle.g1_history.specs.{IfOk, slot_count, card_count};
 
 use crate::book::{Book, again};

@@ -1,5 +1,5 @@
 //! The numbers that a replay is run with.
-ghost use Rattle.std.specs.Prelude.{◌≡◌, ◌≤◌};
+ghost use Rattle.std.specs.Prelude.{◌≤◌};
 
 use g1_core::Config;
 

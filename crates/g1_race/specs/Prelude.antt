@@ -25,7 +25,6 @@ pub use Rattle.std.proofs.lemmas.Map.Lookups.{exact_unsigned}
 pub use Rattle.std.proofs.lemmas.Nat.{div-mul-add, mul-add-lt, pow-add}
 pub use Rattle.std.proofs.lemmas.Nat.Bits.{bit_at-trailing_zeros, bit_at-zero, bit_at_above}
 pub use Rattle.std.proofs.lemmas.Nat.Bits.{bit_at_clear_other, bit_at_clear_same, shr_and_one}
-pub use Rattle.std.proofs.lemmas.Result.{IfOk-weaker}
 pub use Rattle.std.specs.Arc.{arc_value}
 pub use Rattle.std.specs.Cmp.{Equal-is}
 pub use Rattle.std.specs.Global.{Global}
@@ -62,8 +61,7 @@ pub use Rattle.g1_core.proofs.TableLemmas.{refined_pending, slot_of, still_recor
 pub use Rattle.g1_core.proofs.VerifyLemmas.{first_found, first_none, slot_differs, slot_same}
 pub use Rattle.g1_core.specs.Adoption.{adopted_machine, IsPairOf, marks_for, table_with}
 pub use Rattle.g1_core.specs.Calls.{clear_entry, drain_cards, drain_entry, drain_refined}
-pub use Rattle.g1_core.specs.Calls.{members_entry, pending_entry, redirect_entry, redirect_refined}
-pub use Rattle.g1_core.specs.Calls.{status_entry, store_entry, target_entry}
+pub use Rattle.g1_core.specs.Calls.{redirect_entry, redirect_refined, store_entry}
 pub use Rattle.g1_core.specs.Copying.{copied}
 pub use Rattle.g1_core.specs.Machine.{IsSound, Machine, pending_of, State}
 pub use Rattle.g1_core.specs.Queries.{TellsMembers, TellsPending, TellsStatus, TellsTarget}

@@ -18,6 +18,6 @@ pub use native.Mathlib.Decide.{ℕ_discrete}
 pub use prog.Atomic.{either}
 pub use Rattle.atomic_table.proofs.Lists.{at_longer, at_map, at_set, at_snoc, set_again, set_else}
 pub use Rattle.atomic_table.proofs.Lists.{set_here}
-pub use Rattle.atomic_table.specs.Seated.{age, common, Placed, TableId}
+pub use Rattle.atomic_table.specs.Seated.{common, Placed, TableId}
 pub use Rattle.atomic_table.specs.Table.{Allows, Enters, Joins, keeps, Me, Splits, State}
 pub use Rattle.atomic_table.specs.declared.shared.Seat.{Seat}

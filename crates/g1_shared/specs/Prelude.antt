@@ -31,8 +31,7 @@ pub use Rattle.g1_history.specs.History.{CallTotals, is_store}
 pub use Rattle.g1_history.specs.declared.refusal.Refusal.{Refusal}
 pub use Rattle.g1_layout.specs.Shape.{card_count, card_of, Shape, slot_count}
 pub use Rattle.g1_layout.specs.declared.kind.Kind.{Kind}
-pub use Rattle.g1_log.specs.Ends.{capacity_of, IsNewTaker, IsSameTaker, IsTakerOf, line_home}
-pub use Rattle.g1_log.specs.Ends.{put_of, taken_of}
+pub use Rattle.g1_log.specs.Ends.{capacity_of, IsNewTaker, line_home, put_of, taken_of}
 pub use Rattle.g1_log.specs.declared.ends.Taker.{Taker}
 pub use Rattle.g1_log.specs.declared.line.Line.{Line}
 pub use Rattle.g1_log.specs.declared.parcel.Parcel.{Parcel}

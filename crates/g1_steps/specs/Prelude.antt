@@ -2,9 +2,8 @@
 pub use Rattle.std.proofs.Common.{ap, append-nil, append_assoc, arith, get_or, inl, inr, length}
 pub use Rattle.std.proofs.Common.{length-append, map, refl, rules, subst, suc, sym, take}
 pub use Rattle.std.proofs.Common.{vec_capacity, vec_len, ◌∙◌}
-pub use Rattle.std.proofs.lemmas.List.{length-map, length-replicate, map-append}
-pub use Rattle.std.proofs.lemmas.List.{replicate-append-replicate, take-map, take-replicate}
-pub use Rattle.std.proofs.lemmas.List.{take_more}
+pub use Rattle.std.proofs.lemmas.List.{length-map, length-replicate, map-append, take-map}
+pub use Rattle.std.proofs.lemmas.List.{take-replicate}
 pub use Rattle.std.proofs.lemmas.List.Elements.{All-cons, All-nil, All-push, All-rest}
 pub use Rattle.std.proofs.lemmas.List.Elements.{filter-append}
 pub use Rattle.std.specs.List.{AllZip, flat_map}
@@ -29,7 +28,7 @@ pub use Rattle.g1_layout.specs.declared.kind.Kind.TheVariants.{SameRegion}
 pub use Rattle.g1_log.specs.Ends.{AreNewSenders, capacity_of, IsNewSender, IsNewTaker, IsSameSender}
 pub use Rattle.g1_log.specs.Ends.{IsSameTaker, IsSenderOf, IsTakerOf, number_of, put_of}
 pub use Rattle.g1_log.specs.Ends.{sender_home, sender_rights, taken_of, taker_home, taker_rights}
-pub use Rattle.g1_log.specs.Ends.{taker_view, WasEmpty, WasFull, WasOfLength}
+pub use Rattle.g1_log.specs.Ends.{WasEmpty, WasFull}
 pub use Rattle.g1_log.specs.declared.ends.Taker.{Taker}
 pub use Rattle.g1_log.specs.declared.line.Line.{Line}
 pub use Rattle.g1_log.specs.declared.parcel.Parcel.{Parcel}

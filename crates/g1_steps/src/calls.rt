@@ -1,6 +1,6 @@
 //! The calls that the steps of a caller make.
 ghost use Rattle.std.specs.Prelude.{◌≡◌, ◌<◌, ◌≤◌, ◌+◌, ◌∷◌, ◌++◌};
-ghost use Rattle.g1_steps.specs.Prelude.{ℕ, Bool, [], List, true, false, length, IfOk, OnErr};
+ghost use Rattle.g1_steps.specs.Prelude.{Bool, [], List, true, false, length, IfOk, OnErr};
 ghost use Rattle.g1_steps.specs.Prelude.{IfSome, IsNone, option_map, Shape, slot_count, card_of};
 ghost use Rattle.g1_steps.specs.Prelude.{IsLent};
 ghost use Rattle.g1_steps.specs.Made.{CallMade, stores, refines};

@@ -1,6 +1,6 @@
 //! How callers begin: with a queue of completed buffers, an empty log for each mutator, and their
 //! ends of the queue.
-ghost use Rattle.std.specs.Prelude.{◌≡◌, ◌+◌, ◌≤◌};
+ghost use Rattle.std.specs.Prelude.{◌≡◌, ◌≤◌};
 ghost use Rattle.g1_steps.specs.{vec_len, vec_capacity, IfOk, All, capacity_of, AreNewSenders};
 ghost use Rattle.g1_steps.specs.{IsNewTaker, AreNewMutators};
 

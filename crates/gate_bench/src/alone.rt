@@ -1,6 +1,5 @@
 //! The same stores by one thread, without a lock: the loop alone, at a core and at a book.
-ghost use Rattle.std.specs.Prelude.{◌≡◌, ◌<◌, ◌≤◌, IsNone};
-ghost use Rattle.g1_history.specs.History.{layout_in};
+ghost use Rattle.std.specs.Prelude.{◌≡◌, ◌<◌, IsNone};
 
 use crate::meter::now;
 use crate::rounds::Rounds;

@@ -2,7 +2,6 @@
 //! it was refused.
 ghost use Rattle.std.specs.Prelude.{◌≡◌, [], IfOk};
 ghost use Rattle.g1_history.specs.Asked.{IsAsked};
-ghost use Rattle.g1_history.specs.History.{opened};
 
 use crate::numbers::{
     Numbers, are_numbered, buffer, card, number_of, numbers_of, place_of, region, slot, small,

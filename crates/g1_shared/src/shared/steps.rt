@@ -1,6 +1,6 @@
 //! The steps of a caller over the locked book, and the pause.
-ghost use Rattle.std.specs.Prelude.{◌≡◌, ◌+◌, ◌*◌, ◌<◌, ◌≤◌, ◌↔◌, ◌++◌, ◌∷◌};
-ghost use Rattle.g1_shared.specs.{ℕ, [], length, IfOk, OnErr, OnOk, IfSome, IsNone, All};
+ghost use Rattle.std.specs.Prelude.{◌≡◌, ◌+◌, ◌*◌, ◌<◌, ◌≤◌, ◌++◌, ◌∷◌};
+ghost use Rattle.g1_shared.specs.{ℕ, [], length, IfOk, OnErr, OnOk, IfSome, All};
 ghost use Rattle.g1_shared.specs.{slice_index_or, true, false, slot_count, card_of, capacity_of};
 ghost use Rattle.g1_shared.specs.{GainsAtMost, Empties, StoresBy, FlushesBy, IsKindAt};
 ghost use Rattle.g1_shared.specs.{CallerState, caller_mark, IsCallerOf, taken_list};

@@ -1,6 +1,6 @@
 //! A crew: workers in threads of their own.
 ghost use Rattle.std.specs.Prelude.{◌≡◌, ◌<◌, ◌≤◌};
-ghost use Rattle.g1_steps.specs.Prelude.{ℕ, [], map, IfOk, IfErr, All, vec_len, vec_capacity};
+ghost use Rattle.g1_steps.specs.Prelude.{[], map, IfOk, IfErr, All, vec_len, vec_capacity};
 ghost use Rattle.g1_steps.specs.Prelude.{AllZip};
 ghost use Rattle.g1_steps.specs.Ask.{JobRan, JobFits};
 

@@ -1,8 +1,8 @@
 //! What a refinement thread does: it takes completed buffers from the queue and refines them, one
 //! or a round of them.
-ghost use Rattle.std.specs.Prelude.{◌≡◌, ◌<◌, ◌≤◌, ◌+◌, ◌^◌, ◌++◌, ◌∷◌};
+ghost use Rattle.std.specs.Prelude.{◌≡◌, ◌<◌, ◌≤◌, ◌+◌, ◌^◌};
 ghost use Rattle.g1_steps.specs.Prelude.{[], true, false, length, vec_len, vec_capacity, IfOk};
-ghost use Rattle.g1_steps.specs.Prelude.{IfErr, OnErr, OnOk, IsTakerOf, IsSameTaker, taken_of};
+ghost use Rattle.g1_steps.specs.Prelude.{IfErr, OnOk, IsTakerOf, IsSameTaker, taken_of};
 ghost use Rattle.g1_steps.specs.Prelude.{capacity_of};
 ghost use Rattle.g1_steps.specs.Steps.{IsRefineStep, IsOfCalls};
 ghost use Rattle.g1_steps.specs.Rounds.{round_size, IsRefused, IsRound, IsWorkStep, IsNextOf};

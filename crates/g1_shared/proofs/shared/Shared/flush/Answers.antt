@@ -1,5 +1,4 @@
 -- The caller's mutator is the one that was lent.
-use Rattle.std.specs.Prelude.{◌≡◌}
 use Rattle.g1_shared.specs.{Some, ap, sym, subst, ◌∙◌, Line, CallerState, FlushesBy}
 use Rattle.std.specs.Option.{option_copied_mut}
 use Rattle.g1_shared.proofs.HelpLemmas.{flushes, lent_caller}

@@ -1,5 +1,4 @@
 -- The kind is that of the store's own call, and the caller's mutator is the one that was lent.
-use Rattle.std.specs.Prelude.{◌≡◌}
 use Rattle.g1_shared.specs.{Some, ap, sym, subst, ◌∙◌, card_of, IfOk, Line, CallerState, StoresBy}
 use Rattle.std.specs.Option.{option_copied_mut}
 use Rattle.g1_shared.proofs.HelpLemmas.{lent_caller, stores}
