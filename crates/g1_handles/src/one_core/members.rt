@@ -1,7 +1,7 @@
 //! The remembered set of a region, as it is recorded.
 ghost use Rattle.std.specs.Prelude.{◌≤◌};
-ghost use Rattle.g1_handles.specs.Prelude.{length, IfOk, IfErr};
-ghost use Rattle.g1_handles.specs.Queries.{Lists, IsListOf, TellsMembers};
+ghost use Rattle.g1_handles.specs.Prelude.{length, IfOk, IfErr, TellsMembers};
+ghost use Rattle.g1_handles.specs.Queries.{Lists, IsListOf};
 ghost use Rattle.g1_handles.specs.Refusals.{AreMembersRefused};
 
 use crate::code::Reason;
