@@ -127,14 +127,6 @@ module _ {F A : Type 0} (h : Once F (MutBor Pause × Unit {0}) (Result A Reason 
   heap_same old new r is so =
       called_same Done old new r (λ p q call. moved (λ x y. y ≡ x) call.shows call.leaves (so call.shown call.left call.met)) is
 
-  -- a call that tells whether it was made, and what it counted
-  pub heap_done : (R : Pause → Pause → Type 0) (old new : Option RacingHeap) (answer : Result A Reason) (word : ℕ) (told : A) (Untold : Type 0)
-      → IsCalled Done old answer new → Tells answer word told Untold
-      → ((p q : MutBor Pause) → h.post f (p, tt) (Ok told, (q, tt)) → R p.now q.now) → word ≡ 0 → IsSameHeap old new R
-  heap_done R old new (Ok a) word told Untold is (done, same) so zero =
-      heap_made R old new told (subst (λ x. IsCalled Done old (Ok x) new) (sym same) is) so
-  heap_done R old new (Err r) word told Untold is (same, more, untold) so zero = absurd (omega (arith, zero, more))
-
   pub heap_tells : (Why : Pause → Reason → Type 0) (old new : Option RacingHeap) (answer : Result A Reason) (word : ℕ) (told : A) (Untold : Type 0)
       → IsCalled Done old answer new → Tells answer word told Untold
       → ((r : Reason) (p q : MutBor Pause) → h.post f (p, tt) (Err r, (q, tt)) → Why p.now r)

@@ -65,10 +65,10 @@ ClearsTo old region reply new =
     MakesStep (λ caller. clear_entry caller region reply) (DoesClear region reply) old new
 
 -- A redirect from one region to another answered this.
-abbrev pub RedirectsTo : Machine → ℕ → ℕ → Redirected → Machine → Type 0
-RedirectsTo old from to answer new =
-    MakesStep (λ caller. redirect_entry caller from to answer) (DoesRedirect from to answer)
-    old new
+pub record RedirectsTo (old : Machine) (from to : ℕ) (answer : Redirected)
+    (new : Machine) : Type 0 where
+  pub made : MakesStep (λ caller. redirect_entry caller from to answer)
+      (DoesRedirect from to answer) old new
 
 -- Nothing but the count of reads has changed.
 abbrev pub AreOnlyRead : Option Machine → Option Machine → Type 0

@@ -1,7 +1,7 @@
 //! Stores.
 ghost use Rattle.std.specs.Prelude.{◌≡◌};
-ghost use Rattle.g1_c.specs.{IfSome, reference_of, IsStoreOf, Between, OfKind, StoresTo};
-ghost use Rattle.g1_c.specs.{LacksPlace, IsCallRefused, TellsRefusal};
+ghost use Rattle.g1_c.specs.{IfSome, reference_of, IsStoreOf};
+ghost use Rattle.g1_c.specs.{Between, OfKind, StoresTo, LacksPlace, IsCallRefused, TellsRefusal};
 
 use crate::calling::on_core;
 use g1_handles::code::{DONE, kind_word};
@@ -18,8 +18,9 @@ pub extern "C" fn g1_store(
     target: u32,
     kind: &mut u32,
 ) -> u32
-    ensures stored { result ≡ 0 → Between handle.old.value handle.new.value (λ old new.
-        OfKind kind.new (λ k. StoresTo old slot (reference_of target) k new)) }
+    ensures stored { result ≡ 0
+        → Between handle.old.value handle.new.value (λ old new. OfKind kind.new (λ k.
+        StoresTo old slot (reference_of target) k new)) }
     ensures taken { IfSome handle.old.value (λ old. IsStoreOf old.state.table.layout slot target
         → result ≡ 0) }
     ensures told { TellsRefusal 0 result handle.old.value handle.new.value (kind.new ≡ 0)
