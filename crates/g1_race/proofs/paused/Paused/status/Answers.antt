@@ -11,10 +11,10 @@ counted_is : (g : _) (c : goal.After-count_pairs-recorded g) → c.count_pairs-r
 counted_is g c = c.count_pairs-recorded.ensures.count ∙ ap (λ (ws : List ℕ). pair_count c.race-race.result.now.shape ws c.race-race.result.now.shape.regions) (ap (λ r. r.start.words) c.count-pending.ensures.same)
 
 pub returns-clause-pending : goal.returns-clause-pending
-returns-clause-pending g c = c.count-pending.ensures.count ∙ (pending_len c.race-race.result.now.shape c.race-race.result.now.layout c.race-race.result.now.laid c.self.inside.reader.start.words (lent_begun c.race-race.ensures c.self.invariant.0.begun) ∙ ap (λ (h : Pause). set.len (table_at h).pending) (lent_view c.race-race.ensures c.self.view_is))
+returns-clause-pending g c = c.count-pending.ensures.count ∙ (pending_len c.race-race.result.now.shape c.race-race.result.now.layout c.race-race.result.now.laid c.self.inside.reader.start.words (lent_begun c.race-race.ensures c.self.invariant.1) ∙ ap (λ (h : Pause). set.len (table_at h).pending) (lent_view c.race-race.ensures c.self.view_is))
 
 pub returns-clause-recorded : goal.returns-clause-recorded
-returns-clause-recorded g c = counted_is g c ∙ (count_is c.race-race.result.now.shape c.race-race.result.now.layout c.race-race.result.now.laid c.self.inside.reader.start.words (lent_begun c.race-race.ensures c.self.invariant.0.begun) ∙ ap (λ (h : Pause). set.len (table_at h).recorded) (lent_view c.race-race.ensures c.self.view_is))
+returns-clause-recorded g c = counted_is g c ∙ (count_is c.race-race.result.now.shape c.race-race.result.now.layout c.race-race.result.now.laid c.self.inside.reader.start.words (lent_begun c.race-race.ensures c.self.invariant.1) ∙ ap (λ (h : Pause). set.len (table_at h).recorded) (lent_view c.race-race.ensures c.self.view_is))
 
 pub returns-clause-step : goal.returns-clause-step
 returns-clause-step g c = λ caller.
