@@ -1,7 +1,9 @@
 -- What a pause lends is the race that it holds.
 use Rattle.std.specs.Prelude.{◌≡◌, ◌<◌}
-use Rattle.g1_race.specs.{ℕ, List, sym, ap, ◌∙◌, subst, arith, slot_count, TableId, Table, RaceShape, IsBegun, started, at_pause_of, race_id, Pause, ended, table_at, table_of, Known, reader_race}
+use Rattle.g1_race.specs.{ℕ, List, sym, ap, ◌∙◌, subst, arith, slot_count, TableId, Table, RaceShape, IsBegun, started, at_pause_of, race_id, Pause, ended, table_at, table_of, Known, reader_race, Writes, words_of}
+use Rattle.std.specs.Borrow.{Bor}
 use Rattle.g1_race.specs.declared.race.Race.{Race}
+use Rattle.g1_race.specs.declared.paused.Writer.{Writer}
 
 pub lent_view : {race held : Race} {words : List ℕ} {logs : List (List ℕ)} {sweepers : ℕ} {pause : Pause} → race ≡ held → at_pause_of held words logs sweepers ≡ pause → at_pause_of race words logs sweepers ≡ pause
 lent_view {words = words} {logs = logs} {sweepers = sweepers} is view = ap (λ (r : Race). at_pause_of r words logs sweepers) is ∙ view
@@ -31,3 +33,16 @@ at_pause {race = race} {pause = pause} change new is view there =
 -- a race can begin with what a reader of it knows
 pub reader_begun : (race : Race) {inside reader : Known} → reader_race reader ≡ race_id race → inside ≡ reader → IsBegun inside.start → IsBegun (started race.shape reader.start.words)
 reader_begun race {reader = reader} of is begun = subst (λ (x : TableId × RaceShape). IsBegun (started x.1 reader.start.words)) of (subst (λ (r : Known). IsBegun r.start) is begun)
+
+-- what a writer of the same race knows
+
+pub by_race : (Holds : RaceShape → Type 0) {here there : Bor Race} → here ≡ there → Holds there.now.shape → Holds here.now.shape
+by_race Holds same = subst (λ (r : Bor Race). Holds r.now.shape) (sym same)
+
+pub begun_on : {here there : Bor Race} {words : List ℕ} → here ≡ there → IsBegun (started there.now.shape words) → IsBegun (started here.now.shape words)
+begun_on {words = words} = by_race (λ heap. IsBegun (started heap words))
+
+-- one step after others that kept the race and the reader
+pub writes_next : {old mid new : Writer} {Next All : RaceShape → List ℕ → List ℕ → Type 0} → mid.race ≡ old.race → mid.reader.ghost_name ≡ old.reader.ghost_name → Writes mid new Next
+    → (Next old.race.now.shape (words_of mid) (words_of new) → All old.race.now.shape (words_of old) (words_of new)) → Writes old new All
+writes_next {mid = mid} {new = new} {Next = Next} race reader next all = record { race = next.race ∙ race; reader = next.reader ∙ reader; begun = begun_on (sym race) next.begun; words = all (by_race (λ heap. Next heap (words_of mid) (words_of new)) (sym race) next.words) }

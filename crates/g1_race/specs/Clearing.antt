@@ -1,8 +1,12 @@
 -- What a clear at a pause does.
 use Rattle.std.specs.Prelude.{◌≡◌, ◌≢◌, ◌/◌, ◌<◌, ◌≤◌}
 use Rattle.g1_race.specs.Prelude.{ℕ, List, Option, Some, None, true, some, get_elem?, RaceShape}
-use Rattle.g1_race.specs.Prelude.{IsPair}
+use Rattle.g1_race.specs.Prelude.{IsPair, mark_word}
 use Rattle.g1_race.specs.Prelude.{HasBit, slot_card, crosses, front, region_at}
+
+-- no card is dirty
+abbrev pub IsClean : RaceShape → List ℕ → Type 0
+IsClean heap words = (c : ℕ) → c < heap.cards → get_elem? words (mark_word heap c) ≡ some 1 → ⊥
 
 -- the slot lies outside the region and refers into it
 abbrev pub Into : RaceShape → List ℕ → ℕ → ℕ → Type 0

@@ -1,7 +1,7 @@
 -- A race at a pause that several threads read.
 use Rattle.std.specs.Prelude.{◌≡◌, ◌≤◌}
 use Rattle.g1_race.specs.Prelude.{ℕ, Option, Some, None, TableId, Table, IsPending, IsRecorded}
-use Rattle.g1_race.specs.Prelude.{RaceShape, Start, IsBegun, started}
+use Rattle.g1_race.specs.Prelude.{RaceShape, Start}
 use Rattle.g1_race.specs.declared.race.Race.{Race}
 use Rattle.g1_race.specs.Members.{race_id}
 use Rattle.g1_race.specs.Over.{Pause, ended, start_at, table_of}
@@ -38,7 +38,6 @@ table_read race reader = table_of (ended race.layout race.shape reader.start.wor
 pub record IsPauseReader (race : Race) (reader : Known) : Type 0 where
   pub here : reader_race reader ≡ race_id race
   pub weight : reader.weight ≡ race.shape.members
-  pub begun : IsBegun (started race.shape reader.start.words)
 
 -- the least pending card at or after `from`
 abbrev pub IsNextPending : Table → ℕ → Option ℕ → Type 0

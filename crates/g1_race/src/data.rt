@@ -5,9 +5,9 @@ ghost use Rattle.g1_race.specs.{race_layout, race_shape, racer_log, racer_race, 
 ghost use Rattle.g1_race.specs.{racer_view, reader_race, StoresDataAt};
 ghost use Rattle.g1_race.specs.Race as racing;
 
-use crate::paused::Paused;
 use crate::paused::holds::HoldsRace;
 use crate::paused::reading::Reader;
+use crate::paused::{Paused, Writer};
 use crate::race::{Race, Racer};
 use g1_layout::Slot;
 
@@ -44,8 +44,8 @@ impl<R: HoldsRace> Paused<R> {
         requires high { 2 ^ 32 ≤ word }
         ensures { StoresDataAt self.old slot word self.new }
     {
-        let race = self.race.race();
-        self.reader.put(race, slot.number() as usize, word);
+        let (race, reader) = (self.race.race(), &mut self.reader);
+        Writer { race, reader }.put(slot.number() as usize, word);
     }
 
     /// Returns a slot's word: 0 for null, the number of the slot that it refers to plus 1, or data

@@ -30,6 +30,7 @@ mod verify;
 mod wipe;
 
 ghost use Rattle.std.specs.Prelude.{◌≡◌, ◌+◌, ◌<◌};
+ghost use Rattle.g1_race.specs.Reading.{IsPauseReader};
 
 use crate::paused::holds::HoldsRace;
 use crate::paused::reading::Reader;
@@ -54,7 +55,7 @@ pub struct Paused<R: HoldsRace = Race> {
 
 impl<R: HoldsRace> Model for Paused<R> {
     ghost use Rattle.std.specs.Prelude.{◌≡◌, ◌+◌};
-    ghost use Rattle.g1_race.specs.Prelude.{map, vec_len};
+    ghost use Rattle.g1_race.specs.Prelude.{map, vec_len, IsBegun, started};
     ghost use Rattle.g1_race.specs.Members.{at_pause_of, racer_log};
     ghost use Rattle.g1_race.specs.Over.{Pause};
     ghost use Rattle.g1_race.specs.Reading.{IsPauseReader};
@@ -66,5 +67,14 @@ impl<R: HoldsRace> Model for Paused<R> {
 
     ghost invariant = { λ a. let race = R.held a.race in
         IsPauseReader race a.reader
+        × IsBegun (started race.shape a.reader.start.words)
         × (vec_len a.racers + vec_len a.sweepers ≡ race.shape.members) };
+}
+
+// A race with its pause's own reader, which has all the weight: what the pause writes with.
+#[derive(Drop)]
+pub(crate) struct Writer<'a> {
+    pub(crate) race: &'a Race,
+    pub(crate) reader: &'a mut Reader,
+    ghost whole: { IsPauseReader race.now reader.now },
 }

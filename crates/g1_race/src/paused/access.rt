@@ -1,14 +1,14 @@
 //! What a pause reads and stores.
 ghost use Rattle.std.specs.Prelude.{◌≡◌, ◌<◌};
 ghost use Rattle.g1_race.specs.{IfSome, slice_set, some, get_elem?, slot_count, card_count};
-ghost use Rattle.g1_race.specs.{kind_of, stored, TellsTarget, TellsPending};
-ghost use Rattle.g1_race.specs.{IsBegun, started, crosses, word_count, shape_of, word_of};
-ghost use Rattle.g1_race.specs.{table_at, WordsBecome, one_word, IsDirtied, IsPauseReader};
-ghost use Rattle.g1_race.specs.{reader_race, race_id, table_read, StoresAt};
+ghost use Rattle.g1_race.specs.{kind_of, stored, TellsTarget, TellsPending, IsBegun, started};
+ghost use Rattle.g1_race.specs.{crosses, word_count, shape_of, word_of, table_at, WordsBecome};
+ghost use Rattle.g1_race.specs.{one_word, IsDirtied, reader_race, race_id, table_read, StoresAt};
+ghost use Rattle.g1_race.specs.{Writes, words_of, heap_of};
 
-use crate::paused::Paused;
 use crate::paused::holds::HoldsRace;
 use crate::paused::reading::Reader;
+use crate::paused::{Paused, Writer};
 use crate::race::Race;
 use crate::word::word_of;
 use g1_layout::{Card, Kind, Layout, Slot};
@@ -42,7 +42,8 @@ impl<R: HoldsRace> Paused<R> {
     {
         let race = self.race.race();
         let kind = self.reader.kind_of(race, &slot, &target);
-        self.reader.store_as(race, slot, target, kind);
+        let reader = &mut self.reader;
+        Writer { race, reader }.store_as(slot, target, kind);
         kind
     }
 }
@@ -68,25 +69,14 @@ impl Reader {
         Kind::Logged
     }
 
-    // Makes a store of this kind.
-    fn store_as(&mut self, race: &Race, slot: Slot, target: Option<Slot>, kind: Kind)
-        requires reader { IsPauseReader race.now self.old }
-        requires slot { slot < slot_count race.now.layout }
-        requires target { IfSome target (λ place. place < slot_count race.now.layout) }
-        requires kind { kind ≡ kind_of (table_read race.now self.old) slot target }
-        ensures reader { IsPauseReader race.now self.new }
-        ensures words { WordsBecome (one_word slot (word_of target)) race.now.shape
-            self.old.start.words self.new.start.words }
-        ensures table { table_read race.now self.new
-            ≡ stored (table_read race.now self.old) slot target }
+    // Says that a race can begin with the words.
+    #[inline(always)]
+    #[tactic(auto, using(crate::proofs::reader_begun))]
+    pub(crate) fn begun(&self, race: &Race)
+        requires { reader_race self.now ≡ race_id race.now }
+        ensures { IsBegun (started race.now.shape self.now.start.words) }
     {
-        let (number, word) = (slot.number() as usize, word_of(target));
-        let Kind::Logged = kind else {
-            self.put(race, number, word);
-            return;
-        };
-        self.dirty(race, race.layout.card_of(slot).number() as usize);
-        self.put(race, number, word);
+        let _seat = &self.seat;
     }
 
     // Reads a word, which is what the reader knows it to be.
@@ -99,29 +89,49 @@ impl Reader {
     {
         race.table.see(&mut self.seat, word)
     }
+}
+
+impl Writer<'_> {
+    // Makes a store of this kind.
+    fn store_as(&mut self, slot: Slot, target: Option<Slot>, kind: Kind)
+        requires slot { slot < slot_count self.old.race.now.layout }
+        requires target { IfSome target (λ place. place < slot_count self.old.race.now.layout) }
+        requires kind { kind
+            ≡ kind_of (table_read self.old.race.now self.old.reader.now) slot target }
+        ensures words { Writes self.old self.new (WordsBecome (one_word slot (word_of target))) }
+        ensures table { let race = self.old.race.now in table_read race self.new.reader.now
+            ≡ stored (table_read race self.old.reader.now) slot target }
+    {
+        self.reader.begun(self.race);
+        let (number, word) = (slot.number() as usize, word_of(target));
+        let Kind::Logged = kind else {
+            self.put(number, word);
+            return;
+        };
+        self.dirty(self.race.layout.card_of(slot).number() as usize);
+        self.put(number, word);
+    }
 
     // Writes a word, where the words keep what each beginning has.
-    pub(crate) fn put(&mut self, race: &Race, word: usize, new: u64)
-        requires reader { IsPauseReader race.now self.old }
-        requires word { word < word_count race.now.shape }
-        requires begun { IsBegun (started race.now.shape
-            (slice_set self.old.start.words word new)) }
-        ensures reader { IsPauseReader race.now self.new }
-        ensures words { self.new.start.words ≡ slice_set self.old.start.words word new }
+    pub(crate) fn put(&mut self, word: usize, new: u64)
+        requires word { word < word_count (heap_of self.old) }
+        requires begun { IsBegun
+            (started (heap_of self.old) (slice_set (words_of self.old) word new)) }
+        ensures { Writes self.old self.new
+            (λ heap before after. after ≡ slice_set before word new) }
     {
-        race.table.put(&mut self.seat, word, new);
+        let reader = &mut *self.reader;
+        self.race.table.put(&mut reader.seat, word, new);
     }
 
     // Dirties a card, whose flag is set before.
-    pub(crate) fn dirty(&mut self, race: &Race, card: usize)
-        requires reader { IsPauseReader race.now self.old }
-        requires card { card < race.now.shape.cards }
-        ensures reader { IsPauseReader race.now self.new }
-        ensures dirtied { IsDirtied race.now.shape self.old.start.words
-            self.new.start.words card }
+    pub(crate) fn dirty(&mut self, card: usize)
+        requires { card < (heap_of self.old).cards }
+        ensures { Writes self.old self.new (λ heap old new. IsDirtied heap old new card) }
     {
-        self.set_bit(race, card / 8 * 8, race.shape.regions);
-        self.put(race, race.shape.slots + card, 1);
+        let race = self.race;
+        self.set_bit(card / 8 * 8, race.shape.regions);
+        self.put(race.shape.slots + card, 1);
     }
 }
 

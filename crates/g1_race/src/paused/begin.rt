@@ -2,12 +2,11 @@
 ghost use Rattle.std.specs.Prelude.{◌≡◌, ◌+◌, ◌<◌, ◌≤◌};
 ghost use Rattle.g1_race.specs.{ℕ, [], IfOk, All, replicate, some, get_elem?, IsPairOf, In, IsPair};
 ghost use Rattle.g1_race.specs.{IsOfCrossing, mark_word, null_of, shape_of, table_at, start_at};
-ghost use Rattle.g1_race.specs.{Notes, AreCovered, AreMarked, ArePlaced, IsSame, IsPauseReader};
+ghost use Rattle.g1_race.specs.{Notes, AreCovered, AreMarked, ArePlaced, IsSame, Writes, words_of};
+ghost use Rattle.g1_race.specs.{heap_of};
 ghost use Rattle.std.specs.FinSet as set;
 
-use crate::paused::Paused;
-use crate::paused::reading::Reader;
-use crate::race::Race;
+use crate::paused::{Paused, Writer};
 use crate::word::word_of;
 use g1_core::Core;
 use g1_layout::{Card, NoMemory, Region};
@@ -55,66 +54,66 @@ impl Paused {
         ensures same { IsSame core.old core.new }
     {
         let _layout = core.layout();
-        self.reader.place_pairs(&self.race, pairs);
-        self.reader.place_marks(&self.race, core);
-        self.reader.place_slots(&self.race, core);
+        let (race, reader) = (&self.race, &mut self.reader);
+        let mut writer = Writer { race, reader };
+        writer.place_pairs(pairs);
+        writer.place_marks(core);
+        writer.place_slots(core);
     }
 }
 
-impl Reader {
+impl Writer<'_> {
     // Sets the bits of these pairs.
-    fn place_pairs(&mut self, race: &Race, pairs: &[(Card, Region)])
-        requires reader { IsPauseReader race.now self.old }
-        requires pairs { (x : ℕ × ℕ) → In pairs.now x →
-            IsPair race.now.shape x × IsOfCrossing race.now.shape x }
-        ensures reader { IsPauseReader race.now self.new }
-        ensures notes { Notes race.now.shape self.old.start.words self.new.start.words
-            pairs.now }
+    fn place_pairs(&mut self, pairs: &[(Card, Region)])
+        requires { let heap = heap_of self.old in
+            (x : ℕ × ℕ) → In pairs.now x → IsPair heap x × IsOfCrossing heap x }
+        ensures { Writes self.old self.new (λ heap old new. Notes heap old new pairs.now) }
     {
+        self.reader.begun(self.race);
         for pair in pairs {
-            self.set_bit(race, pair.0.number() as usize, pair.1.number() as usize);
+            self.set_bit(pair.0.number() as usize, pair.1.number() as usize);
         }
     }
 
     // Dirties the cards that are pending in the core.
-    fn place_marks(&mut self, race: &Race, core: &Core)
-        requires reader { IsPauseReader race.now self.old }
-        requires layout { race.now.layout ≡ core.now.state.table.layout }
-        requires clean { (c : ℕ) → c < race.now.shape.cards →
-            get_elem? self.old.start.words (mark_word race.now.shape c) ≡ some 0 }
-        ensures reader { IsPauseReader race.now self.new }
-        ensures marks { AreMarked race.now.shape core.now.state.table self.old.start.words
-            self.new.start.words race.now.shape.cards }
+    fn place_marks(&mut self, core: &Core)
+        requires layout { self.old.race.now.layout ≡ core.now.state.table.layout }
+        requires clean { let heap = heap_of self.old in (c : ℕ) → c < heap.cards →
+            get_elem? (words_of self.old) (mark_word heap c) ≡ some 0 }
+        ensures { Writes self.old self.new (λ heap old new.
+            AreMarked heap core.now.state.table old new heap.cards) }
     {
+        let race = self.race;
+        self.reader.begun(race);
         for number in 0..race.shape.cards {
             let Some(card) = race.layout.card(number as u32) else {
                 unreachable!()
             };
             if core.is_pending(card) {
-                self.dirty(race, number);
+                self.dirty(number);
             }
         }
     }
 
     // Writes the core's references.
-    fn place_slots(&mut self, race: &Race, core: &mut Core)
-        requires reader { IsPauseReader race.now self.old }
-        requires layout { race.now.layout ≡ core.old.state.table.layout }
-        requires null { (p : ℕ) → p < race.now.shape.slots →
-            get_elem? self.old.start.words p ≡ some 0 }
-        requires covered { AreCovered race.now.shape core.old.state.table self.old.start.words }
-        ensures reader { IsPauseReader race.now self.new }
-        ensures slots { ArePlaced race.now.shape core.old.state.table self.old.start.words
-            self.new.start.words race.now.shape.slots }
+    fn place_slots(&mut self, core: &mut Core)
+        requires layout { self.old.race.now.layout ≡ core.old.state.table.layout }
+        requires null { (p : ℕ) → p < (heap_of self.old).slots →
+            get_elem? (words_of self.old) p ≡ some 0 }
+        requires covered { AreCovered (heap_of self.old) core.old.state.table (words_of self.old) }
+        ensures slots { Writes self.old self.new (λ heap old new.
+            ArePlaced heap core.old.state.table old new heap.slots) }
         ensures same { IsSame core.old core.new }
     {
+        let race = self.race;
+        self.reader.begun(race);
         for number in 0..race.shape.slots {
             let Some(slot) = race.layout.slot(number as u32) else {
                 unreachable!()
             };
             let word = word_of(core.target(slot));
             if word != 0 {
-                self.put(race, number, word);
+                self.put(number, word);
             }
         }
     }

@@ -1,14 +1,14 @@
 //! The clear at a pause: it empties a region's remembered set, once no reference enters the region.
-ghost use Rattle.std.specs.Prelude.{◌≡◌, ◌≢◌, ◌+◌, ◌*◌, ◌<◌, ◌≤◌, ◌↔◌};
-ghost use Rattle.g1_race.specs.{ℕ, IsTrue, true, some, get_elem?, IsWholeShape, crosses, mark_word};
-ghost use Rattle.g1_race.specs.{region_at, Into, IsLeastInto, IsLeastOfCard, IsEmptied};
-ghost use Rattle.g1_race.specs.{IsPauseReader, ClearsAt};
+ghost use Rattle.std.specs.Prelude.{◌≡◌, ◌+◌, ◌*◌, ◌<◌, ◌≤◌, ◌↔◌};
+ghost use Rattle.g1_race.specs.{ℕ, IsTrue, true, IsWholeShape, crosses, region_at, Into};
+ghost use Rattle.g1_race.specs.{IsLeastInto, IsLeastOfCard, IsEmptied, ClearsAt, Writes, words_of};
+ghost use Rattle.g1_race.specs.{IsClean, reader_race, race_id, heap_of};
 
 use crate::bits::bit_of;
-use crate::paused::Paused;
 use crate::paused::holds::HoldsRace;
 use crate::paused::next::Sought;
 use crate::paused::reading::Reader;
+use crate::paused::{Paused, Writer};
 use crate::race::Race;
 use crate::word::is_reference;
 use g1_core::ClearReply;
@@ -27,19 +27,19 @@ impl<R: HoldsRace> Paused<R> {
         ensures { ClearsAt self.old region result self.new }
     {
         let race = self.race.race();
-        let layout = race.layout;
         let number = region.number() as usize;
         let pending = self.reader.count(race, Sought::Dirty);
         if pending > 0 {
             return ClearReply::Pending(pending as u32);
         }
         if let Some(slot) = self.reader.entering(race, number) {
-            let Some(slot) = layout.slot(slot as u32) else {
+            let Some(slot) = race.layout.slot(slot as u32) else {
                 unreachable!()
             };
             return ClearReply::StillReferenced(slot);
         }
-        self.reader.empty_row(race, number);
+        let reader = &mut self.reader;
+        Writer { race, reader }.empty_row(number);
         ClearReply::Cleared
     }
 }
@@ -48,13 +48,13 @@ impl Reader {
     // The least slot outside the region that refers into it: on a card of the region's set, since
     // no card is dirty.
     fn entering(&mut self, race: &Race, region: usize) -> Option<usize>
-        requires reader { IsPauseReader race.now self.old }
+        requires reader { reader_race self.old ≡ race_id race.now }
         requires region { region < race.now.shape.regions }
-        requires clean { (c : ℕ) → c < race.now.shape.cards
-            → get_elem? self.old.start.words (mark_word race.now.shape c) ≡ some 1 → ⊥ }
+        requires clean { IsClean race.now.shape self.old.start.words }
         ensures least { IsLeastInto race.now.shape self.old.start.words region result }
         ensures same { self.new ≡ self.old }
     {
+        self.begun(race);
         let mut from = 0;
         while let Some(card) = self.next_in_row(race, from, race.shape.cards, region) {
             if let Some(slot) = self.entering_on(race, card, region) {
@@ -67,7 +67,7 @@ impl Reader {
 
     // The least slot of the card that lies outside the region and refers into it.
     fn entering_on(&mut self, race: &Race, card: usize, region: usize) -> Option<usize>
-        requires reader { IsPauseReader race.now self.old }
+        requires reader { reader_race self.old ≡ race_id race.now }
         requires card { card < race.now.shape.cards }
         ensures least { IsLeastOfCard race.now.shape self.old.start.words card region result }
         ensures same { self.new ≡ self.old }
@@ -82,23 +82,24 @@ impl Reader {
         }
         None
     }
+}
 
+impl Writer<'_> {
     // Clears the bits of all pairs of the region, or in the row of flags all flags.
-    pub(crate) fn empty_row(&mut self, race: &Race, region: usize)
-        requires reader { IsPauseReader race.now self.old }
-        requires region { region ≤ race.now.shape.regions }
-        requires none { (p : ℕ) → Into race.now.shape self.old.start.words region p → ⊥ }
-        requires clean { region ≡ race.now.shape.regions → (c : ℕ) → c < race.now.shape.cards →
-            get_elem? self.old.start.words (mark_word race.now.shape c) ≡ some 1 → ⊥ }
-        ensures reader { IsPauseReader race.now self.new }
-        ensures emptied { IsEmptied race.now.shape self.old.start.words self.new.start.words
-            region race.now.shape.row }
+    pub(crate) fn empty_row(&mut self, region: usize)
+        requires region { region ≤ (heap_of self.old).regions }
+        requires none { (p : ℕ) → Into (heap_of self.old) (words_of self.old) region p → ⊥ }
+        requires clean { let heap = heap_of self.old in
+            region ≡ heap.regions → IsClean heap (words_of self.old) }
+        ensures { Writes self.old self.new
+            (λ heap old new. IsEmptied heap old new region heap.row) }
     {
-        let shape = race.shape;
+        self.reader.begun(self.race);
+        let shape = self.race.shape;
         let (first, _) = bit_of(shape, 0, region);
         for i in 0..shape.row {
-            if self.see(race, first + i) != 0 {
-                self.put(race, first + i, 0);
+            if self.reader.see(self.race, first + i) != 0 {
+                self.put(first + i, 0);
             }
         }
     }

@@ -4,14 +4,13 @@ ghost use Rattle.g1_race.specs.{ℕ, [], IfOk, OnErr, length, map, replicate, ve
 ghost use Rattle.g1_race.specs.{IsStrictlyIncreasing, slot_count, card_count, IsStep, drain_cards};
 ghost use Rattle.g1_race.specs.{drain_entry, drain_refined, IsOfCrossing, IsWord, slot_card};
 ghost use Rattle.g1_race.specs.{pair_at, racer_log, table_at, Notes, RefinesCard, AreRefined};
-ghost use Rattle.g1_race.specs.{AreUnflagged, IsWhole};
-ghost use Rattle.g1_race.specs.{IsExactAtPause, IsPauseReader, Refines};
+ghost use Rattle.g1_race.specs.{AreUnflagged, IsWhole, IsExactAtPause, Refines, Writes, words_of};
+ghost use Rattle.g1_race.specs.{heap_of};
 
 use crate::bits::bit_of;
-use crate::paused::Paused;
 use crate::paused::holds::HoldsRace;
-use crate::paused::reading::Reader;
-use crate::race::{Race, Racer};
+use crate::paused::{Paused, Writer};
+use crate::race::Racer;
 use crate::word::pair_at;
 use g1_core::{CardList, Drained};
 use g1_layout::{NoMemory, Region};
@@ -61,80 +60,75 @@ impl<R: HoldsRace> Paused<R> {
         ensures bits { AreRefined self.old.shape self.old.words self.new.words
             self.old.shape.cards }
     {
-        let race = self.race.race();
-        self.reader.refine_cards(race);
+        let (race, reader) = (self.race.race(), &mut self.reader);
+        Writer { race, reader }.refine_cards();
         clear_logs(&mut self.racers);
     }
 }
 
-impl Reader {
+impl Writer<'_> {
     // Refines the dirty cards. No flag is set then.
     #[tactic(auto, using(crate::proofs::unflagged))]
-    pub(crate) fn refine_cards(&mut self, race: &Race)
-        requires reader { IsPauseReader race.now self.old }
-        ensures reader { IsPauseReader race.now self.new }
-        ensures refined { AreRefined race.now.shape self.old.start.words self.new.start.words
-            race.now.shape.cards }
-        ensures flags { AreUnflagged race.now.shape self.new.start.words }
+    pub(crate) fn refine_cards(&mut self)
+        ensures refined { Writes self.old self.new
+            (λ heap old new. AreRefined heap old new heap.cards) }
+        ensures flags { AreUnflagged (heap_of self.old) (words_of self.new) }
     {
+        let race = self.race;
+        self.reader.begun(race);
         let mut from = 0;
-        while let Some(card) = self.next_marked(race, from) {
-            self.refine_card(race, card);
+        while let Some(card) = self.reader.next_marked(race, from) {
+            self.refine_card(card);
             from = card + 1;
         }
-        self.empty_row(race, race.shape.regions);
+        self.empty_row(race.shape.regions);
     }
 
     // Records the pairs of the card's references, and cleans it.
-    fn refine_card(&mut self, race: &Race, card: usize)
-        requires reader { IsPauseReader race.now self.old }
-        requires card { card < race.now.shape.cards }
-        ensures reader { IsPauseReader race.now self.new }
-        ensures refined { RefinesCard race.now.shape self.old.start.words
-            self.new.start.words card }
+    fn refine_card(&mut self, card: usize)
+        requires { card < (heap_of self.old).cards }
+        ensures { Writes self.old self.new (λ heap old new. RefinesCard heap old new card) }
     {
-        let shape = race.shape;
+        self.reader.begun(self.race);
+        let shape = self.race.shape;
         for i in 0..shape.size {
             let slot = card * shape.size + i;
-            let word = self.see(race, slot);
-            self.note_slot(race, card, slot, word);
+            let word = self.reader.see(self.race, slot);
+            self.note_slot(card, slot, word);
         }
-        self.put(race, shape.slots + card, 0);
+        self.put(shape.slots + card, 0);
     }
 
     // Records the pair of the word of one of the card's slots, if it refers into another region.
-    fn note_slot(&mut self, race: &Race, card: usize, slot: usize, word: u64)
-        requires slot { slot < slot_count race.now.layout }
-        requires card { card ≡ slot_card race.now.shape slot }
-        requires word { IsWord race.now.shape word }
-        requires reader { IsPauseReader race.now self.old }
-        ensures reader { IsPauseReader race.now self.new }
-        ensures notes { Notes race.now.shape self.old.start.words self.new.start.words
-            (pair_at race.now.shape slot word) }
+    fn note_slot(&mut self, card: usize, slot: usize, word: u64)
+        requires slot { slot < slot_count self.old.race.now.layout }
+        requires card { card ≡ slot_card (heap_of self.old) slot }
+        requires word { IsWord (heap_of self.old) word }
+        ensures { Writes self.old self.new
+            (λ heap old new. Notes heap old new (pair_at heap slot word)) }
     {
-        if let Some((card, region)) = pair_at(race, card, slot, word) {
-            self.set_bit(race, card, region);
+        self.reader.begun(self.race);
+        if let Some((card, region)) = pair_at(self.race, card, slot, word) {
+            self.set_bit(card, region);
         }
     }
 
     // Makes sure that the bit of the pair is set, or in the row of flags the card's flag.
     #[tactic(auto, using(crate::proofs::of_a_bit))]
-    pub(crate) fn set_bit(&mut self, race: &Race, card: usize, region: usize)
-        requires reader { IsPauseReader race.now self.old }
-        requires card { card < race.now.shape.cards }
-        requires row { region ≤ race.now.shape.regions }
-        requires proper { region < race.now.shape.regions →
-            IsOfCrossing race.now.shape (card, region) }
-        ensures reader { IsPauseReader race.now self.new }
-        ensures notes { Notes race.now.shape self.old.start.words self.new.start.words
-            ((card, region) ∷ []) }
+    pub(crate) fn set_bit(&mut self, card: usize, region: usize)
+        requires card { card < (heap_of self.old).cards }
+        requires row { region ≤ (heap_of self.old).regions }
+        requires proper { region < (heap_of self.old).regions →
+            IsOfCrossing (heap_of self.old) (card, region) }
+        ensures { Writes self.old self.new
+            (λ heap old new. Notes heap old new ((card, region) ∷ [])) }
     {
-        let (at, index) = bit_of(race.shape, card, region);
-        let found = self.see(race, at);
+        let (at, index) = bit_of(self.race.shape, card, region);
+        let found = self.reader.see(self.race, at);
         if (found >> index) & 1 == 1 {
             return;
         }
-        self.put(race, at, found | (1 << index));
+        self.put(at, found | (1 << index));
     }
 }
 

@@ -37,14 +37,14 @@ impl Reader {
 
     // A card at or after `from`, and none between the two is dirty: the first of the next eight
     // that have their flag set, or `from` itself where it is not the first of its eight.
-    #[tactic(auto, using(crate::proofs::skips_none, crate::proofs::reader_begun))]
+    #[tactic(auto, using(crate::proofs::skips_none))]
     fn next_flagged(&mut self, race: &Race, from: usize) -> Option<usize>
         requires { reader_race self.old ≡ race_id race.now }
         ensures next { let words = self.old.start.words in
             SkipsNone (is_marked race.now.shape words) race.now.shape.cards from result }
         ensures same { self.new ≡ self.old }
     {
-        let _seat = &self.seat;
+        self.begun(race);
         if from % 8 == 0 {
             return self.next_in_row(race, from, race.shape.cards, race.shape.regions);
         }

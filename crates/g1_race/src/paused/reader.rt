@@ -51,7 +51,7 @@ impl Reader {
         ensures has { IsTrue result ↔ IsRecorded (table_read race.now self.old) card region }
         ensures same { self.new ≡ self.old }
     {
-        let _seat = &self.seat;
+        self.begun(race);
         let (card, region) = (card.number() as usize, region.number() as usize);
         if card >= race.shape.cards {
             return false;
@@ -79,7 +79,7 @@ impl Reader {
         ensures few { IfOk result (λ cards. length cards ≤ card_count (race_layout race.now)) }
         ensures same { self.new ≡ self.old }
     {
-        let _seat = &self.seat;
+        self.begun(race);
         let sought = Sought::Of(region.number() as usize);
         let count = self.count(race, sought);
         let mut cards = Vec::with_capacity(alloc, count)?;
@@ -98,7 +98,7 @@ impl Reader {
         ensures dirty { IsNextPending (table_read race.now self.old) from result }
         ensures same { self.new ≡ self.old }
     {
-        let _seat = &self.seat;
+        self.begun(race);
         let Some(card) = self.next_marked(race, from as usize) else {
             return None;
         };
@@ -116,7 +116,7 @@ impl Reader {
         ensures within { IfSome result (λ card. card < card_count (race_layout race.now)) }
         ensures same { self.new ≡ self.old }
     {
-        let _seat = &self.seat;
+        self.begun(race);
         let number = region.number() as usize;
         let Some(card) = self.next_in_row(race, from as usize, race.shape.cards, number) else {
             return None;

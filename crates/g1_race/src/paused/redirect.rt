@@ -2,17 +2,15 @@
 //! the region's remembered set.
 ghost use Rattle.std.specs.Prelude.{◌≡◌, ◌≢◌, ◌*◌, ◌<◌, ◌≤◌};
 ghost use Rattle.g1_race.specs.{ℕ, IfOk, OnErr, true, some, get_elem?, redirect_refined, moved};
-ghost use Rattle.g1_race.specs.{moved_count, IsStrictlyIncreasing, crosses, mark_word, region_at};
-ghost use Rattle.g1_race.specs.{table_at, Moved, marked_cards, AreMoved, AreMovedAway, into_count};
-ghost use Rattle.g1_race.specs.{word_after, IsSameRace, SlotsBecome, AreUnflagged, IsPauseReader};
-ghost use Rattle.g1_race.specs.{Redirects};
+ghost use Rattle.g1_race.specs.{moved_count, IsStrictlyIncreasing, crosses, region_at, table_at};
+ghost use Rattle.g1_race.specs.{Moved, marked_cards, AreMoved, AreMovedAway, into_count};
+ghost use Rattle.g1_race.specs.{word_after, IsSameRace, SlotsBecome, AreUnflagged, Redirects};
+ghost use Rattle.g1_race.specs.{Writes, words_of, IsClean, heap_of};
 ghost use Rattle.std.specs.FinSet as set;
 
-use crate::paused::Paused;
 use crate::paused::clear::enters;
 use crate::paused::holds::HoldsRace;
-use crate::paused::reading::Reader;
-use crate::race::Race;
+use crate::paused::{Paused, Writer};
 use g1_core::{CardList, Redirected};
 use g1_layout::{NoMemory, Region};
 use std::alloc::Global;
@@ -81,59 +79,57 @@ impl<R: HoldsRace> Paused<R> {
         ensures moved { table_at self.new ≡ moved from to (table_at self.old) }
         ensures count { result ≡ moved_count from (table_at self.old) }
     {
-        let race = self.race.race();
+        let (race, reader) = (self.race.race(), &mut self.reader);
         let (from, to) = (from.number() as usize, to.number() as usize);
-        self.reader.move_references(race, from, to)
+        Writer { race, reader }.move_references(from, to)
     }
 }
 
-impl Reader {
+impl Writer<'_> {
     // Moves the references into the region, empties its row of bits, and returns how many slots
     // have changed. No card is dirty.
     #[tactic(auto, using(crate::proofs::passed_count))]
-    fn move_references(&mut self, race: &Race, from: usize, to: usize) -> u32
-        requires reader { IsPauseReader race.now self.old }
-        requires from { from < race.now.shape.regions }
-        requires to { to < race.now.shape.regions }
+    fn move_references(&mut self, from: usize, to: usize) -> u32
+        requires from { from < (heap_of self.old).regions }
+        requires to { to < (heap_of self.old).regions }
         requires apart { from ≢ to }
-        requires clean { (c : ℕ) → c < race.now.shape.cards →
-            get_elem? self.old.start.words (mark_word race.now.shape c) ≡ some 1 → ⊥ }
-        ensures reader { IsPauseReader race.now self.new }
-        ensures moved { AreMovedAway race.now.shape self.old.start.words
-            self.new.start.words from to }
-        ensures count { let words = self.old.start.words in
-            result ≡ into_count race.now.shape words from 0 race.now.shape.slots }
+        requires clean { IsClean (heap_of self.old) (words_of self.old) }
+        ensures moved { Writes self.old self.new
+            (λ heap old new. AreMovedAway heap old new from to) }
+        ensures count { let heap = heap_of self.old in
+            result ≡ into_count heap (words_of self.old) from 0 heap.slots }
     {
+        let race = self.race;
+        self.reader.begun(race);
         let mut count = 0;
         let mut next = 0;
-        while let Some(card) = self.next_in_row(race, next, race.shape.cards, from) {
-            count += self.move_on(race, card, from, to);
+        while let Some(card) = self.reader.next_in_row(race, next, race.shape.cards, from) {
+            count += self.move_on(card, from, to);
             next = card + 1;
         }
-        self.empty_row(race, from);
+        self.empty_row(from);
         count as u32
     }
 
     // Moves the references into the region of a card's slots, and returns how many have changed.
-    fn move_on(&mut self, race: &Race, card: usize, from: usize, to: usize) -> usize
-        requires reader { IsPauseReader race.now self.old }
-        requires card { card < race.now.shape.cards }
-        requires to { to < race.now.shape.regions }
+    fn move_on(&mut self, card: usize, from: usize, to: usize) -> usize
+        requires card { card < (heap_of self.old).cards }
+        requires to { to < (heap_of self.old).regions }
         requires apart { from ≢ to }
-        ensures reader { IsPauseReader race.now self.new }
-        ensures moved { AreMoved race.now.shape self.old.start.words self.new.start.words
-            from to (card * race.now.shape.size) race.now.shape.size }
-        ensures count { result ≡ into_count race.now.shape self.old.start.words from
-            (card * race.now.shape.size) race.now.shape.size }
-        ensures few { result ≤ race.now.shape.size }
+        ensures moved { Writes self.old self.new (λ heap old new.
+            AreMoved heap old new from to (card * heap.size) heap.size) }
+        ensures count { let heap = heap_of self.old in
+            result ≡ into_count heap (words_of self.old) from (card * heap.size) heap.size }
+        ensures few { result ≤ (heap_of self.old).size }
     {
-        let shape = race.shape;
+        self.reader.begun(self.race);
+        let shape = self.race.shape;
         let mut count = 0;
         for i in 0..shape.size {
             let slot = card * shape.size + i;
-            let word = self.see(race, slot);
+            let word = self.reader.see(self.race, slot);
             if enters(shape, slot, word, from) {
-                self.move_slot(race, slot, word, to);
+                self.move_slot(slot, word, to);
                 count += 1;
             }
         }
@@ -141,23 +137,22 @@ impl Reader {
     }
 
     // Moves the reference of a slot, which has this word, to the region.
-    fn move_slot(&mut self, race: &Race, slot: usize, word: u64, to: usize)
-        requires reader { IsPauseReader race.now self.old }
-        requires slot { slot < race.now.shape.slots }
-        requires to { to < race.now.shape.regions }
-        requires word { get_elem? self.old.start.words slot ≡ some word }
-        requires across { crosses race.now.shape slot word ≡ true }
-        ensures reader { IsPauseReader race.now self.new }
-        ensures moved { AreMoved race.now.shape self.old.start.words self.new.start.words
-            (region_at race.now.shape word) to slot 1 }
+    fn move_slot(&mut self, slot: usize, word: u64, to: usize)
+        requires slot { slot < (heap_of self.old).slots }
+        requires to { to < (heap_of self.old).regions }
+        requires word { get_elem? (words_of self.old) slot ≡ some word }
+        requires across { crosses (heap_of self.old) slot word ≡ true }
+        ensures { Writes self.old self.new
+            (λ heap old new. AreMoved heap old new (region_at heap word) to slot 1) }
     {
-        let shape = race.shape;
+        self.reader.begun(self.race);
+        let shape = self.race.shape;
         let moved = (to * shape.span + (word as usize - 1) % shape.span + 1) as u64;
         if slot / shape.span == to {
-            self.put(race, slot, moved);
+            self.put(slot, moved);
             return;
         }
-        self.set_bit(race, slot / shape.size, to);
-        self.put(race, slot, moved);
+        self.set_bit(slot / shape.size, to);
+        self.put(slot, moved);
     }
 }

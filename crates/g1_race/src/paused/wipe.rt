@@ -1,11 +1,10 @@
 //! A region is freed: its slots are nulled.
 ghost use Rattle.std.specs.Prelude.{◌≡◌, ◌⊎◌, ◌+◌, ◌*◌, ◌<◌, ◌≤◌};
-ghost use Rattle.g1_race.specs.{ℕ, some, get_elem?, wiped, IsPauseReader, table_read, Wipes};
+ghost use Rattle.g1_race.specs.{ℕ, some, get_elem?, wiped, table_read, Wipes, Writes, words_of};
+ghost use Rattle.g1_race.specs.{heap_of};
 
-use crate::paused::Paused;
 use crate::paused::holds::HoldsRace;
-use crate::paused::reading::Reader;
-use crate::race::Race;
+use crate::paused::{Paused, Writer};
 use g1_layout::Region;
 
 impl<R: HoldsRace> Paused<R> {
@@ -16,28 +15,27 @@ impl<R: HoldsRace> Paused<R> {
         requires { region < self.old.layout.regions }
         ensures { Wipes self.old region self.new }
     {
-        self.reader
-            .wipe_slots(self.race.race(), region.number() as usize);
+        let (race, reader) = (self.race.race(), &mut self.reader);
+        Writer { race, reader }.wipe_slots(region.number() as usize);
     }
 }
 
-impl Reader {
+impl Writer<'_> {
     // Stores null into each slot of the region.
-    fn wipe_slots(&mut self, race: &Race, region: usize)
-        requires reader { IsPauseReader race.now self.old }
-        requires region { region < race.now.shape.regions }
-        ensures reader { IsPauseReader race.now self.new }
-        ensures table { table_read race.now self.new
-            ≡ wiped region (table_read race.now self.old) }
-        ensures null { (i : ℕ) → i < race.now.shape.span
-            → get_elem? self.new.start.words (region * race.now.shape.span + i) ≡ some 0 }
-        ensures other { let first = region * race.now.shape.span in (p : ℕ) →
-            (p < first) ⊎ (first + race.now.shape.span ≤ p) →
-            get_elem? self.new.start.words p ≡ get_elem? self.old.start.words p }
+    fn wipe_slots(&mut self, region: usize)
+        requires { region < (heap_of self.old).regions }
+        ensures table { let race = self.old.race.now in table_read race self.new.reader.now
+            ≡ wiped region (table_read race self.old.reader.now) }
+        ensures null { Writes self.old self.new (λ heap old new. (i : ℕ) → i < heap.span
+            → get_elem? new (region * heap.span + i) ≡ some 0) }
+        ensures other { let span = (heap_of self.old).span in
+            let first = region * span in (p : ℕ) → (p < first) ⊎ (first + span ≤ p) →
+            get_elem? (words_of self.new) p ≡ get_elem? (words_of self.old) p }
     {
-        let first = region * race.shape.span;
-        for i in 0..race.shape.span {
-            self.put(race, first + i, 0);
+        self.reader.begun(self.race);
+        let first = region * self.race.shape.span;
+        for i in 0..self.race.shape.span {
+            self.put(first + i, 0);
         }
     }
 }

@@ -1,7 +1,7 @@
 -- The cards from the first of the region on are the region's.
 use Rattle.std.proofs.Common.{arith, rules}
 use Rattle.std.specs.Prelude.{◌≢◌}
-use Rattle.g1_race.specs.{ℕ, sym, ◌∙◌, subst, region_of, Crosses, forgotten, Pause, table_at}
+use Rattle.g1_race.specs.{ℕ, sym, ◌∙◌, subst, region_of, Crosses, forgotten, Pause, table_at, words_of}
 use Rattle.g1_race.proofs.{front_words, held_table, lent_begun, lent_region, lent_view}
 use Rattle.g1_race.proofs.ForgottenTable.{closed_words, forgotten_is}
 use Rattle.g1_race.proofs.paused.Paused.forget.Goals as goal
@@ -16,10 +16,10 @@ forget_cards-requires-clause-closed g c =
 pub returns : goal.returns
 returns g c =
     let race = c.race-race.result.now in
-    let new = c.forget_cards.new.self.start.words in
+    let new = (words_of c.forget_cards.new.self) in
     record {
       race = search rules;
       words = grind (arith, front_words, lent_view);
       table = sym (held_table new c.race-race.ensures) ∙ (forgotten_is race.shape race.layout race.laid race.shaped c.number.result (lent_region c.race-race.ensures c.self.view_is c.number.ensures c.requires.region) c.self.inside.reader.start.words new
-          (lent_begun c.race-race.ensures c.self.invariant.0.begun) c.forget_cards.ensures.reader.begun c.forget_cards.ensures.unset ∙ (λ i. forgotten (c.number.ensures i) (table_at ((lent_view c.race-race.ensures c.self.view_is) i))));
+          (lent_begun c.race-race.ensures c.self.invariant.1) c.forget_cards.ensures.begun c.forget_cards.ensures.words ∙ (λ i. forgotten (c.number.ensures i) (table_at ((lent_view c.race-race.ensures c.self.view_is) i))));
     }

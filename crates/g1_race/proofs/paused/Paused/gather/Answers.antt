@@ -9,4 +9,4 @@ returns-clause-members g c =
     let words = c.self.inside.reader.start.words in
     subst (λ (cs : List ℕ). AreMembers (table_at c.args.self.now) c.args.region cs) (sym c.list.ensures.cards)
     (subst (λ (h : Pause). AreMembers (table_at h) c.args.region (member_cards race.shape words c.number.result)) (lent_view c.race.ensures c.self.view_is)
-    (members_are race.shape race.layout race.laid words c.args.region c.number.result (lent_begun c.race.ensures c.self.invariant.0.begun) c.number.ensures (lent_region c.race.ensures c.self.view_is c.number.ensures c.requires.region)))
+    (members_are race.shape race.layout race.laid words c.args.region c.number.result (lent_begun c.race.ensures c.self.invariant.1) c.number.ensures (lent_region c.race.ensures c.self.view_is c.number.ensures c.requires.region)))

@@ -47,7 +47,7 @@ pub invariant_of-result : goal.invariant_of-result
 invariant_of-result g c = let is = paused g c in (is_reader _ _ c.freeze.new.seat is.here, omega (arith, is.all, (g.R.HoldsRace.held c.args.race).some))
 
 pub invariant_of-result-2 : goal.invariant_of-result-2
-invariant_of-result-2 g c = (is_pause_reader (g.R.HoldsRace.held c.args.race) c.freeze.new.seat (paused g c), omega (arith, c.join_racers.ensures.len, c.join_sweepers.ensures.len, c.requires.racers.0))
+invariant_of-result-2 g c = (is_pause_reader (g.R.HoldsRace.held c.args.race) c.freeze.new.seat (paused g c), (paused g c).here.begun, omega (arith, c.join_racers.ensures.len, c.join_sweepers.ensures.len, c.requires.racers.0))
 
 begun_is : (g : _) (c : goal.After-freeze g) → IsBegun (started (g.R.HoldsRace.held c.args.race).shape c.freeze.new.seat.me.0.began_words)
 begun_is g c = (paused g c).here.begun

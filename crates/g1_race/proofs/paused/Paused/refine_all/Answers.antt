@@ -1,6 +1,6 @@
 use Rattle.std.proofs.Common.{arith, rules}
 use Rattle.std.proofs.lemmas.Grind.{common_steps}
-use Rattle.g1_race.specs.{subst, Table, Pause, ended, table_at, table_of, AreAllRefined, marked_cards}
+use Rattle.g1_race.specs.{subst, Table, Pause, ended, table_at, table_of, AreAllRefined, marked_cards, words_of}
 use Rattle.g1_race.proofs.{all_refined, held_table, lent_begun, lent_view}
 use Rattle.g1_race.proofs.paused.Paused.refine_all.Goals as goal
 
@@ -9,8 +9,8 @@ returns-clause-did g c =
     let race = c.race-race.result.now in
     let k = race.shape in
     let old = c.self.inside.reader.start.words in
-    let new = c.refine_cards.new.self.start.words in
-    let all = all_refined k race.layout race.laid old new (lent_begun c.race-race.ensures c.self.invariant.0.begun) c.refine_cards.ensures.reader.begun c.refine_cards.ensures.refined in
+    let new = (words_of c.refine_cards.new.self) in
+    let all = all_refined k race.layout race.laid old new (lent_begun c.race-race.ensures c.self.invariant.1) c.refine_cards.ensures.refined.begun c.refine_cards.ensures.refined.words in
     record {
       race = grind (arith, common_steps);
       words = search rules;

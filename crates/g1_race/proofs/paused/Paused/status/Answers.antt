@@ -13,7 +13,7 @@ pub returns-clause-told : goal.returns-clause-told
 returns-clause-told g c =
     let race = c.race-race.result.now in
     let words = c.self.inside.reader.start.words in
-    let begun = lent_begun c.race-race.ensures c.self.invariant.0.begun in
+    let begun = lent_begun c.race-race.ensures c.self.invariant.1 in
     let view = lent_view c.race-race.ensures c.self.view_is in
     let pending = c.count-pending.ensures.count ∙ (pending_len race.shape race.layout race.laid words begun ∙ ap (λ (h : Pause). set.len (table_at h).pending) view) in
     let recorded = counted_is g c ∙ (count_is race.shape race.layout race.laid words begun ∙ ap (λ (h : Pause). set.len (table_at h).recorded) view) in

@@ -1,6 +1,6 @@
 use Rattle.std.proofs.Common.{rules}
 use Rattle.std.specs.Prelude.{◌≡◌}
-use Rattle.g1_race.specs.{sym, ap, ◌∙◌, Table, kind_of, stored, ended, table_at, table_of}
+use Rattle.g1_race.specs.{sym, ap, ◌∙◌, Table, kind_of, stored, ended, table_at, table_of, words_of}
 use Rattle.g1_race.proofs.{held_table, lent_view, store_step}
 use Rattle.g1_race.proofs.paused.Paused.store.Goals as goal
 
@@ -16,5 +16,5 @@ returns g c =
       table = search rules;
       step = λ caller. store_step (table_at c.args.self.now) _ caller c.args.slot c.args.target c.kind_of-kind.result c.requires.slot c.requires.target
           (c.kind_of-kind.ensures.kind ∙ ap (λ (t : Table). kind_of t c.args.slot c.args.target) was)
-          (sym (held_table c.store_as.new.self.start.words c.race-race.ensures) ∙ (c.store_as.ensures.table ∙ ap (λ (t : Table). stored t c.args.slot c.args.target) seen));
+          (sym (held_table (words_of c.store_as.new.self) c.race-race.ensures) ∙ (c.store_as.ensures.table ∙ ap (λ (t : Table). stored t c.args.slot c.args.target) seen));
     }

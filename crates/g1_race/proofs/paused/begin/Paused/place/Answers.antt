@@ -10,8 +10,8 @@ use Rattle.g1_race.proofs.paused.begin.Paused.place.Goals as goal
 null_words : (h i : Pause) → h ≡ i → start_at i ≡ null_of i.shape → h.words ≡ zeros (word_count h.shape)
 null_words h i e null = ap (λ (x : Pause). x.words) e ∙ (ap (λ (b : Start). b.words) null ∙ ap (λ (x : Pause). (null_of x.shape).words) (sym e))
 
-pub place_pairs-requires-clause-pairs : goal.place_pairs-requires-clause-pairs
-place_pairs-requires-clause-pairs c =
+pub place_pairs-requires : goal.place_pairs-requires
+place_pairs-requires c =
     let race = c.self.inside.race in
     listed_cross race.layout race.shape c.args.pairs.now race.laid race.shaped (subst (λ (l : layout.Shape). All (IsPairOf l) c.args.pairs.now) (sym (ap (λ (h : Pause). h.layout) c.self.view_is ∙ c.requires.layout)) c.requires.within)
 
