@@ -13,5 +13,5 @@ returns-clause-told c =
     let race = c.args.race.now in
     let words = c.args.self.now.start.words in
     let members = subst (λ (cs : List ℕ). AreMembers (table_of (ended race.layout race.shape words)) c.args.region cs) (sym (cards_are c))
-        (members_are race.shape race.layout race.laid words c.args.region c.number.result c.begun.ensures c.number.ensures (omega (arith, c.requires.region, c.number.ensures, ap (λ (s : RaceShape). s.regions) race.laid))) in
+    (members_are race.shape race.layout race.laid words c.args.region c.number.result c.begun.ensures c.number.ensures (omega (arith, c.requires.region, c.number.ensures, ap (λ (s : RaceShape). s.regions) race.laid))) in
     record { members = members; step = λ caller. members_step caller (table_read race c.args.self.now) c.args.region c.of.result c.requires.region members }
