@@ -11,10 +11,8 @@ loop-i-preserved c =
     let race = c.args.self.now.race.now in
     let k = race.shape in
     let i = c.loop-i.invariant in
-    let old = words_of c.args.self.now in
-    let mid = words_of c.loop-i.self in
-    let from = c.args.from in
-    let to = c.args.to in
+    let old = words_of c.args.self.now in let mid = words_of c.loop-i.self in
+    let from = c.args.from in let to = c.args.to in
     let first : ℕ = c.args.card * k.size in
     let p : ℕ = first + c.loop-i.i in
     let n = c.see-word.result in

@@ -33,8 +33,7 @@ loop-number-preserved c =
     let k = race.shape in
     let t = c.args.core.now.state.table in
     let i = c.loop-number.invariant in
-    let old = words_of c.args.self.now in
-    let mid = words_of c.loop-number.self in
+    let old = words_of c.args.self.now in let mid = words_of c.loop-number.self in
     let n = c.loop-number.number in
     let is = word ((goal.at.loop-number-preserved c).After-word_of-word) in
     let same : IsSame c.args.core.now c.target.new.self = record { state = ap (λ (m : Machine). m.state) c.target.ensures.did.machine ∙ i.same.state; settings = ap (λ (m : Machine). m.settings) c.target.ensures.did.machine ∙ i.same.settings } in

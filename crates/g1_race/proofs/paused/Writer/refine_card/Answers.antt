@@ -12,9 +12,7 @@ pub loop-i-preserved : goal.loop-i-preserved
 loop-i-preserved c =
     let k = heap_of c.args.self.now in
     let i = c.loop-i.invariant in
-    let old = words_of c.args.self.now in
-    let mid = words_of c.loop-i.self in
-    let new = words_of c.note_slot.new.self in
+    let old = words_of c.args.self.now in let mid = words_of c.loop-i.self in let new = words_of c.note_slot.new.self in
     let p : ℕ = c.args.card * k.size + c.loop-i.i in
     let lt : p < k.slots = below ((goal.at.loop-i-preserved c).In-loop-i) in
     let same = ap (λ r. r.start.words) c.see-word.ensures.same in

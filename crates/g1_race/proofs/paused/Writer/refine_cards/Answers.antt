@@ -8,10 +8,7 @@ pub loop-card-preserved : goal.loop-card-preserved
 loop-card-preserved c =
     let k = heap_of c.args.self.now in
     let i = c.loop-card.invariant in
-    let old = words_of c.args.self.now in
-    let n = c.in-Some.card in
-    let mid = words_of c.loop-card.self in
-    let new = words_of c.refine_card.new.self in
+    let old = words_of c.args.self.now in let n = c.in-Some.card in let mid = words_of c.loop-card.self in let new = words_of c.refine_card.new.self in
     let next = c.in-Some.ensures.next in
     let same = ap (λ r. r.start.words) c.next_marked.ensures.same in
     record {
@@ -42,7 +39,6 @@ empty_row-requires-clause-clean c e =
 
 pub returns-clause-refined : goal.returns-clause-refined
 returns-clause-refined c =
-    let k = heap_of c.args.self.now in
-    let new = words_of c.empty_row.new.self in
+    let k = heap_of c.args.self.now in let new = words_of c.empty_row.new.self in
     writes_next c.loop-card.invariant.refined.race c.loop-card.invariant.refined.reader c.empty_row.ensures (λ emptied.
     refined_emptied k (words_of c.args.self.now) (words_of c.loop-card.self) new k.cards (all ((goal.at.returns-clause-refined c).In_default)) (subst (λ (l : List ℕ). IsEmptied k l new k.regions k.row) (ap (λ r. r.start.words) c.next_marked.ensures.same) emptied))
