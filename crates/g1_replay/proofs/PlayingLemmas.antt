@@ -1,6 +1,6 @@
 -- Lines that were played: one, and one after another.
 use Rattle.std.specs.Prelude.{◌≡◌, ◌≢◌, ◌+◌, ◌∷◌, ◌++◌, ◌<◌, ◌≤◌, ◌⊎◌}
-use Rattle.g1_replay.specs.{ℕ, List, [], refl, sym, ap, subst, ◌∙◌, append_assoc, append-nil, take, drop, length, Option, Some, None, true, arith, Bool, Result, Ok, Err, IfErr, OnOk, Consumes, take-take, drop-take, take-append-drop, Shape, Command, Dialect, puts_none, puts_then, Stop, Fault, NoMemory, BookFull, WriteFailed, IsUndone, Does, MayStop, Follows, FollowsFront, PlaysFirst, Writes, written_by, IsReadStop, Reads, more_may_come}
+use Rattle.g1_replay.specs.{ℕ, List, [], refl, sym, ap, subst, ◌∙◌, append_assoc, append-nil, take, drop, length, Option, Some, None, true, arith, Bool, Result, Ok, Err, IfErr, OnOk, Consumes, take-take, drop-take, take-append-drop, Shape, Command, Dialect, puts_none, puts_then, Stop, Fault, NoMemory, BookFull, WriteFailed, IsUndone, Does, MayStop, Follows, FollowsFront, PlaysFirst, Writes, written_by, IsReadStop, IsOfTrace, Reads, ReadsBehind, Commands, more_may_come}
 use Rattle.g1_replay.proofs.ReadingLemmas.{reads_none, reads_then}
 
 -- nothing to be done
@@ -48,46 +48,51 @@ does_then did full then old mid new out out' out2 cs ds r p q = record {
 }
 
 -- no line
-pub follows_none : {S : Type 0} (did : S → List Command → List ℕ → S → Type 0) (full : S → Type 0) (d : Dialect) (l : Shape) (n : ℕ) (s : S) (rd out : Option (List ℕ)) → did s [] [] s
-    → Follows did full d l n n s s rd rd out out (Ok true)
-follows_none did full d l n s rd out none = record { commands = []; read = reads_none d (Some l) n rd; done = does_none did full s out (Ok true) none (λ e. cc) }
+pub follows_none : {S : Type 0} (did : S → List Command → List ℕ → S → Type 0) (full : S → Type 0) (a : Commands) (s : S) (rd out : Option (List ℕ)) → did s [] [] s
+    → Follows did full a a s s rd rd out out (Ok true)
+follows_none did full a s rd out none = record { commands = []; read = reads_none a.dialect (Some a.layout) a.source.now.number rd; done = does_none did full s out (Ok true) none (λ e. cc) }
 
 pub follows_then : {S : Type 0} (did : S → List Command → List ℕ → S → Type 0) (full : S → Type 0)
     (then : (s t u : S) (cs ds : List Command) (xs ys : List ℕ) → did s cs xs t → did t ds ys u → did s (cs ++ ds) (xs ++ ys) u)
-    (d : Dialect) (l : Shape) (n n' n2 : ℕ) (old mid new : S) (rd rd' rd2 out out' out2 : Option (List ℕ)) (r : Result Bool Stop)
-    → Follows did full d l n n' old mid rd rd' out out' (Ok true) → Follows did full d l n' n2 mid new rd' rd2 out' out2 r → Follows did full d l n n2 old new rd rd2 out out2 r
-follows_then did full then d l n n' n2 old mid new rd rd' rd2 out out' out2 r p q = record {
-  commands = p.commands ++ q.commands;
-  read = reads_then d (Some l) (Some l) (Some l) n n' n2 rd rd' rd2 p.commands q.commands r p.read q.read;
-  done = does_then did full then old mid new out out' out2 p.commands q.commands r p.done q.done;
-}
+    (a a' a2 : Commands) (old mid new : S) (rd rd' rd2 out out' out2 : Option (List ℕ)) (r : Result Bool Stop) → IsOfTrace a a'
+    → Follows did full a a' old mid rd rd' out out' (Ok true) → Follows did full a' a2 mid new rd' rd2 out' out2 r → Follows did full a a2 old new rd rd2 out out2 r
+follows_then did full then a a' a2 old mid new rd rd' rd2 out out' out2 r same p q =
+    let n' = a'.source.now.number in
+    let n2 = a2.source.now.number in
+    let heap = Some a.layout in
+    let read = subst (λ (d : Dialect). Reads d heap n' n2 rd' rd2 heap q.commands r) same.2 (subst (λ (l : Shape). Reads a'.dialect (Some l) n' n2 rd' rd2 (Some l) q.commands r) same.1 q.read) in
+    record {
+      commands = p.commands ++ q.commands;
+      read = reads_then a.dialect heap heap heap a.source.now.number n' n2 rd rd' rd2 p.commands q.commands r p.read read;
+      done = does_then did full then old mid new out out' out2 p.commands q.commands r p.done q.done;
+    }
 
 -- a line without a command, or the end of the input
-pub line_passed : {S : Type 0} (did : S → List Command → List ℕ → S → Type 0) (full : S → Type 0) (d : Dialect) (l : Shape) (n n' : ℕ) (s : S) (rd rd' out : Option (List ℕ)) (more : Bool) → did s [] [] s
-    → Reads d (Some l) n n' rd rd' (Some l) [] (Ok more) → Follows did full d l n n' s s rd rd' out out (Ok more)
-line_passed did full d l n n' s rd rd' out more none read = record { commands = []; read = read; done = does_none did full s out (Ok more) none (λ e. cc) }
+pub line_passed : {S : Type 0} (did : S → List Command → List ℕ → S → Type 0) (full : S → Type 0) (a a' : Commands) (s : S) (rd rd' out : Option (List ℕ)) (more : Bool) → did s [] [] s
+    → ReadsBehind a a' rd rd' [] (Ok more) → Follows did full a a' s s rd rd' out out (Ok more)
+line_passed did full a a' s rd rd' out more none read = record { commands = []; read = read; done = does_none did full s out (Ok more) none (λ e. cc) }
 
 -- a line that stopped the reading
-pub line_unread : {S : Type 0} (did : S → List Command → List ℕ → S → Type 0) (full : S → Type 0) (d : Dialect) (l : Shape) (n n' : ℕ) (s : S) (rd rd' out : Option (List ℕ)) (stop : Stop) → did s [] [] s → IsReadStop stop
-    → Reads d (Some l) n n' rd rd' (Some l) [] (Err stop) → Follows did full d l n n' s s rd rd' out out (Err stop)
-line_unread did full d l n n' s rd rd' out stop none h read = record { commands = []; read = read; done = does_none did full s out (Err stop) none (λ e. let same : stop ≡ BookFull = cc in subst IsReadStop same h) }
+pub line_unread : {S : Type 0} (did : S → List Command → List ℕ → S → Type 0) (full : S → Type 0) (a a' : Commands) (s : S) (rd rd' out : Option (List ℕ)) (stop : Stop) → did s [] [] s → IsReadStop stop
+    → ReadsBehind a a' rd rd' [] (Err stop) → Follows did full a a' s s rd rd' out out (Err stop)
+line_unread did full a a' s rd rd' out stop none h read = record { commands = []; read = read; done = does_none did full s out (Err stop) none (λ e. let same : stop ≡ BookFull = cc in subst IsReadStop same h) }
 
-pub line_stopped : {S : Type 0} (did : S → List Command → List ℕ → S → Type 0) (full : S → Type 0) (d : Dialect) (l : Shape) (n n' : ℕ) (c : Command) (old new : S) (rd rd' out out' : Option (List ℕ)) (stop : Stop) → MayStop stop
-    → Reads d (Some l) n n' rd rd' (Some l) (c ∷ []) (Ok true) → Does did full (c ∷ []) old new out out' (Err stop) → Follows did full d l n n' old new rd rd' out out' (Err stop)
-line_stopped did full d l n n' c old new rd rd' out out' stop h read done = record { commands = c ∷ []; read = table_at d l n n' c rd rd' stop h read; done = done }
+pub line_stopped : {S : Type 0} (did : S → List Command → List ℕ → S → Type 0) (full : S → Type 0) (a a' : Commands) (c : Command) (old new : S) (rd rd' out out' : Option (List ℕ)) (stop : Stop) → MayStop stop
+    → ReadsBehind a a' rd rd' (c ∷ []) (Ok true) → Does did full (c ∷ []) old new out out' (Err stop) → Follows did full a a' old new rd rd' out out' (Err stop)
+line_stopped did full a a' c old new rd rd' out out' stop h read done = record { commands = c ∷ []; read = table_at a a' c rd rd' stop h read; done = done }
   where
-    table_at : (d : Dialect) (l : Shape) (n n' : ℕ) (c : Command) (rd rd' : Option (List ℕ)) (stop : Stop) → MayStop stop → Reads d (Some l) n n' rd rd' (Some l) (c ∷ []) (Ok true) → Reads d (Some l) n n' rd rd' (Some l) (c ∷ []) (Err stop)
-    table_at d l n n' c rd rd' NoMemory h read = record { lines = read.lines; rest = read.rest; consumed = read.consumed; passed = read.passed; met = read.met }
-    table_at d l n n' c rd rd' BookFull h read = record { lines = read.lines; rest = read.rest; consumed = read.consumed; passed = read.passed; met = read.met }
-    table_at d l n n' c rd rd' WriteFailed h read = record { lines = read.lines; rest = read.rest; consumed = read.consumed; passed = read.passed; met = read.met }
-    table_at d l n n' c rd rd' stop h read = absurd h
+    table_at : (a a' : Commands) (c : Command) (rd rd' : Option (List ℕ)) (stop : Stop) → MayStop stop → ReadsBehind a a' rd rd' (c ∷ []) (Ok true) → ReadsBehind a a' rd rd' (c ∷ []) (Err stop)
+    table_at a a' c rd rd' NoMemory h read = record { lines = read.lines; rest = read.rest; consumed = read.consumed; passed = read.passed; met = read.met }
+    table_at a a' c rd rd' BookFull h read = record { lines = read.lines; rest = read.rest; consumed = read.consumed; passed = read.passed; met = read.met }
+    table_at a a' c rd rd' WriteFailed h read = record { lines = read.lines; rest = read.rest; consumed = read.consumed; passed = read.passed; met = read.met }
+    table_at a a' c rd rd' stop h read = absurd h
 
 -- a command that was played, or stopped
-pub line_done : {S : Type 0} (did : S → List Command → List ℕ → S → Type 0) (full : S → Type 0) (stops : Stop → Type 0) (may : (stop : Stop) → stops stop → MayStop stop) (d : Dialect) (l : Shape) (n n' : ℕ) (c : Command) (old new : S)
-    (rd rd' out out' : Option (List ℕ)) (r : Result (Unit {0}) Stop) → IfErr r stops → Reads d (Some l) n n' rd rd' (Some l) (c ∷ []) (Ok true) → Does did full (c ∷ []) old new out out' (more_may_come r)
-    → Follows did full d l n n' old new rd rd' out out' (more_may_come r)
-line_done did full stops may d l n n' c old new rd rd' out out' (Ok u) h read done = record { commands = c ∷ []; read = read; done = done }
-line_done did full stops may d l n n' c old new rd rd' out out' (Err stop) h read done = line_stopped did full d l n n' c old new rd rd' out out' stop (may stop h) read done
+pub line_done : {S : Type 0} (did : S → List Command → List ℕ → S → Type 0) (full : S → Type 0) (stops : Stop → Type 0) (may : (stop : Stop) → stops stop → MayStop stop) (a a' : Commands) (c : Command) (old new : S)
+    (rd rd' out out' : Option (List ℕ)) (r : Result (Unit {0}) Stop) → IfErr r stops → ReadsBehind a a' rd rd' (c ∷ []) (Ok true) → Does did full (c ∷ []) old new out out' (more_may_come r)
+    → Follows did full a a' old new rd rd' out out' (more_may_come r)
+line_done did full stops may a a' c old new rd rd' out out' (Ok u) h read done = record { commands = c ∷ []; read = read; done = done }
+line_done did full stops may a a' c old new rd rd' out out' (Err stop) h read done = line_stopped did full a a' c old new rd rd' out out' stop (may stop h) read done
 
 -- bytes that were taken one part after the other
 consumes_apart : (a c : Option (List ℕ)) (xs ys : List ℕ) → Consumes a c (xs ++ ys) → (b : Option (List ℕ)) × Consumes a b xs × Consumes b c ys
@@ -100,19 +105,19 @@ take_then n m xs =
     ap (λ w. w ++ take m (drop n xs)) (sym (take-take n (n + m) xs (omega arith))) ∙ ap (λ w. take n (take (n + m) xs) ++ w) (sym (drop-take n m xs)) ∙ take-append-drop n (take (n + m) xs)
 
 -- lines at the front of what is shown: none, and then more
-pub front_none : {S : Type 0} (did : S → List Command → List ℕ → S → Type 0) (full : S → Type 0) (d : Dialect) (l : Shape) (n : ℕ) (s : S) (shown : List ℕ) (out : Option (List ℕ)) → did s [] [] s
-    → FollowsFront did full d l n n s s (take 0 shown) out out (Ok true)
-front_none did full d l n s shown out none = λ rd rd' moved. line_passed did full d l n n s rd rd' out true none (record { lines = []; rest = []; consumed = moved; passed = λ x. refl; met = refl })
+pub front_none : {S : Type 0} (did : S → List Command → List ℕ → S → Type 0) (full : S → Type 0) (a : Commands) (s : S) (shown : List ℕ) (out : Option (List ℕ)) → did s [] [] s
+    → FollowsFront did full a a s s (take 0 shown) out out (Ok true)
+front_none did full a s shown out none = λ rd rd' moved. line_passed did full a a s rd rd' out true none (record { lines = []; rest = []; consumed = moved; passed = λ x. refl; met = refl })
 
 pub front_then : {S : Type 0} (did : S → List Command → List ℕ → S → Type 0) (full : S → Type 0)
     (then : (s t u : S) (cs ds : List Command) (xs ys : List ℕ) → did s cs xs t → did t ds ys u → did s (cs ++ ds) (xs ++ ys) u)
-    (d : Dialect) (l : Shape) (n n' n2 k m : ℕ) (old mid new : S) (shown left : List ℕ) (out out' out2 : Option (List ℕ)) (r : Result Bool Stop) → left ≡ drop k shown
-    → FollowsFront did full d l n n' old mid (take k shown) out out' (Ok true) → FollowsFront did full d l n' n2 mid new (take m left) out' out2 r → FollowsFront did full d l n n2 old new (take (k + m) shown) out out2 r
-front_then did full then d l n n' n2 k m old mid new shown left out out' out2 r e p q = λ rd rd2 moved.
+    (a a' a2 : Commands) (k m : ℕ) (old mid new : S) (shown left : List ℕ) (out out' out2 : Option (List ℕ)) (r : Result Bool Stop) → left ≡ drop k shown → IsOfTrace a a'
+    → FollowsFront did full a a' old mid (take k shown) out out' (Ok true) → FollowsFront did full a' a2 mid new (take m left) out' out2 r → FollowsFront did full a a2 old new (take (k + m) shown) out out2 r
+front_then did full then a a' a2 k m old mid new shown left out out' out2 r e same p q = λ rd rd2 moved.
     let apart = consumes_apart rd rd2 (take k shown) (take m left) (subst (Consumes rd rd2) (sym (take_then k m shown) ∙ ap (λ w. take k shown ++ take m w) (sym e)) moved) in
-    follows_then did full then d l n n' n2 old mid new rd apart.0 rd2 out out' out2 r (p rd apart.0 apart.1) (q apart.0 rd2 apart.2)
+    follows_then did full then a a' a2 old mid new rd apart.0 rd2 out out' out2 r same (p rd apart.0 apart.1) (q apart.0 rd2 apart.2)
 
 -- a line that was there as a whole
-pub first_played : {S : Type 0} (did : S → List Command → List ℕ → S → Type 0) (full : S → Type 0) (Stops : Stop → Type 0) (Takes : S → Shape → Dialect → Type 0) (d : Dialect) (l : Shape) (n n' : ℕ) (old new : S) (bytes : List ℕ) (out out' : Option (List ℕ)) (k : ℕ) (r : Result (Unit {0}) Stop)
-    → FollowsFront did full d l n n' old new (take k bytes) out out' (more_may_come r) → (0 < k) × (k ≤ length bytes) → n' ≤ n + 1 → IfErr r (λ stop. IsReadStop stop ⊎ Stops stop) → OnOk r (Takes new l d) → PlaysFirst did full Stops Takes d l n n' old new bytes out out' (Some (k, r))
-first_played did full Stops Takes d l n n' old new bytes out out' k r followed within counted stops takes = record { followed = followed; within = within; counted = counted; stops = stops; takes = takes; none = λ e. cc }
+pub first_played : {S : Type 0} (did : S → List Command → List ℕ → S → Type 0) (full : S → Type 0) (Stops : Stop → Type 0) (Takes : S → Shape → Dialect → Type 0) (a a' : Commands) (old new : S) (bytes : List ℕ) (out out' : Option (List ℕ)) (k : ℕ) (r : Result (Unit {0}) Stop)
+    → FollowsFront did full a a' old new (take k bytes) out out' (more_may_come r) → IsOfTrace a a' → a'.source.now.reads ≡ a.source.now.reads → (0 < k) × (k ≤ length bytes) → a'.source.now.number ≤ a.source.now.number + 1 → IfErr r (λ stop. IsReadStop stop ⊎ Stops stop) → OnOk r (Takes new a'.layout a'.dialect) → PlaysFirst did full Stops Takes a a' old new bytes out out' (Some (k, r))
+first_played did full Stops Takes a a' old new bytes out out' k r followed same reads within counted stops takes = record { same = same; reads = reads; followed = followed; within = within; counted = counted; stops = stops; takes = takes; none = λ e. cc }

@@ -1,6 +1,6 @@
 -- From what was read and played to the text of a permitted run.
 use Rattle.std.specs.Prelude.{◌≡◌, ◌≢◌, ◌≤◌, ◌++◌, ◌⊎◌}
-use Rattle.g1_replay.specs.{Bool, ℕ, List, [], refl, length, sym, ap, ◌∙◌, subst, arith, Option, Some, None, true, Result, Ok, Err, IfErr, IfSome, IfNone, Shape, Settings, opening, Entry, IsPermitted, History, IsHistory, BookTerms, layout_in, Command, Dialect, Options, Stop, Fault, NoMemory, BookFull, NoThread, Told, WritesSome, written_by, puts_none, ⊎_elim, end_met, AreSetBy, entries_of, IsOpened, IsBookFull, HasPlayed, Follows, MayStop, Writes, IsReadStop, Reads}
+use Rattle.g1_replay.specs.{Bool, ℕ, List, [], refl, length, sym, ap, ◌∙◌, subst, arith, Option, Some, None, true, Result, Ok, Err, IfErr, IfSome, IfNone, Shape, Settings, opening, Entry, IsPermitted, History, IsHistory, BookTerms, layout_in, Command, Dialect, Options, Stop, Fault, NoMemory, BookFull, NoThread, Told, WritesSome, written_by, puts_none, ⊎_elim, end_met, AreSetBy, entries_of, IsOpened, IsBookFull, HasPlayed, Follows, MayStop, Writes, IsReadStop, Reads, Commands}
 use Rattle.g1_replay.proofs.PlayingLemmas.{none_undone}
 use Rattle.g1_replay.proofs.ReadingLemmas.{reads_then}
 
@@ -55,23 +55,24 @@ starts_none : (r : Result (Unit {0}) Stop) → IfErr r (λ stop. IsReadStop stop
 starts_none r h e = ⊎_elim (λ x. x) (λ x. x) (subst (λ r. IfErr r (λ stop. IsReadStop stop ⊎ MayStop stop)) e h)
 
 -- what was read and played behind the header is the text of a permitted run
-pub played_told : {S : Type 0} (book_of : S → History) (d : Dialect) (o : Options) (n n1 n' : ℕ) (l : Shape) (old new : S) (rd rd1 rd' out out' : Option (List ℕ)) (r : Result (Unit {0}) Stop)
-    → IsOpened l o (book_of old) → Reads d None n n1 rd rd1 (Some l) [] (Ok true)
-    → Follows (λ s cs text t. HasPlayed (book_of s) cs text (book_of t)) (λ s. IsBookFull (book_of s)) d l n1 n' old new rd1 rd' out out' (end_met r) → IfErr r (λ stop. IsReadStop stop ⊎ MayStop stop) → IsHistory (book_of new)
-    → WritesSome (Told d o.config o.history n n' rd rd') out out' r
-played_told book_of d o n n1 n' l old new rd rd1 rd' out out' r is head f stops h =
+pub played_told : {S : Type 0} (book_of : S → History) (o : Options) (n n' : ℕ) (a a' : Commands) (old new : S) (rd rd1 rd' out out' : Option (List ℕ)) (r : Result (Unit {0}) Stop)
+    → a'.source.now.number ≡ n' → IsOpened a.layout o (book_of old) → Reads a.dialect None n a.source.now.number rd rd1 (Some a.layout) [] (Ok true)
+    → Follows (λ s cs text t. HasPlayed (book_of s) cs text (book_of t)) (λ s. IsBookFull (book_of s)) a a' old new rd1 rd' out out' (end_met r) → IfErr r (λ stop. IsReadStop stop ⊎ MayStop stop) → IsHistory (book_of new)
+    → WritesSome (Told a.dialect o.config o.history n n' rd rd') out out' r
+played_told book_of o n n' a a' old new rd rd1 rd' out out' r at_end is head f stops h =
     let p = f.done.made in
     let es : (book_of new).entries ≡ entries_of p.pieces = p.grows.entries ∙ ap (λ (h : History). h.entries ++ entries_of p.pieces) is in
     let most : (book_of new).limit ≡ o.history = ap (λ (t : BookTerms). t.limit) p.grows.terms ∙ ap (λ (h : History). h.limit) is in
-    let shape : layout_in (book_of new) ≡ l = ap (λ (t : BookTerms). t.layout) p.grows.terms ∙ ap layout_in is in (
+    let shape : layout_in (book_of new) ≡ a.layout = ap (λ (t : BookTerms). t.layout) p.grows.terms ∙ ap layout_in is in (
       f.done.text,
       record {
-        heap = Some l;
+        heap = Some a.layout;
         commands = f.commands;
         done = f.done.done;
         undone = f.done.undone;
         ends = starts_none r stops;
-        read = reads_then d None (Some l) (Some l) n n1 n' rd rd1 rd' [] f.commands (end_met r) head f.read;
+        read = reads_then a.dialect None (Some a.layout) (Some a.layout) n a.source.now.number n' rd rd1 rd' [] f.commands (end_met r) head
+            (subst (λ (k : ℕ). Reads a.dialect (Some a.layout) a.source.now.number k rd1 rd' (Some a.layout) f.commands (end_met r)) at_end f.read);
         all = f.done.all;
         stopped = f.done.stopped;
         unopened = tt;
@@ -80,7 +81,7 @@ played_told book_of d o n n1 n' l old new rd rd1 rd' out out' r is head f stops 
           walked = p.walked;
           set = subst (λ (h : History). AreSetBy h.machine.settings f.done.done p.pieces) is p.set;
           unopened = tt;
-          permitted = subst (λ (xs : List Entry). IsPermitted (opening l) xs) es (subst (λ (s : Shape). IsPermitted (opening s) (book_of new).entries) shape h.run);
+          permitted = subst (λ (xs : List Entry). IsPermitted (opening a.layout) xs) es (subst (λ (s : Shape). IsPermitted (opening s) (book_of new).entries) shape h.run);
           said = p.said;
         };
         within = subst (λ (xs : List Entry). length xs ≤ o.history) es (subst (λ (k : ℕ). length (book_of new).entries ≤ k) most h.within);

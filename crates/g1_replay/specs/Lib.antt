@@ -36,6 +36,7 @@ pub use declared.end.End.TheVariants.{Refused, Whole}
 pub use declared.lines.line.Byte.{Byte}
 pub use declared.lines.line.Part.{Part}
 pub use declared.lines.line.Part.TheVariants.{Failed, More, Nothing}
+pub use declared.lines.source.Commands.{Commands}
 pub use declared.races.desk.Member.{Member}
 pub use declared.races.desk.Member.TheVariants.{Racing, Sweeping}
 pub use declared.races.listing.Listing.{Listing}

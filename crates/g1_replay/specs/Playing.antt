@@ -1,15 +1,16 @@
 -- What is done with the commands of a trace, between two states of the reader, the writer and the
 -- one that plays.
 use Rattle.std.specs.Prelude.{◌≡◌, ◌≤◌, ◌∷◌, ◌++◌, ◌⊎◌, ◌<◌, ◌+◌}
-use Rattle.g1_replay.specs.Prelude.{ℕ, List, [], Bool, Result, Ok, Err, Option, Some, length, take}
+use Rattle.g1_replay.specs.Prelude.{ℕ, List, [], Bool, Result, Ok, Err, Option, length, take}
 use Rattle.g1_replay.specs.Prelude.{IfErr, IfSome, IsNone, OnOk, Consumes, Shape, Line, capacity_of}
 use Rattle.g1_replay.specs.Prelude.{History, opened, layout_in, Grows, Refusal, Command, Dialect}
 use Rattle.g1_replay.specs.Prelude.{Options, Puts}
 use Rattle.g1_history.specs.declared.refusal.Refusal.TheVariants as refusal
+use Rattle.g1_replay.specs.declared.lines.source.Commands.{Commands}
 use Rattle.g1_replay.specs.declared.stop.Stop.{Stop}
 use Rattle.g1_replay.specs.declared.stop.Stop.TheVariants.{NoMemory, BookFull, WriteFailed}
 use Rattle.g1_replay.specs.Pieces.{Piece, IsLineOf, IsSetBy, AreSetBy, Walks, lines_of, entries_of}
-use Rattle.g1_replay.specs.Reading.{IsReadStop, Reads, more_may_come}
+use Rattle.g1_replay.specs.Reading.{IsOfTrace, IsReadStop, ReadsBehind, more_may_come}
 
 -- A new book over this layout, on the terms that the options say, whose machine is new.
 abbrev pub IsOpened : Shape → Options → History → Type 0
@@ -103,31 +104,34 @@ MayStop stop = ⊥
 
 -- Lines were read, and their commands were done.
 pub record Follows {S : Type 0} (did : S → List Command → List ℕ → S → Type 0) (full : S
-    → Type 0) (d : Dialect) (l : Shape) (n n' : ℕ) (old new : S) (rd rd' out out' : Option (List ℕ))
+    → Type 0) (c c' : Commands) (old new : S) (rd rd' out out' : Option (List ℕ))
     (r : Result Bool Stop) : Type 0 where
   pub commands : List Command
-  pub read : Reads d (Some l) n n' rd rd' (Some l) commands r
+  pub read : ReadsBehind c c' rd rd' commands r
   pub done : Does did full commands old new out out' r
 
 -- These bytes were taken from a reader, whatever it has behind them: lines that were read, and
 -- their commands were done.
 abbrev pub FollowsFront : {S : Type 0} → (S → List Command → List ℕ → S → Type 0) → (S → Type 0)
-    → Dialect → Shape → ℕ → ℕ → S → S → List ℕ → Option (List ℕ) → Option (List ℕ)
+    → Commands → Commands → S → S → List ℕ → Option (List ℕ) → Option (List ℕ)
     → Result Bool Stop → Type 0
-FollowsFront did full d l n n' old new bytes out out' r =
+FollowsFront did full c c' old new bytes out out' r =
     (rd rd' : Option (List ℕ)) → Consumes rd rd' bytes
-    → Follows did full d l n n' old new rd rd' out out' r
+    → Follows did full c c' old new rd rd' out out' r
 
 -- The line that these bytes begin with was played, if it is there as a whole: the result says how
 -- many bytes it takes, and what stopped it. Otherwise nothing was done.
 pub record PlaysFirst {S : Type 0} (did : S → List Command → List ℕ → S → Type 0)
     (full : S → Type 0) (Stops : Stop → Type 0) (Takes : S → Shape → Dialect → Type 0)
-    (d : Dialect) (l : Shape) (n n' : ℕ) (old new : S) (bytes : List ℕ) (out out' : Option (List ℕ))
+    (c c' : Commands) (old new : S) (bytes : List ℕ) (out out' : Option (List ℕ))
     (r : Option (ℕ × Result (Unit {0}) Stop)) : Type 0 where
-  pub followed : IfSome r (λ p. FollowsFront did full d l n n' old new (take p.0 bytes) out out'
+  pub same : IsOfTrace c c'
+  pub reads : c'.source.now.reads ≡ c.source.now.reads
+  pub followed : IfSome r (λ p. FollowsFront did full c c' old new (take p.0 bytes) out out'
       (more_may_come p.1))
   pub within : IfSome r (λ p. (0 < p.0) × (p.0 ≤ length bytes))
-  pub counted : n' ≤ n + 1
+  pub counted : c'.source.now.number ≤ c.source.now.number + 1
   pub stops : IfSome r (λ p. IfErr p.1 (λ stop. IsReadStop stop ⊎ Stops stop))
-  pub takes : IfSome r (λ p. OnOk p.1 (Takes new l d))
-  pub none : IsNone r → (n' ≡ n) × (new ≡ old) × (out' ≡ out)
+  pub takes : IfSome r (λ p. OnOk p.1 (Takes new c'.layout c'.dialect))
+  pub none : IsNone r
+      → (c'.source.now.number ≡ c.source.now.number) × (new ≡ old) × (out' ≡ out)

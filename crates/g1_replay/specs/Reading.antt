@@ -1,10 +1,12 @@
 -- What the calls that read lines take from the reader, and which part of the trace that is.
-use Rattle.std.specs.Prelude.{◌≡◌, ◌≤◌, ◌∷◌, ◌++◌}
+use Rattle.std.specs.Prelude.{◌≡◌, ◌≤◌, ◌+◌, ◌*◌, ◌^◌, ◌∷◌, ◌++◌}
 use Rattle.g1_replay.specs.Prelude.{ℕ, List, [], length, Bool, true, false, Result, Ok, Err, Option}
 use Rattle.g1_replay.specs.Prelude.{Some, None, IsSome, Consumes, IsAtEnd, Shape, Command, Dialect}
 use Rattle.g1_replay.specs.Prelude.{IsCommandOf, read_on, before, faulty, IsPart}
 use Rattle.g1_replay.specs.declared.lines.next.Next.{Next}
 use Rattle.g1_replay.specs.declared.lines.next.Next.TheVariants.{End, Blank, Do}
+use Rattle.g1_replay.specs.declared.lines.source.Commands.{Commands}
+use Rattle.g1_replay.specs.declared.lines.source.Source.{Source}
 use Rattle.g1_replay.specs.declared.stop.Stop.{Stop}
 use Rattle.g1_replay.specs.declared.stop.Stop.TheVariants.{Fault, ReadFailed}
 
@@ -37,6 +39,22 @@ pub record Reads (d : Dialect) (from : Option Shape) (n n' : ℕ) (rd rd' : Opti
   pub consumed : Consumes rd rd' (lines ++ rest)
   pub passed : Passes d from n lines commands to n'
   pub met : IsMet d to n' rest rd' r
+
+-- Commands are still those of the same trace, and their lines are counted in the same place.
+abbrev pub IsOfTrace : Commands → Commands → Type 0
+IsOfTrace old new = (new.source.ghost_name ≡ old.source.ghost_name) × (new.layout ≡ old.layout)
+    × (new.dialect ≡ old.dialect)
+
+-- Lines behind the header were read.
+abbrev pub ReadsBehind : Commands → Commands → (rd rd' : Option (List ℕ)) → List Command
+    → Result Bool Stop → Type 0
+ReadsBehind c c' rd rd' commands r =
+    Reads c.dialect (Some c.layout) c.source.now.number c'.source.now.number rd rd' (Some c.layout)
+    commands r
+
+-- there are numbers for the lines of n bytes more
+abbrev pub HasRoomFor : Source → ℕ → Type 0
+HasRoomFor source n = source.number + n ≤ 2 ^ 20 * source.reads + 1
 
 -- whether more lines may come
 abbrev pub more_may_come : {V : Type 0} → Result V Stop → Result Bool Stop

@@ -1,8 +1,8 @@
 //! The lines of a trace: read, parsed and passed on to a player.
 //!
 //! - `source` says how far a replay has come in its input, and `line` has one line.
-//! - `opening` reads the lines up to the header, and `playing` those behind it: by `shown` what a
-//!   reader shows as a whole, and else by `next`.
+//! - `opening` reads the lines up to the header, and `Commands` of `source` those behind it: in
+//!   `playing` all of them, by `shown` what a reader shows as a whole, and else by `next`.
 //! - `player` says what is done with the commands.
 //! - `whole` reads a trace to its end for a player that only keeps them.
 

@@ -1,16 +1,15 @@
 //! A line of a trace that the reader does not show as a whole.
 ghost use Rattle.std.specs.Prelude.{◌≤◌, ◌*◌, ◌^◌};
-ghost use Rattle.g1_replay.specs.Prelude.{[], ℕ, List, Option, Some, IfOk, IfErr};
+ghost use Rattle.g1_replay.specs.Prelude.{[], ℕ, List, Option, IfOk, IfErr};
 ghost use Rattle.g1_replay.specs.Lines.{HasPart};
-ghost use Rattle.g1_replay.specs.Reading.{Reads, commands_of, next_met, IsNextCommandOf};
-ghost use Rattle.g1_replay.specs.Reading.{IsReadStop};
+ghost use Rattle.g1_replay.specs.Reading.{ReadsBehind, commands_of, next_met, IsNextCommandOf};
+ghost use Rattle.g1_replay.specs.Reading.{IsOfTrace, IsReadStop};
 
 use crate::lines::line::{Part, rest_of_line};
-use crate::lines::source::Source;
+use crate::lines::source::Commands;
 use crate::stop::Stop;
 use arrayvec::ArrayVec;
-use g1_layout::Layout;
-use g1_trace::{Command, Dialect, read_command};
+use g1_trace::{Command, read_command};
 use std::io::BufRead;
 
 /// What the next line asks for.
@@ -24,34 +23,33 @@ pub enum Next {
     Do(Command),
 }
 
-/// Reads on from the first part of a line behind the header, of which no byte is kept yet, and
-/// returns what the line asks for (docs/traces.md, Lines and words, Commands).
-///
-/// On a fault, `source.number` is the faulty line. Nothing behind the line is
-/// read, and no read follows a failed one. It takes no memory.
-pub fn read_next<R: BufRead>(
-    part: Part,
-    source: &mut Source,
-    layout: &Layout,
-    dialect: Dialect,
-    input: &mut R,
-) -> Result<Next, Stop>
-    requires counted { source.old.number ≤ 2 ^ 20 * source.old.reads }
-    ensures read { (begun : Option (List ℕ)) → HasPart begun (R.remaining input.old) part []
-        → Reads dialect (Some layout.now) source.old.number source.new.number begun
-        (R.remaining input.new) (Some layout.now) (commands_of result) (next_met result) }
-    ensures stops { IfErr result IsReadStop }
-    ensures valid { IfOk result (λ next. IsNextCommandOf layout.now dialect next) }
-    ensures reads { source.old.reads ≤ source.new.reads }
-{
-    let mut line = ArrayVec::new();
-    if !rest_of_line(part, &mut source.reads, input, &mut line)? {
-        return Ok(Next::End);
-    }
-    let command = read_command(*layout, dialect, line.as_slice())?;
-    source.number += 1;
-    match command {
-        None => Ok(Next::Blank),
-        Some(command) => Ok(Next::Do(command)),
+impl Commands<'_> {
+    /// Reads on from the first part of a line, of which no byte is kept yet, and returns what the
+    /// line asks for (docs/traces.md, Lines and words, Commands).
+    ///
+    /// On a fault, `source.number` is the faulty line. Nothing behind the line is read, and no read
+    /// follows a failed one. It takes no memory.
+    pub fn read_next<R: BufRead>(&mut self, part: Part, input: &mut R) -> Result<Next, Stop>
+        requires counted { self.old.source.now.number ≤ 2 ^ 20 * self.old.source.now.reads }
+        ensures read { (begun : Option (List ℕ)) → HasPart begun (R.remaining input.old) part []
+            → ReadsBehind self.old self.new begun (R.remaining input.new) (commands_of result)
+            (next_met result) }
+        ensures stops { IfErr result IsReadStop }
+        ensures valid { IfOk result (λ next.
+            IsNextCommandOf self.old.layout self.old.dialect next) }
+        ensures reads { self.old.source.now.reads ≤ self.new.source.now.reads }
+        ensures same { IsOfTrace self.old self.new }
+    {
+        let source = &mut *self.source;
+        let mut line = ArrayVec::new();
+        if !rest_of_line(part, &mut source.reads, input, &mut line)? {
+            return Ok(Next::End);
+        }
+        let command = read_command(self.layout, self.dialect, line.as_slice())?;
+        source.number += 1;
+        match command {
+            None => Ok(Next::Blank),
+            Some(command) => Ok(Next::Do(command)),
+        }
     }
 }

@@ -10,7 +10,7 @@ use std::sync::Wait;
 
 /// Takes the commands of a trace, one after the other.
 ///
-/// [`play_lines`](crate::lines::playing::play_lines) reads the lines and passes their commands on.
+/// [`Commands`](crate::lines::source::Commands) reads the lines and passes their commands on.
 /// It knows no more of a player than this trait says.
 pub(crate) trait Player {
     ghost use Rattle.std.specs.Prelude.{◌++◌};

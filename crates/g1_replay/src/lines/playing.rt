@@ -1,16 +1,13 @@
 //! The lines of a trace behind its header, which are read and played.
 ghost use Rattle.std.specs.Prelude.{◌≡◌, ◌<◌, ◌≤◌, ◌*◌, ◌^◌, ◌⊎◌};
 ghost use Rattle.g1_replay.specs.{ℕ, List, Option, [], Ok, true, IfErr, OnOk, take, length};
-ghost use Rattle.g1_replay.specs.{HasPart, end_met, Follows, IsReadStop};
+ghost use Rattle.g1_replay.specs.{HasPart, end_met, Follows, IsOfTrace, IsReadStop};
 
 use crate::lines::line::Part;
-use crate::lines::next::{Next, read_next};
+use crate::lines::next::Next;
 use crate::lines::player::Player;
-use crate::lines::shown::play_shown;
-use crate::lines::source::{READ_LIMIT, SHOWN_LIMIT, Source};
+use crate::lines::source::{Commands, READ_LIMIT, SHOWN_LIMIT};
 use crate::stop::Stop;
-use g1_layout::Layout;
-use g1_trace::Dialect;
 use std::io::{BufRead, Write};
 use std::sync::Wait;
 
@@ -34,95 +31,92 @@ fn front_of(shown: &[u8]) -> &[u8]
     shown.split_at(shown.len().min(SHOWN_LIMIT)).0
 }
 
-// The next line, of which the reader shows this part. Returns whether another may come: at the end
-// of the input it does not.
-fn play_line<T: Wait, P: Player, R: BufRead, W: Write>(
-    rt: &T,
-    part: Part,
-    source: &mut Source,
-    layout: &Layout,
-    dialect: Dialect,
-    input: &mut R,
-    player: &mut P,
-    output: &mut W,
-) -> Result<bool, Stop>
-    requires part { HasPart (R.remaining input.old) (R.remaining input.old) part [] }
-    requires counted { source.old.number ≤ 2 ^ 20 * source.old.reads }
-    requires takes { P.takes player.old layout.now dialect }
-    ensures followed { Follows P.did P.full dialect layout.now source.old.number source.new.number
-        player.old player.new (R.remaining input.old) (R.remaining input.new)
-        (W.contents output.old) (W.contents output.new) result }
-    ensures reads { source.old.reads ≤ source.new.reads }
-    ensures stops { IfErr result (λ stop. IsReadStop stop ⊎ P.stops stop) }
-    ensures takes { OnOk result (P.takes player.new layout.now dialect) }
-{
-    match read_next(part, source, layout, dialect, input)? {
-        Next::End => Ok(false),
-        Next::Blank => Ok(true),
-        Next::Do(command) => {
-            player.play(rt, *layout, dialect, command, output)?;
-            Ok(true)
+impl Commands<'_> {
+    // The next line, of which the reader shows this part. Returns whether another may come: at the
+    // end of the input it does not.
+    fn play_line<T: Wait, P: Player, R: BufRead, W: Write>(
+        &mut self,
+        rt: &T,
+        part: Part,
+        input: &mut R,
+        player: &mut P,
+        output: &mut W,
+    ) -> Result<bool, Stop>
+        requires part { HasPart (R.remaining input.old) (R.remaining input.old) part [] }
+        requires counted { self.old.source.now.number ≤ 2 ^ 20 * self.old.source.now.reads }
+        requires takes { P.takes player.old self.old.layout self.old.dialect }
+        ensures followed { Follows P.did P.full self.old self.new player.old player.new
+            (R.remaining input.old) (R.remaining input.new) (W.contents output.old)
+            (W.contents output.new) result }
+        ensures reads { self.old.source.now.reads ≤ self.new.source.now.reads }
+        ensures same { IsOfTrace self.old self.new }
+        ensures stops { IfErr result (λ stop. IsReadStop stop ⊎ P.stops stop) }
+        ensures takes { OnOk result (P.takes player.new self.new.layout self.new.dialect) }
+    {
+        match self.read_next(part, input)? {
+            Next::End => Ok(false),
+            Next::Blank => Ok(true),
+            Next::Do(command) => {
+                player.play(rt, self.layout, self.dialect, command, output)?;
+                Ok(true)
+            }
         }
     }
-}
 
-// The lines that the reader shows as a whole, or the next line if it shows none. Returns whether
-// another may come.
-fn play_some<T: Wait, P: Player, R: BufRead, W: Write>(
-    rt: &T,
-    source: &mut Source,
-    layout: &Layout,
-    dialect: Dialect,
-    input: &mut R,
-    player: &mut P,
-    output: &mut W,
-) -> Result<bool, Stop>
-    requires { P.takes player.old layout.now dialect }
-    ensures followed { Follows P.did P.full dialect layout.now source.old.number source.new.number
-        player.old player.new (R.remaining input.old) (R.remaining input.new)
-        (W.contents output.old) (W.contents output.new) result }
-    ensures more { result ≡ Ok true → source.old.reads < source.new.reads }
-    ensures stops { IfErr result (λ stop. IsReadStop stop ⊎ P.stops stop) }
-    ensures takes { OnOk result (P.takes player.new layout.now dialect) }
-{
-    if source.reads >= READ_LIMIT {
-        return Err(Stop::ReadFailed);
+    // The lines that the reader shows as a whole, or the next line if it shows none. Returns
+    // whether another may come.
+    fn play_some<T: Wait, P: Player, R: BufRead, W: Write>(
+        &mut self,
+        rt: &T,
+        input: &mut R,
+        player: &mut P,
+        output: &mut W,
+    ) -> Result<bool, Stop>
+        requires { P.takes player.old self.old.layout self.old.dialect }
+        ensures followed { Follows P.did P.full self.old self.new player.old player.new
+            (R.remaining input.old) (R.remaining input.new) (W.contents output.old)
+            (W.contents output.new) result }
+        ensures more { result ≡ Ok true → self.old.source.now.reads < self.new.source.now.reads }
+        ensures same { IsOfTrace self.old self.new }
+        ensures stops { IfErr result (λ stop. IsReadStop stop ⊎ P.stops stop) }
+        ensures takes { OnOk result (P.takes player.new self.new.layout self.new.dialect) }
+    {
+        if self.source.reads >= READ_LIMIT {
+            return Err(Stop::ReadFailed);
+        }
+        self.source.reads += 1;
+        let shown = match input.fill_buf() {
+            Ok(shown) => shown,
+            Err(_) => return Err(Stop::ReadFailed),
+        };
+        let part = first_part(shown);
+        let (taken, played) = self.play_shown(rt, front_of(shown), player, output);
+        input.consume(taken);
+        played?;
+        if taken > 0 {
+            return Ok(true);
+        }
+        self.play_line(rt, part, input, player, output)
     }
-    source.reads += 1;
-    let shown = match input.fill_buf() {
-        Ok(shown) => shown,
-        Err(_) => return Err(Stop::ReadFailed),
-    };
-    let part = first_part(shown);
-    let front = front_of(shown);
-    let number = &mut source.number;
-    let (taken, played) = play_shown(rt, number, layout, dialect, front, player, output);
-    input.consume(taken);
-    played?;
-    if taken > 0 {
-        return Ok(true);
-    }
-    play_line(rt, part, source, layout, dialect, input, player, output)
-}
 
-/// The lines behind the header, up to the end of the input or to what stops the replay.
-#[tactic(auto, using(crate::proofs::follows_none))]
-pub(crate) fn play_lines<T: Wait, P: Player, R: BufRead, W: Write>(
-    rt: &T,
-    source: &mut Source,
-    layout: Layout,
-    dialect: Dialect,
-    input: &mut R,
-    player: &mut P,
-    output: &mut W,
-) -> Result<(), Stop>
-    requires { P.takes player.old layout dialect }
-    ensures followed { Follows P.did P.full dialect layout source.old.number source.new.number
-        player.old player.new (R.remaining input.old) (R.remaining input.new)
-        (W.contents output.old) (W.contents output.new) (end_met result) }
-    ensures stops { IfErr result (λ stop. IsReadStop stop ⊎ P.stops stop) }
-    ensures takes { OnOk result (P.takes player.new layout dialect) }
-{
-    'lines: while play_some(rt, source, &layout, dialect, input, player, output)? {}
-    Ok(())
+    /// Plays the lines behind the header, up to the end of the input or to what stops the replay.
+    #[tactic(auto, using(crate::proofs::follows_none))]
+    pub(crate) fn play_all<T: Wait, P: Player, R: BufRead, W: Write>(
+        &mut self,
+        rt: &T,
+        input: &mut R,
+        player: &mut P,
+        output: &mut W,
+    ) -> Result<(), Stop>
+        requires { P.takes player.old self.old.layout self.old.dialect }
+        ensures followed { Follows P.did P.full self.old self.new player.old player.new
+            (R.remaining input.old) (R.remaining input.new) (W.contents output.old)
+            (W.contents output.new) (end_met result) }
+        ensures same { IsOfTrace self.old self.new }
+        ensures stops { IfErr result (λ stop. IsReadStop stop ⊎ P.stops stop) }
+        ensures takes { OnOk result (P.takes player.new self.new.layout self.new.dialect) }
+    {
+        'lines: while self.play_some(rt, input, player, output)? {}
+        Ok(())
+    }
 }

@@ -1,5 +1,8 @@
-//! How far a replay has come in its input.
+//! How far a replay has come in its input, and what reads the commands there.
 ghost use Rattle.std.specs.Prelude.{◌≡◌, ◌≤◌, ◌+◌, ◌*◌, ◌^◌};
+
+use g1_layout::Layout;
+use g1_trace::Dialect;
 
 /// How many reads of the input are made at most (docs/traces.md, Ends).
 pub const READ_LIMIT: u64 = 1 << 40;
@@ -29,4 +32,15 @@ impl Source {
             number: 1,
         }
     }
+}
+
+/// Reads the commands of a trace behind its header, and plays them.
+#[derive(Drop)]
+pub(crate) struct Commands<'a> {
+    /// How far it has come.
+    pub source: &'a mut Source,
+    /// The heap of the header.
+    pub layout: Layout,
+    /// What its lines may ask for.
+    pub dialect: Dialect,
 }

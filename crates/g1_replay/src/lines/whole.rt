@@ -6,8 +6,7 @@ ghost use Rattle.g1_replay.specs.declared.stop.Stop.{Stop as Stops};
 
 use crate::lines::opening::read_layout;
 use crate::lines::player::Player;
-use crate::lines::playing::play_lines;
-use crate::lines::source::Source;
+use crate::lines::source::{Commands, Source};
 use crate::stop::Stop;
 use g1_layout::Layout;
 use g1_trace::Dialect;
@@ -41,6 +40,11 @@ pub(crate) fn read_whole<T: Wait, P: Player, R: BufRead, W: Write>(
     ensures silent { Appends (W.contents output.old) (W.contents output.new) [] }
 {
     let layout = read_layout(source, input)?;
-    play_lines(rt, source, layout, dialect, input, player, output)?;
+    let mut commands = Commands {
+        source,
+        layout,
+        dialect,
+    };
+    commands.play_all(rt, input, player, output)?;
     Ok(layout)
 }

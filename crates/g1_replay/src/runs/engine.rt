@@ -5,8 +5,7 @@ ghost use Rattle.g1_replay.specs.{dialect_in, ending_line, end_or_failed};
 
 use crate::end::End;
 use crate::lines::opening::read_layout;
-use crate::lines::playing::play_lines;
-use crate::lines::source::Source;
+use crate::lines::source::{Commands, Source};
 use crate::runs::machinery::Machinery;
 use crate::stop::Stop;
 use g1_options::Options;
@@ -37,7 +36,12 @@ fn play_trace<T: Wait, R: BufRead, W: Write>(
         mode: Mode::Run,
         mutators: options.mutators,
     };
-    let result = play_lines(rt, source, layout, dialect, input, &mut machinery, output);
+    let mut commands = Commands {
+        source,
+        layout,
+        dialect,
+    };
+    let result = commands.play_all(rt, input, &mut machinery, output);
     let _history = machinery.book.entries();
     result
 }

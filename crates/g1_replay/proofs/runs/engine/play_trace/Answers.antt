@@ -1,4 +1,4 @@
-use Rattle.g1_replay.specs.{err_from_is_err_and}
+use Rattle.g1_replay.specs.{rules, err_from_is_err_and}
 use Rattle.g1_replay.proofs.ToldLemmas.{head_told, unopened_told, played_told}
 use Rattle.g1_replay.proofs.runs.engine.play_trace.Goals as goal
 
@@ -14,5 +14,6 @@ returns-in_err-machinery g c =
 
 pub returns : goal.returns
 returns g c =
-    played_told (λ s. s.book) _ c.args.options.now _ _ _ c.in_ok-layout.layout c.in_ok-machinery.machinery c.play_lines-result.new.player _ _ _ _ _ c.play_lines-result.result c.in_ok-machinery.ensures.book (c.in_ok-layout.ensures.read _)
-    c.play_lines-result.ensures.followed c.play_lines-result.ensures.stops c.entries-history.ensures.history
+    let same = c.play_all-result.ensures.same.0 in
+    played_told (λ s. s.book) c.args.options.now _ _ _ _ c.in_ok-machinery.machinery c.play_all-result.new.player _ _ _ _ _ c.play_all-result.result (search rules) c.in_ok-machinery.ensures.book (c.in_ok-layout.ensures.read _)
+    c.play_all-result.ensures.followed c.play_all-result.ensures.stops c.entries-history.ensures.history

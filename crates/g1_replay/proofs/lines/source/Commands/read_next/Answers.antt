@@ -1,7 +1,7 @@
 use Rattle.std.specs.Prelude.{◌≡◌}
 use Rattle.g1_replay.specs.{[], List, ℕ, Some, None, subst, sym, rules, err_from_is_err_and, HasPart}
 use Rattle.g1_replay.proofs.ReadingLemmas.{line_stopped, no_line, command_read, command_faulty}
-use Rattle.g1_replay.proofs.lines.next.read_next.Goals as goal
+use Rattle.g1_replay.proofs.lines.source.Commands.read_next.Goals as goal
 
 pub returns-in_err-rest_of_line-clause-read : goal.returns-in_err-rest_of_line-clause-read
 returns-in_err-rest_of_line-clause-read g c =
