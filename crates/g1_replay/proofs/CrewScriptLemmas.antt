@@ -1,12 +1,11 @@
--- Scripts of a crew and a race: they fit the heap that their commands are of, and are kept as their trace is read.
+-- Scripts of a crew or a race: they are kept as their trace is read, and fit its heap.
 use Rattle.std.specs.Prelude.{◌≡◌, ◌≢◌, ◌==◌, ◌<◌, ◌≤◌, ◌+◌, ◌∷◌, ◌++◌, ◌-◌, if◌then◌else◌}
-use Rattle.g1_replay.specs.{false, take, IfSome, take_more, filter_map-append, ℕ, List, [], suc, add-one, add-zero, length, get_or, set, drop, drop-cons, refl, sym, subst, ap, ◌∙◌, append-nil, inl, inr, Option, Some, None, true, nat_lt, Bool, arith, rules, All, unwrap_or, filter_map, cons_option, cond, count_by, sum_by, sum_by-append, sum_by-cons, sum_by-set, All-head, All-tail, Ask, asks_of, is_store_ask, is_store_command, stores_in, cases_Bool, eq-eqb, eqb-true, ne_eqb, false≢true, get_or-set_same, get_or-set_other, length-set, length-drop, Shape, slot_count, StepFits, ScriptFits, Step, Script, Mutate, Refine, Command, Store, IsCommandOf, AllFrom, AreKept, IsScriptAt, asked_in, own_step, step_for}
+use Rattle.g1_replay.specs.{map, zero-add, get_or-map, All-nil, All-cons, All-push, AreScripts, with_flush, ℕ, List, [], suc, add-one, add-zero, length, get_or, set, drop, drop-cons, refl, sym, subst, ap, ◌∙◌, append-nil, inl, inr, Option, Some, None, true, nat_lt, Bool, arith, rules, All, unwrap_or, filter_map, cons_option, cond, count_by, sum_by, sum_by-append, sum_by-cons, sum_by-set, All-head, All-tail, Ask, asks_of, is_store_ask, is_store_command, stores_in, cases_Bool, eq-eqb, eqb-true, ne_eqb, false≢true, get_or-set_same, get_or-set_other, length-set, length-drop, Shape, slot_count, StepFits, ScriptFits, Step, Script, Mutate, Refine, Command, Store, IsCommandOf, AllFrom, AreKept, IsScriptAt, asked_in, own_step, step_for}
 use Rattle.std.proofs.lemmas.List.{map-append, nil_from_length}
 use Rattle.g1_steps.specs.Ask.{ask_of}
 use Rattle.g1_steps.specs.declared.crew.desk.Step.TheVariants as step
 use Rattle.g1_trace.specs.declared.command.Command.TheVariants.{Flush}
-use Rattle.g1_replay.specs.declared.crews.listing.Scripts.{Scripts}
-use Rattle.g1_replay.proofs.PlacedLemmas.{all_chosen}
+use Rattle.g1_replay.specs.declared.scripts.Scripts.{Scripts}
 
 -- what a command asks of the mutator that it names, and of another
 own_at : (by : ℕ) (s : Step) → (if by == by then Some s else None) ≡ Some s
@@ -91,6 +90,28 @@ module _ {E : Type 0} (steps : E → List Step) where
       let rest : sum_by f xs ≡ 0 = none_stores xs (All-tail (λ e. steps e ≡ []) x xs all) in
       omega (arith, here, rest, sum_by-cons f x xs)
 
+  -- scripts that were empty are those of the commands that they have kept
+  pub kept_whole : (old new : List E) (cs : List Command) → All (λ e. steps e ≡ []) old → AreKept steps old cs new → AreScripts steps new cs
+  kept_whole old new cs empty kept = record {
+    each = each new kept;
+    stored = kept.stored ∙ ap (λ n. n + count_by is_store_command cs) (none_stores old empty) ∙ zero-add (count_by is_store_command cs);
+  }
+    where
+      each : (xs : List E) → AreKept steps old cs xs → (k : ℕ) → k < length xs → get_or (map steps xs) k [] ≡ filter_map (step_for k) cs
+      each [] kept k lt = absurd (omega (arith, lt))
+      each (x ∷ xs) kept k lt =
+          let below : k < length old = subst (λ n. k < n) kept.len lt in
+          get_or-map steps (x ∷ xs) k x [] lt ∙ kept.each k x below ∙ ap (λ (l : List Step). l ++ filter_map (step_for k) cs) (empty k x below)
+
+  -- what holds of each script
+  pub each_script : (P : List Step → Type 0) (xs : List E) → All (λ v. P (steps v)) xs → All P (map steps xs)
+  each_script P [] all = All-nil P
+  each_script P (x ∷ xs) all = All-cons P (steps x) (map steps xs) (All-head (λ v. P (steps v)) x xs all) (each_script P xs (All-tail (λ v. P (steps v)) x xs all))
+
+  -- a flush fits
+  pub flushes_fit : (slots : ℕ) (scripts : List E) → All (λ v. All (StepFits slots true) (steps v)) scripts → All (λ v. All (StepFits slots true) (with_flush steps v)) scripts
+  flushes_fit slots scripts all k d lt = All-push (StepFits slots true) (steps (get_or scripts k d)) step.Flush (all k d lt) refl
+
   -- a script that was taken fits
   pub script_at_fits : (slots rounds most number : ℕ) (scripts : List E) (made : Script) → length scripts ≡ most → All (λ v. All (StepFits slots true) (steps v)) scripts
       → IsScriptAt steps rounds scripts number made → ScriptFits slots (nat_lt number most) made
@@ -131,20 +152,3 @@ module _ {E : Type 0} where
 -- what scripts did with commands
 abbrev pub Kept : Scripts → List Command → List ℕ → Scripts → Type 0
 Kept s cs text t = AreKept (λ script. script.items) s.steps.items cs t.steps.items × (text ≡ [])
-
--- one command more
-pub steps_more : (mutator : ℕ) (cs : List Command) (i : ℕ) (d : Command) (o : Option Step) → i < length cs → step_for mutator (get_or cs i d) ≡ o → filter_map (step_for mutator) (take (i + 1) cs) ≡ filter_map (step_for mutator) (take i cs) ++ cons_option o []
-steps_more mutator cs i d o h e =
-    ap (filter_map (step_for mutator)) (take_more cs i d h) ∙ filter_map-append (step_for mutator) (take i cs) (get_or cs i d ∷ []) ∙ ap (λ o. filter_map (step_for mutator) (take i cs) ++ cons_option o []) e
-
-if_fits : (slots : ℕ) (b : Bool) (s : Step) → StepFits slots true s → IfSome (if b then Some s else None) (StepFits slots true)
-if_fits slots true s h = h
-if_fits slots false s h = tt
-
-step_fits : (l : Shape) (m mutator : ℕ) (c : Command) → IsCommandOf l m c → IfSome (step_for mutator c) (StepFits (slot_count l) true)
-step_fits l m mutator (Store by slot target) h = if_fits (slot_count l) (by == mutator) (step.Store slot target) (refl, h.1, h.2)
-step_fits l m mutator (Flush by) h = if_fits (slot_count l) (by == mutator) step.Flush refl
-step_fits l m mutator c h = tt
-
-pub steps_fit : (l : Shape) (m mutator : ℕ) (cs : List Command) → All (IsCommandOf l m) cs → All (StepFits (slot_count l) true) (filter_map (step_for mutator) cs)
-steps_fit l m mutator cs all = all_chosen (IsCommandOf l m) (StepFits (slot_count l) true) (step_for mutator) (step_fits l m mutator) cs all

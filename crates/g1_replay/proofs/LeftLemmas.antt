@@ -35,7 +35,7 @@ some_place (Some place) n ne e = let w : n ≡ place + 1 = e in (place, refl, om
 module _ (e : Ended) (members mutators : ℕ) (commands : List Command) (views sweepers : List View) (over : IsOver (null_begun e.layout members) e.words views sweepers)
     (each : (h : StoreHistory) → Among histories_of views h → (m : ℕ) × (m < mutators) × (h.1 ≡ own m commands))
     (every : (m : ℕ) → m < mutators → (h : StoreHistory) × Among histories_of views h × (h.1 ≡ own m commands))
-    (targets : (by slot : ℕ) (target : Option ℕ) → In commands (Store by slot target) → word_of target < 2 ^ 32) where
+    (low : (m slot word : ℕ) → m < mutators → In (own m commands) (slot, word) → word < 2 ^ 32) where
   abbrev begun : Begun
   begun = null_begun e.layout members
 
@@ -53,9 +53,8 @@ module _ (e : Ended) (members mutators : ℕ) (commands : List Command) (views s
           (λ (x : (h : StoreHistory) × Among histories_of views h × (last_to slot h.1 ≡ Some n)).
           let by = each x.0 x.1 in
           let last : as_word (last_by by.0 slot commands) ≡ Some n = sym (last_own by.0 slot commands) ∙ ap (λ (l : List (ℕ × ℕ)). last_to slot l) (sym by.2) ∙ x.2 in
-          let store = in_own by.0 slot n commands (subst (λ (l : List (ℕ × ℕ)). In l (slot, n)) by.2 (last_in slot n x.0.1 x.2)) in
-          let low : n < 2 ^ 32 = subst (λ (w : ℕ). w < 2 ^ 32) (sym store.3) (targets store.0 slot store.1 store.2) in
-          inl (by.0, by.1, last_target (last_by by.0 slot commands) n low last ∙ ap (λ (t : Option ℕ). Some t) (sym refers)))
+          let small = low by.0 slot n by.1 (subst (λ (l : List (ℕ × ℕ)). In l (slot, n)) by.2 (last_in slot n x.0.1 x.2)) in
+          inl (by.0, by.1, last_target (last_by by.0 slot commands) n small last ∙ ap (λ (t : Option ℕ). Some t) (sym refers)))
           (λ (x : (get_elem? begun.words slot ≡ some n) × ((h : StoreHistory) → Among histories_of views h → last_to slot h.1 ≡ None)).
           let null : n ≡ 0 = at_zeros (slot_count e.layout + card_count e.layout) slot n x.0 in
           inr (refers ∙ ap target_of_word null, λ m lt. let own_h = every m lt in none_last (last_by m slot commands) (sym (last_own m slot commands) ∙ ap (λ (l : List (ℕ × ℕ)). last_to slot l) (sym own_h.2) ∙ x.1 own_h.0 own_h.1)))

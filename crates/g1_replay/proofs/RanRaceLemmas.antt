@@ -1,45 +1,36 @@
 -- What the members of a race have stored once its jobs were run.
 use Rattle.std.specs.Prelude.{◌≡◌, ◌<◌, ◌≤◌, ◌+◌, ◌∷◌}
-use Rattle.g1_replay.specs.{ℕ, suc, List, [], length, map, ap, sym, subst, ◌∙◌, refl, arith, nat_lt, true, false, append-nil, Option, Some, None, inl, inr, Bool, Result, Ok, Err, All, sum_by, filter_map, AllZip, option_or, true≢false, false≢true, le-ltb, lt-ltb, All-nil, All-cons, All-push, sum_by-cons, Shape, slot_count, Line, View, StoreHistory, In, histories_of, Among, racer_view, Job, Script, Mutate, Refine, Refusal, Step, Ask, ScriptFits, StepFits, asks_in, asks_of, JobRan, Ran, Command, IsCommandOf, Member, Racing, Sweeping, IsMemberOf, MemberDid, histories_after, is_racer, member_rights, AllFrom, IsRaceJob, IsRaceScript, racer_in, first_refusal, refusal_in}
+use Rattle.g1_replay.specs.{ℕ, get_or-map, suc, List, [], length, map, ap, sym, subst, ◌∙◌, refl, arith, true, false, append-nil, Option, Some, None, inl, inr, Result, Ok, Err, All, sum_by, filter_map, AllZip, option_or, true≢false, false≢true, le-ltb, lt-ltb, All-nil, All-cons, sum_by-cons, Line, View, StoreHistory, In, histories_of, Among, racer_view, Job, Script, Mutate, Refine, Refusal, Step, Ask, asks_in, asks_of, JobRan, Ran, Member, Racing, Sweeping, IsMemberOf, MemberDid, histories_after, member_rights, AllFrom, IsRaceJob, racer_in, first_refusal, refusal_in}
 use native.Mathlib.Decide.{ℕ_discrete}
 use Rattle.std.proofs.lemmas.List.{nil_from_length}
 use Rattle.g1_race.specs.declared.race.Race.{Race}
-use Rattle.g1_steps.specs.declared.crew.desk.Step.TheVariants as step
-use Rattle.g1_replay.proofs.CrewScriptLemmas.{steps_fit}
 use Rattle.g1_replay.proofs.JobLemmas.{none_first}
-use Rattle.g1_replay.proofs.StoreLemmas.{asks_own, one_history, own, script_asks, stored_by}
+use Rattle.g1_replay.proofs.StoreLemmas.{flush_stores_none, one_history, steps_at, stored_at, stored_by}
 
 -- what member k has stored once its script was run
-abbrev pub HasRun : (mutators : ℕ) → List Command → ℕ → Member → Type 0
-HasRun mutators commands k (Racing r s) = (k < mutators) × ((number : ℕ) × ((racer_view r).histories ≡ (number, own k commands) ∷ []))
-HasRun mutators commands k (Sweeping w t) = mutators ≤ k
+abbrev pub HasRun : (mutators : ℕ) → (ℕ → List (ℕ × ℕ)) → ℕ → Member → Type 0
+HasRun mutators own k (Racing r s) = (k < mutators) × ((number : ℕ) × ((racer_view r).histories ≡ (number, own k) ∷ []))
+HasRun mutators own k (Sweeping w t) = mutators ≤ k
 
--- a script fits the desk of its member
-pub race_script_fits : (l : Shape) (mutators rounds k : ℕ) (commands : List Command) (m : Member) (script : Script) → All (IsCommandOf l mutators) commands → is_racer m ≡ nat_lt k mutators → IsRaceScript mutators rounds k commands script → ScriptFits (slot_count l) (is_racer m) script
-race_script_fits l mutators rounds k commands m (Mutate steps) all kind h =
-    let below : k < mutators = h.0 in
-    let yes : nat_lt k mutators ≡ true = lt-ltb k mutators below in
-    let fits : All (StepFits (slot_count l) true) steps.items = subst (λ (ss : List Step). All (StepFits (slot_count l) true) ss) (sym h.1) (All-push (StepFits (slot_count l) true) _ step.Flush (steps_fit l mutators k commands all) refl) in
-    let P : Bool → Type 0 = λ b. All (StepFits (slot_count l) b) steps.items in
-    subst P (sym (kind ∙ yes)) fits
-race_script_fits l mutators rounds k commands m (Refine made) all kind h = tt
-
-run_of : (race : Race) (line : Line) (mutators rounds : ℕ) (commands : List Command) (k : ℕ) (m n : Member) (script : Script) → IsRaceJob race line mutators rounds commands k m script → MemberDid m (asks_in script) n → HasRun mutators commands k n
-run_of race line mutators rounds commands k (Racing r s) (Racing r' s') (Mutate steps) j d =
-    let number = j.new.fresh.0 in
-    let asks : asks_of steps.items ≡ script_asks k commands = ap asks_of j.script.1 in (
-      j.script.0,
-      (
-        number,
-        d.stored ∙ ap (λ hs. histories_after (asks_of steps.items) hs) j.new.fresh.1 ∙ ap (λ (a : List Ask). histories_after a ((number, []) ∷ [])) asks ∙ one_history (script_asks k commands) number []
-            ∙ ap (λ (l : List (ℕ × ℕ)). (number, l) ∷ []) (append-nil (stored_by (script_asks k commands)) ∙ asks_own k commands),
-      ),
-    )
-run_of race line mutators rounds commands k (Sweeping w t) (Sweeping w' t') (Refine made) j d = j.script.0
-run_of race line mutators rounds commands k (Racing r s) (Racing r' s') (Refine made) j d = absurd (true≢false (j.new.kind ∙ le-ltb k mutators j.script.0))
-run_of race line mutators rounds commands k (Sweeping w t) (Sweeping w' t') (Mutate steps) j d = absurd (false≢true (j.new.kind ∙ lt-ltb k mutators j.script.0))
-run_of race line mutators rounds commands k (Racing r s) (Sweeping w' t') script j d = let bad : false ≡ true = d.kind in cc
-run_of race line mutators rounds commands k (Sweeping w t) (Racing r' s') script j d = let bad : true ≡ false = d.kind in cc
+module _ {E : Type 0} (steps : E → List Step) (race : Race) (line : Line) (mutators rounds : ℕ) (scripts : List E) (len : length scripts ≡ mutators) where
+  run_of : (k : ℕ) (m n : Member) (script : Script) → IsRaceJob steps race line mutators rounds scripts k m script → MemberDid m (asks_in script) n → HasRun mutators (stored_at steps scripts) k n
+  run_of k (Racing r s) (Racing r' s') (Mutate made) j d =
+      let number = j.new.fresh.0 in
+      let own = j.script.0 in
+      let here : steps_at steps scripts k ≡ steps own = get_or-map steps scripts k own [] j.script.1 ∙ ap steps (j.script.2 own) in (
+        subst (λ n. k < n) len j.script.1,
+        (
+          number,
+          d.stored ∙ ap (λ hs. histories_after (asks_of made.items) hs) j.new.fresh.1 ∙ one_history (asks_of made.items) number []
+              ∙ ap (λ (l : List (ℕ × ℕ)). (number, l) ∷ [])
+              (append-nil (stored_by (asks_of made.items)) ∙ ap (λ (ss : List Step). stored_by (asks_of ss)) j.script.3 ∙ flush_stores_none (steps own) ∙ ap (λ (ss : List Step). stored_by (asks_of ss)) (sym here)),
+        ),
+      )
+  run_of k (Sweeping w t) (Sweeping w' t') (Refine made) j d = subst (λ n. n ≤ k) len j.script.0
+  run_of k (Racing r s) (Racing r' s') (Refine made) j d = absurd (true≢false (j.new.kind ∙ le-ltb k mutators (subst (λ n. n ≤ k) len j.script.0)))
+  run_of k (Sweeping w t) (Sweeping w' t') (Mutate made) j d = absurd (false≢true (j.new.kind ∙ lt-ltb k mutators (subst (λ n. k < n) len j.script.1)))
+  run_of k (Racing r s) (Sweeping w' t') script j d = let bad : false ≡ true = d.kind in cc
+  run_of k (Sweeping w t) (Racing r' s') script j d = let bad : true ≡ false = d.kind in cc
 
 -- a job that was not refused, and those behind it
 pub first_left : {D : Type 0} (outcome : D → Option (Result ℕ (ℕ × Refusal))) (ds rest : List D) (d : D) (total : Option Refusal) → ds ≡ d ∷ rest → None ≡ refusal_in (outcome d) → first_refusal (map outcome ds) ≡ total → first_refusal (map outcome rest) ≡ total
@@ -60,14 +51,14 @@ module _ {D : Type 0} (member : D → Member) where
   did_all asks d e None n h = absurd h
 
   -- what the jobs of a race leave
-  pub record AreRun (race : Race) (line : Line) (mutators : ℕ) (commands : List Command) (k : ℕ) (js ds : List (Job D)) : Type 0 where
-    pub run : AllFrom (HasRun mutators commands) k (map (λ job. member job.desk) ds)
+  pub record AreRun (race : Race) (line : Line) (mutators : ℕ) (own : ℕ → List (ℕ × ℕ)) (k : ℕ) (js ds : List (Job D)) : Type 0 where
+    pub run : AllFrom (HasRun mutators own) k (map (λ job. member job.desk) ds)
     pub of : All (IsMemberOf race line) (map (λ job. member job.desk) ds)
     pub rights : sum_by member_rights (map (λ job. member job.desk) ds) ≡ sum_by member_rights (map (λ job. member job.desk) js)
     pub len : length (map (λ job. member job.desk) ds) ≡ length (map (λ job. member job.desk) js)
 
-  module _ (race : Race) (line : Line) (mutators rounds : ℕ) (commands : List Command) where
-    pub are_run : (k : ℕ) (js ds : List (Job D)) → AllFrom (λ i job. IsRaceJob race line mutators rounds commands i (member job.desk) job.script) k js → AllZip (JobRan Did) js ds → first_refusal (map (λ job. job.outcome) ds) ≡ None → AreRun race line mutators commands k js ds
+  module _ {E : Type 0} (steps : E → List Step) (race : Race) (line : Line) (mutators rounds : ℕ) (scripts : List E) (many : length scripts ≡ mutators) where
+    pub are_run : (k : ℕ) (js ds : List (Job D)) → AllFrom (λ i job. IsRaceJob steps race line mutators rounds scripts i (member job.desk) job.script) k js → AllZip (JobRan Did) js ds → first_refusal (map (λ job. job.outcome) ds) ≡ None → AreRun race line mutators (stored_at steps scripts) k js ds
     are_run k [] [] all r none = record { run = tt; of = All-nil (IsMemberOf race line); rights = refl; len = refl }
     are_run k (x ∷ xs) (y ∷ ys) all r none =
         let first = none_first (refusal_in y.outcome) (first_refusal (map (λ job. job.outcome) ys)) none in
@@ -76,7 +67,7 @@ module _ {D : Type 0} (member : D → Member) where
         let ms = map (λ (job : Job D). member job.desk) xs in
         let ns = map (λ (job : Job D). member job.desk) ys in
         record {
-          run = (run_of race line mutators rounds commands k (member x.desk) (member y.desk) x.script all.0 did, rest.run);
+          run = (run_of steps race line mutators rounds scripts many k (member x.desk) (member y.desk) x.script all.0 did, rest.run);
           of = All-cons (IsMemberOf race line) (member y.desk) ns (did.race ∙ all.0.new.of.0, did.home ∙ all.0.new.of.1, did.start ∙ all.0.new.of.2) rest.of;
           rights = omega (arith, did.rights, rest.rights, sum_by-cons member_rights (member x.desk) ms, sum_by-cons member_rights (member y.desk) ns);
           len = ap suc rest.len;
@@ -87,7 +78,7 @@ module _ {D : Type 0} (member : D → Member) where
 abbrev pub views_of : List Member → List View
 views_of ms = map racer_view (filter_map racer_in ms)
 
-module _ (mutators : ℕ) (commands : List Command) where
+module _ (mutators : ℕ) (own : ℕ → List (ℕ × ℕ)) where
   one_of : (hs : List StoreHistory) (number : ℕ) (own_stores : List (ℕ × ℕ)) (h : StoreHistory) → hs ≡ (number, own_stores) ∷ [] → In hs h → h.1 ≡ own_stores
   one_of hs number own_stores h e i = last (subst (λ (l : List StoreHistory). In l h) e i)
     where
@@ -96,18 +87,18 @@ module _ (mutators : ℕ) (commands : List Command) where
       last (inr nothing) = absurd nothing
 
   -- each history is that of some mutator
-  pub each_own : (k : ℕ) (ms : List Member) → AllFrom (HasRun mutators commands) k ms → (h : StoreHistory) → Among histories_of (views_of ms) h → (m : ℕ) × (m < mutators) × (h.1 ≡ own m commands)
+  pub each_own : (k : ℕ) (ms : List Member) → AllFrom (HasRun mutators own) k ms → (h : StoreHistory) → Among histories_of (views_of ms) h → (m : ℕ) × (m < mutators) × (h.1 ≡ own m)
   each_own k [] all h a = absurd a
-  each_own k (Racing r s ∷ ms) all h (inl i) = (k, all.0.0, one_of (racer_view r).histories all.0.1.0 (own k commands) h all.0.1.1 i)
+  each_own k (Racing r s ∷ ms) all h (inl i) = (k, all.0.0, one_of (racer_view r).histories all.0.1.0 (own k) h all.0.1.1 i)
   each_own k (Racing r s ∷ ms) all h (inr a) = each_own (suc k) ms all.1 h a
   each_own k (Sweeping w t ∷ ms) all h a = each_own (suc k) ms all.1 h a
 
   -- each mutator's stores are some history
-  pub every_own : (k : ℕ) (ms : List Member) → AllFrom (HasRun mutators commands) k ms → (m : ℕ) → k ≤ m → m < mutators → m < k + length ms → (h : StoreHistory) × Among histories_of (views_of ms) h × (h.1 ≡ own m commands)
+  pub every_own : (k : ℕ) (ms : List Member) → AllFrom (HasRun mutators own) k ms → (m : ℕ) → k ≤ m → m < mutators → m < k + length ms → (h : StoreHistory) × Among histories_of (views_of ms) h × (h.1 ≡ own m)
   every_own k [] all m le lt there = absurd (omega arith)
   every_own k (Sweeping w t ∷ ms) all m le lt there = absurd (let past : mutators ≤ k = all.0 in omega arith)
   every_own k (Racing r s ∷ ms) all m le lt there = pick (ℕ_discrete k m) (λ above. every_own (suc k) ms all.1 m above lt (omega arith))
     where
-      pick : Dec (k ≡ m) → (suc k ≤ m → (h : StoreHistory) × Among histories_of (views_of ms) h × (h.1 ≡ own m commands)) → (h : StoreHistory) × Among histories_of (views_of (Racing r s ∷ ms)) h × (h.1 ≡ own m commands)
-      pick (yes e) rest = ((all.0.1.0, own k commands), inl (subst (λ (l : List StoreHistory). In l (all.0.1.0, own k commands)) (sym all.0.1.1) (inl refl)), ap (λ (i : ℕ). own i commands) e)
+      pick : Dec (k ≡ m) → (suc k ≤ m → (h : StoreHistory) × Among histories_of (views_of ms) h × (h.1 ≡ own m)) → (h : StoreHistory) × Among histories_of (views_of (Racing r s ∷ ms)) h × (h.1 ≡ own m)
+      pick (yes e) rest = ((all.0.1.0, own k), inl (subst (λ (l : List StoreHistory). In l (all.0.1.0, own k)) (sym all.0.1.1) (inl refl)), ap own e)
       pick (no ne) rest = let more = rest (omega arith) in (more.0, inr more.1, more.2)

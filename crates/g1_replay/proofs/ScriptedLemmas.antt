@@ -1,13 +1,9 @@
 -- A trace that is read to its end before its scripts are run: how it is read, what that comes to, and its whole output.
-use Rattle.std.specs.Prelude.{◌≡◌, ◌++◌, ◌⊎◌}
-use Rattle.g1_replay.specs.{ℕ, List, [], refl, sym, subst, ap, ◌∙◌, Option, Some, None, inl, inr, ⊎_elim, true, false, Bool, Result, Ok, Err, Appends, Consumes-nil, Shape, Command, Dialect, TraceFault, Puts, puts_none, puts_then, End, Listing, Commands, Stop, Fault, NoMemory, WriteFailed, Follows, Writes, written_by, WritesSome, IsEndWritten, ending_line, IsReadStop, Reads, IsRunEnd, IsScriptReplayed, ScriptEnd, WasUnread, IfSome}
+use Rattle.std.specs.Prelude.{◌≡◌, ◌⊎◌}
+use Rattle.g1_replay.specs.{ℕ, List, [], refl, subst, Option, Some, None, inl, inr, ⊎_elim, true, false, Bool, Result, Ok, Err, Appends, Consumes-nil, Shape, Command, Dialect, TraceFault, Puts, puts_none, puts_then, End, Commands, Stop, Fault, NoMemory, WriteFailed, Follows, Writes, written_by, WritesSome, IsEndWritten, ending_line, IsReadStop, Reads, IsRunEnd, IsScriptReplayed, ScriptEnd, WasUnread, IfSome}
 use Rattle.g1_replay.specs.Scripted.{Scripted}
 use Rattle.g1_replay.proofs.EndLemmas.{ReadsAs, all_done, replayed}
 use Rattle.g1_replay.proofs.ReadingLemmas.{reads_then}
-
--- what a list of commands did with some of them
-abbrev pub Lists : Listing → List Command → List ℕ → Listing → Type 0
-Lists s cs text t = (t.commands.items ≡ s.commands.items ++ cs) × (text ≡ [])
 
 -- nothing is written where reading was stopped
 stop_silent : (stop : Stop) (out out' : Option (List ℕ)) → IsReadStop stop ⊎ (stop ≡ NoMemory) → Puts out out' (written_by {V = Bool} (Err stop)) [] → Appends out out' []
@@ -50,13 +46,6 @@ module _ {S : Type 0} (Did : S → List Command → List ℕ → S → Type 0) (
         ),
         subst (λ (x : List ℕ). Appends out out' x) none f.done.written,
       )
-
--- a listing of nothing has what was read
-pub listed : (d : Dialect) (n n' : ℕ) (l : Shape) (old new : Listing) (rd rd' : Option (List ℕ)) → old.commands.items ≡ []
-    → (cs : List Command) × Reads d None n n' rd rd' (Some l) cs (Ok false) × Lists old cs [] new → Reads d None n n' rd rd' (Some l) new.commands.items (Ok false)
-listed d n n' l old new rd rd' none r =
-    let kept : r.0 ≡ new.commands.items = sym (r.2.0 ∙ ap (λ (cs : List Command). cs ++ r.0) none) in
-    subst (λ (cs : List Command). Reads d None n n' rd rd' (Some l) cs (Ok false)) kept r.1
 
 -- a trace that was not read to its end
 pub scripts_unread : (Ran : ScriptEnd) (d : Dialect) (n n' : ℕ) (rd rd' out out' : Option (List ℕ)) (stop : Stop) → WasUnread d n n' rd rd' (Err stop) [] → Appends out out' []

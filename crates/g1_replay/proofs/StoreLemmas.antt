@@ -1,6 +1,7 @@
 -- What a script's stores come to: a racer's history, and its stores as the commands of the trace.
-use Rattle.std.specs.Prelude.{◌≡◌, ◌∷◌, ◌++◌, ◌==◌, ◌&&◌, if◌then◌else◌}
-use Rattle.g1_replay.specs.{ℕ, List, [], Bool, true, false, cond, eqb, ap, sym, ◌∙◌, refl, inl, inr, append_assoc, append-nil, Option, Some, None, ⊎_elim, option_or, cons_option, filter_map, In, last_to, word_of, in_either, Ask, AskStore, AskFlush, AskWork, asks_of, Command, Store, histories_after, last_by, step_for}
+use Rattle.std.specs.Prelude.{◌≡◌, ◌<◌, ◌^◌, ◌∷◌, ◌++◌, ◌==◌, ◌&&◌, if◌then◌else◌}
+use Rattle.g1_replay.specs.{ℕ, List, [], length, map, get_or, arith, All, All-head, All-tail, StepFits, Step, AreScripts, Bool, true, false, cond, eqb, ap, sym, ◌∙◌, refl, inl, inr, append_assoc, append-nil, Option, Some, None, ⊎_elim, option_or, cons_option, filter_map, In, last_to, word_of, in_either, Ask, AskStore, AskFlush, AskWork, asks_of, Command, Store, histories_after, last_by, step_for}
+use Rattle.g1_race.proofs.StoreCalls.{word_fits}
 use Rattle.g1_steps.specs.declared.crew.desk.Step.TheVariants as step
 use Rattle.g1_trace.specs.declared.command.Command.TheVariants.{Flush}
 
@@ -23,24 +24,58 @@ one_history (AskStore slot target ∷ asks) number h = one_history asks number (
 one_history (AskFlush ∷ asks) number h = one_history asks number h
 one_history (AskWork ∷ asks) number h = one_history asks number h
 
--- the calls of a mutator's script
+-- the calls that they are
 abbrev pub script_asks : ℕ → List Command → List Ask
-script_asks mutator cs = asks_of (filter_map (step_for mutator) cs ++ step.Flush ∷ [])
+script_asks mutator cs = asks_of (filter_map (step_for mutator) cs)
 
 pub asks_own : (mutator : ℕ) (cs : List Command) → stored_by (script_asks mutator cs) ≡ own mutator cs
 asks_own mutator [] = refl
 asks_own mutator (Store by slot target ∷ cs) = mine (by == mutator) (asks_own mutator cs)
   where
     mine : (b : Bool) → stored_by (script_asks mutator cs) ≡ own mutator cs
-        → stored_by (asks_of (cons_option (if b then Some (step.Store slot target) else None) (filter_map (step_for mutator) cs) ++ step.Flush ∷ [])) ≡ own mutator cs ++ (if b then (slot, word_of target) ∷ [] else [])
+        → stored_by (asks_of (cons_option (if b then Some (step.Store slot target) else None) (filter_map (step_for mutator) cs))) ≡ own mutator cs ++ (if b then (slot, word_of target) ∷ [] else [])
     mine true e = ap (λ (l : List (ℕ × ℕ)). l ++ (slot, word_of target) ∷ []) e
     mine false e = e ∙ sym (append-nil (own mutator cs))
 asks_own mutator (Flush by ∷ cs) = mine (by == mutator) (asks_own mutator cs)
   where
-    mine : (b : Bool) → stored_by (script_asks mutator cs) ≡ own mutator cs → stored_by (asks_of (cons_option (if b then Some step.Flush else None) (filter_map (step_for mutator) cs) ++ step.Flush ∷ [])) ≡ own mutator cs
+    mine : (b : Bool) → stored_by (script_asks mutator cs) ≡ own mutator cs → stored_by (asks_of (cons_option (if b then Some step.Flush else None) (filter_map (step_for mutator) cs))) ≡ own mutator cs
     mine true e = e
     mine false e = e
 asks_own mutator (c ∷ cs) = asks_own mutator cs
+
+-- what the scripts of the mutators store
+module _ {E : Type 0} (steps : E → List Step) (scripts : List E) where
+  abbrev pub steps_at : ℕ → List Step
+  steps_at k = get_or (map steps scripts) k []
+
+  abbrev pub stored_at : ℕ → List (ℕ × ℕ)
+  stored_at k = stored_by (asks_of (steps_at k))
+
+  -- it is what their commands do
+  pub stored_own : (cs : List Command) → AreScripts steps scripts cs → (k : ℕ) → k < length scripts → stored_at k ≡ own k cs
+  stored_own cs of k lt = ap (λ (ss : List Step). stored_by (asks_of ss)) (of.each k lt) ∙ asks_own k cs
+
+-- a flush stores nothing
+pub flush_stores_none : (steps : List Step) → stored_by (asks_of (steps ++ step.Flush ∷ [])) ≡ stored_by (asks_of steps)
+flush_stores_none [] = refl
+flush_stores_none (step.Store slot target ∷ steps) = ap (λ (l : List (ℕ × ℕ)). l ++ (slot, word_of target) ∷ []) (flush_stores_none steps)
+flush_stores_none (step.Flush ∷ steps) = flush_stores_none steps
+
+-- what fits a heap is stored as a word of 32 bits
+pub stores_low : (slots : ℕ) (steps : List Step) → slots < 2 ^ 32 → All (StepFits slots true) steps → (slot word : ℕ) → In (stored_by (asks_of steps)) (slot, word) → word < 2 ^ 32
+stores_low slots [] low all slot word i = absurd i
+stores_low slots (step.Store to target ∷ steps) low all slot word i = ⊎_elim
+    (λ (a : In {A = ℕ × ℕ} (stored_by (asks_of steps)) (slot, word)). stores_low slots steps low (All-tail (StepFits slots true) (step.Store to target) steps all) slot word a)
+    (λ (b : In {A = ℕ × ℕ} ((to, word_of target) ∷ []) (slot, word)). here b)
+    (in_either (stored_by (asks_of steps)) ((to, word_of target) ∷ []) (slot, word) i)
+  where
+    here : In {A = ℕ × ℕ} ((to, word_of target) ∷ []) (slot, word) → word < 2 ^ 32
+    here (inl e) =
+        let same : word_of target ≡ word = ap (λ (x : ℕ × ℕ). x.1) e in
+        let fits = word_fits target slots (All-head (StepFits slots true) (step.Store to target) steps all).2 in
+        omega (arith, same, fits, low)
+    here (inr x) = absurd x
+stores_low slots (step.Flush ∷ steps) low all slot word i = stores_low slots steps low (All-tail (StepFits slots true) step.Flush steps all) slot word i
 
 -- the word of what is stored last
 abbrev pub as_word : Option (Option ℕ) → Option ℕ

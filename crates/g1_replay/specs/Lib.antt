@@ -39,7 +39,6 @@ pub use declared.lines.line.Part.TheVariants.{Failed, More, Nothing}
 pub use declared.lines.source.Commands.{Commands}
 pub use declared.races.desk.Member.{Member}
 pub use declared.races.desk.Member.TheVariants.{Racing, Sweeping}
-pub use declared.races.listing.Listing.{Listing}
 pub use declared.races.members.Returned.{Returned}
 pub use declared.stop.Stop.{Stop}
 pub use declared.stop.Stop.TheVariants.{BookFull, Fault, NoMemory, NoThread, ReadFailed}

@@ -1,16 +1,16 @@
 -- The jobs of a race, and the table that they leave.
-use Rattle.std.specs.Prelude.{◌≡◌, ◌⊎◌, ◌<◌, ◌≤◌, ◌∷◌, ◌++◌}
+use Rattle.std.specs.Prelude.{◌≡◌, ◌⊎◌, ◌∷◌, ◌++◌}
 use Rattle.g1_replay.specs.Prelude.{ℕ, suc, nat_lt, List, [], Option, Some, None, filter_map}
 use Rattle.g1_replay.specs.Prelude.{Sender, Taker, Line, Race, Racer, Sweeper, racer_view, Ended}
 use Rattle.g1_replay.specs.Prelude.{refs_of, table_of, Holds, IsCovered, IsRecorded, IsPairOf}
-use Rattle.g1_replay.specs.Prelude.{Script, Mutate, Refine, Command}
+use Rattle.g1_replay.specs.Prelude.{Script, Step, Command}
 use Rattle.g1_steps.specs.declared.crew.desk.Step.TheVariants as step
 use Rattle.g1_replay.specs.declared.races.desk.Member.{Member}
 use Rattle.g1_replay.specs.declared.races.desk.Member.TheVariants.{Racing, Sweeping}
 use Rattle.g1_replay.specs.declared.races.members.Returned.{Returned}
 use Rattle.g1_replay.specs.Members.{IsMemberOf, is_racer, member_logged}
 use Rattle.g1_replay.specs.Race.{AreLeftBy, StoresInto}
-use Rattle.g1_replay.specs.Scripts.{step_for}
+use Rattle.g1_replay.specs.Scripts.{IsScriptAt}
 
 -- each item fits its place, the first of them place k
 abbrev pub AllFrom : {A : Type 0} → (ℕ → A → Type 0) → ℕ → List A → Type 0
@@ -29,18 +29,15 @@ pub record IsNewMember (race : Race) (line : Line) (mutators k : ℕ) (m : Membe
   pub logged : member_logged m ≡ 0
   pub fresh : HasStoredNothing m
 
--- The script of member k: the stores of its mutator in the order of the trace and one flush, or
--- rounds of refinement.
-abbrev pub IsRaceScript : (mutators rounds k : ℕ) → List Command → Script → Type 0
-IsRaceScript mutators rounds k commands (Mutate steps) =
-    (k < mutators) × (steps.items ≡ filter_map (step_for k) commands ++ step.Flush ∷ [])
-IsRaceScript mutators rounds k commands (Refine made) = (mutators ≤ k) × (made ≡ rounds)
+-- in a race a script ends with a flush
+abbrev pub with_flush : {E : Type 0} → (E → List Step) → E → List Step
+with_flush steps e = steps e ++ step.Flush ∷ []
 
--- Member k and its script.
-pub record IsRaceJob (race : Race) (line : Line) (mutators rounds : ℕ) (commands : List Command)
-    (k : ℕ) (m : Member) (s : Script) : Type 0 where
+-- Member k, and its script: that of its mutator, or rounds of refinement.
+pub record IsRaceJob {E : Type 0} (steps : E → List Step) (race : Race) (line : Line)
+    (mutators rounds : ℕ) (scripts : List E) (k : ℕ) (m : Member) (s : Script) : Type 0 where
   pub new : IsNewMember race line mutators k m
-  pub script : IsRaceScript mutators rounds k commands s
+  pub script : IsScriptAt (with_flush steps) rounds scripts k s
 
 -- what a member is and has
 abbrev pub racer_in : Member → Option Racer

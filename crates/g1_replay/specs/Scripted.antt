@@ -1,8 +1,7 @@
 -- A trace that is read whole before its scripts run.
-use Rattle.std.specs.Prelude.{◌≡◌, ◌⊎◌, ◌++◌}
+use Rattle.std.specs.Prelude.{◌≡◌, ◌⊎◌}
 use Rattle.g1_replay.specs.Prelude.{ℕ, List, [], false, Result, Ok, Option, Some, None, IfSome}
-use Rattle.g1_replay.specs.Prelude.{IfErr, IsErrAnd, refl, sym, ap, ◌∙◌, subst, append-nil}
-use Rattle.g1_replay.specs.Prelude.{append_assoc, Shape, Command, Dialect}
+use Rattle.g1_replay.specs.Prelude.{IfErr, IsErrAnd, sym, subst, Shape, Command, Dialect}
 use Rattle.g1_replay.specs.declared.end.End.{End}
 use Rattle.g1_replay.specs.declared.stop.Stop.{Stop}
 use Rattle.g1_replay.specs.declared.stop.Stop.TheVariants.{NoMemory, NoThread}
@@ -53,18 +52,6 @@ abbrev pub IsScriptReplayed : ScriptEnd → Dialect → (rd rd' out out' : Optio
 IsScriptReplayed Ran d = IsReplayed d (Scripted Ran)
     (λ heap commands text. IfSome heap (λ l. Ran l commands (Ok tt) text)) (λ _ _ text. text ≡ [])
 
-abbrev pub no_text : List ℕ
-no_text = []
-
--- lists of commands that grow
-pub listed_none : (xs : List Command) → (xs ≡ xs ++ []) × (no_text ≡ [])
-listed_none xs = (sym (append-nil xs), refl)
-
-pub listed_then : (a b c cs ds : List Command) (xs ys : List ℕ) → (b ≡ a ++ cs) × (xs ≡ [])
-    → (c ≡ b ++ ds) × (ys ≡ []) → (c ≡ a ++ (cs ++ ds)) × (xs ++ ys ≡ [])
-listed_then a b c cs ds xs ys p q =
-    (q.0 ∙ ap (λ l. l ++ ds) p.0 ∙ append_assoc a cs ds, ap (λ l. l ++ ys) p.1 ∙ q.1)
-
--- what stops a list is what may stop a command
+-- what stops a script is what may stop a command
 pub no_memory_may : (stop : Stop) → stop ≡ NoMemory → MayStop stop
 no_memory_may stop e = subst MayStop (sym e) tt

@@ -1,4 +1,4 @@
--- The scripts of a crew: what each caller is to do.
+-- The scripts of a crew or a race: what each caller is to do.
 use Rattle.std.specs.Prelude.{◌≡◌, ◌<◌, ◌≤◌, ◌==◌, ◌+◌, ◌∷◌, ◌++◌, if◌then◌else◌}
 use Rattle.g1_replay.specs.Prelude.{ℕ, List, [], Bool, true, false, length, take, map, count_by}
 use Rattle.g1_replay.specs.Prelude.{slice_index_or, Option, Some, None, Result, Err, refl, sym}
@@ -40,6 +40,13 @@ pub record AreKept {E : Type 0} (steps : E → List Step) (old : List E) (cs : L
       ≡ steps (slice_index_or old k d) ++ filter_map (step_for k) cs
   pub stored : sum_by (λ e. stores_in (steps e)) new
       ≡ sum_by (λ e. stores_in (steps e)) old + count_by is_store_command cs
+
+-- These are the scripts of the commands: each has its mutator's calls, and no store is left out.
+pub record AreScripts {E : Type 0} (steps : E → List Step) (scripts : List E)
+    (cs : List Command) : Type 0 where
+  pub each : (k : ℕ) → k < length scripts
+      → slice_index_or (map steps scripts) k [] ≡ filter_map (step_for k) cs
+  pub stored : sum_by (λ e. stores_in (steps e)) scripts ≡ count_by is_store_command cs
 
 -- The script of the caller of this number: that of its mutator, or rounds of refinement.
 abbrev pub IsScriptAt : {E : Type 0} → (E → List Step) → (rounds : ℕ) → List E → ℕ → Script → Type 0

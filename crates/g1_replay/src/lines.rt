@@ -4,7 +4,7 @@
 //! - `opening` reads the lines up to the header, and `Commands` of `source` those behind it: in
 //!   `playing` all of them, by `shown` what a reader shows as a whole, and else by `next`.
 //! - `player` says what is done with the commands.
-//! - `whole` reads a trace to its end for a player that only keeps them.
+//! - `whole` reads a trace to its end, and keeps its scripts.
 
 mod line;
 mod next;

@@ -1,12 +1,11 @@
 //! A replay by threads whose stores race.
 //!
 //! - `play` runs it to its end.
-//! - `listing` keeps the commands, `members` and `desk` are those of the threads, `jobs` makes
-//!   their calls, and `output` prints what they leave.
+//! - `members` and `desk` are those of the threads, `jobs` makes their calls, and `output` prints
+//!   what they leave.
 
 mod desk;
 mod jobs;
-mod listing;
 mod members;
 mod output;
 pub(crate) mod play;

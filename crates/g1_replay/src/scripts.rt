@@ -1,15 +1,84 @@
-//! The scripts of a crew or a race: what each of its threads is to do, and why one was refused.
-ghost use Rattle.std.specs.Prelude.{◌≡◌};
-ghost use Rattle.g1_replay.specs.{IfOk, filter_map, asked_in, refusal_in, step_for};
+//! The scripts of a trace: what each mutator of a crew or a race is to do, kept as the trace is
+//! read, and why a job was refused.
+ghost use Rattle.std.specs.Prelude.{◌≡◌, ◌+◌, ◌∷◌, ◌++◌};
+ghost use Rattle.g1_replay.specs.Prelude.{ℕ, [], drop, refl, true, Ok, Some, All, IfOk, OnOk};
+ghost use Rattle.g1_replay.specs.Prelude.{vec_len, sum_by, slot_count, StepFits};
+ghost use Rattle.g1_replay.specs.Scripted.{no_memory_may};
+ghost use Rattle.g1_replay.specs.Scripts.{AreKept, IsScriptAt, asked_in, kept_nothing, kept_then};
+ghost use Rattle.g1_replay.specs.Scripts.{refusal_in, stores_in};
+ghost use Rattle.g1_replay.specs.declared.stop.Stop.TheVariants.{NoMemory};
+ghost use Rattle.g1_steps.specs.declared.crew.desk.Step.{Step};
 
+use crate::lines::player::Player;
+use crate::stop::Stop;
 use g1_history::Refusal;
-use g1_layout::NoMemory;
-use g1_steps::{Outcome, Step};
-use g1_trace::Command;
+use g1_layout::{Layout, NoMemory};
+use g1_steps::{Outcome, Script, Step};
+use g1_trace::{Command, Dialect};
 use std::alloc::Global;
+use std::io::Write;
+use std::sync::Wait;
 
-/// The call that a command asks of a mutator, and of which one.
-pub(crate) fn asked(command: Command) -> Option<(u32, Step)>
+/// For each mutator the calls that were read so far. None of them is made.
+#[derive(Drop)]
+pub(crate) struct Scripts {
+    pub steps: Vec<Vec<Step>>,
+}
+
+impl Scripts {
+    /// No calls yet.
+    pub(crate) fn new(alloc: Global, mutators: u32) -> Result<Scripts, NoMemory>
+        ensures len { IfOk result (λ scripts. vec_len scripts.steps ≡ mutators) }
+        ensures none { IfOk result (λ scripts.
+            All (λ steps. steps.items ≡ []) scripts.steps.items) }
+    {
+        let mut steps = Vec::with_capacity(alloc, mutators as usize)?;
+        'scripts: while steps.len() < mutators as usize {
+            steps.push_reserved(Vec::new(alloc));
+        }
+        Ok(Scripts { steps })
+    }
+}
+
+impl Player for Scripts {
+    ghost takes = { λ s l d. (vec_len s.steps ≡ d.mutators)
+        × All (λ steps. All (StepFits (slot_count l) true) steps.items) s.steps.items };
+
+    ghost did = { λ s cs text t. AreKept (λ steps. steps.items) s.steps.items cs t.steps.items
+        × (text ≡ []) };
+
+    ghost full = { λ s. ⊥ };
+
+    ghost stops = { λ stop. stop ≡ NoMemory };
+
+    /// Keeps the call behind those of its mutator.
+    fn play<T: Wait, W: Write>(
+        &mut self,
+        _rt: &T,
+        _layout: Layout,
+        _dialect: Dialect,
+        command: Command,
+        _output: &mut W,
+    ) -> Result<(), Stop> {
+        let Some((by, step)) = asked(command) else {
+            return Ok(());
+        };
+        let script = &mut self.steps[by as usize];
+        script.reserve(1)?;
+        script.push_reserved(step);
+        Ok(())
+    }
+
+    ghost may_stop = { no_memory_may };
+
+    ghost none = { λ s. (kept_nothing (λ steps. steps.items) s.steps.items, refl) };
+
+    ghost then = { λ s t u cs ds xs ys.
+        kept_then (λ steps. steps.items) s.steps.items t.steps.items u.steps.items cs ds xs ys };
+}
+
+// The call that a command asks of a mutator, and of which one.
+fn asked(command: Command) -> Option<(u32, Step)>
     ensures { result ≡ asked_in command }
 {
     match command {
@@ -23,35 +92,57 @@ pub(crate) fn asked(command: Command) -> Option<(u32, Step)>
     }
 }
 
-// What the command asks of this mutator, if it is the mutator's.
-fn step_of(mutator: u32, command: Command) -> Option<Step>
-    ensures { result ≡ step_for mutator command }
+// How many of the calls are stores.
+fn stores_of(script: &[Step]) -> u64
+    ensures { result ≡ stores_in script.now }
 {
-    match asked(command) {
-        Some((by, step)) if by == mutator => Some(step),
-        _ => None,
+    let mut stores = 0;
+    for step in script {
+        if let Step::Store(..) = step {
+            stores += 1;
+        }
     }
+    stores
 }
 
-/// The calls of this mutator, in the order of the trace.
-///
-/// Returns `NoMemory` if a growth of the calls was refused.
-pub(crate) fn steps_of(
-    alloc: Global,
-    commands: &[Command],
-    mutator: u32,
-) -> Result<Vec<Step>, NoMemory>
-    ensures { IfOk result (λ steps. steps.items ≡ filter_map (step_for mutator) commands.now) }
+/// How many stores the scripts have, or `NoMemory` if these are 2^64 or more.
+pub(crate) fn count_stores(scripts: &[Vec<Step>]) -> Result<u64, NoMemory>
+    ensures { IfOk result (λ stores.
+        stores ≡ sum_by (λ script. stores_in script.items) scripts.now) }
 {
-    let mut steps = Vec::new(alloc);
-    for command in commands {
-        let Some(step) = step_of(mutator, *command) else {
-            continue;
+    let mut stores: u64 = 0;
+    for script in scripts {
+        let Some(sum) = stores.checked_add(stores_of(script)) else {
+            return Err(NoMemory);
         };
-        steps.reserve(1)?;
-        steps.push_reserved(step);
+        stores = sum;
     }
-    Ok(steps)
+    Ok(stores)
+}
+
+/// The next script: the calls of a mutator, or rounds if none is left.
+pub(crate) fn next_script(scripts: &mut Vec<Vec<Step>>, rounds: u32) -> Script
+    ensures { (all : _) (k : ℕ) → scripts.old.items ≡ drop k all
+        → IsScriptAt (λ steps. steps.items) rounds all k result
+        × (scripts.new.items ≡ drop (k + 1) all) }
+{
+    if scripts.is_empty() {
+        return Script::Refine(rounds);
+    }
+    Script::Mutate(scripts.remove(0))
+}
+
+/// Adds the call that a command asks of a mutator behind these, if it asks for one.
+pub(crate) fn append(steps: &mut Vec<Step>, command: Command) -> Result<(), NoMemory>
+    ensures { OnOk result ((by : ℕ) (step : Step) → asked_in command ≡ Some (by, step)
+        → steps.new.items ≡ steps.old.items ++ step ∷ []) }
+{
+    let Some((_, step)) = asked(command) else {
+        return Ok(());
+    };
+    steps.reserve(1)?;
+    steps.push_reserved(step);
+    Ok(())
 }
 
 /// Why a job was refused, if it was.

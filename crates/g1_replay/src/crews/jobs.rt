@@ -1,11 +1,11 @@
 //! The jobs of a crew, and the book that they leave.
 ghost use Rattle.std.specs.Prelude.{◌≡◌, ◌+◌, ◌≤◌, ◌^◌, ◌<◌};
-ghost use Rattle.g1_replay.specs.{ℕ, [], drop, true, IfErr, IfOk, All, map, count_by, sum_by};
+ghost use Rattle.g1_replay.specs.{[], true, IfErr, IfOk, All, map, count_by, sum_by};
 ghost use Rattle.g1_replay.specs.{vec_len, vec_capacity, IsCallerOf, is_store, kept_terms};
 ghost use Rattle.g1_replay.specs.{shared_terms, terms_of, slot_count, StepFits, AllFrom};
 ghost use Rattle.g1_replay.specs.{IsUnstarted, first_refusal, HasCome, IsScriptAt};
 
-use crate::scripts::refusal_of;
+use crate::scripts::{next_script, refusal_of};
 use crate::stop::Stop;
 use g1_history::{Book, Refusal};
 use g1_layout::NoMemory;
@@ -17,18 +17,6 @@ use std::marker::Send;
 use std::sync::Wait;
 use std::sync::ledger::{Blank, Ledger};
 use std::thread::Threads;
-
-// The next script: the calls of a mutator, or rounds if none is left.
-fn next_script(scripts: &mut Vec<Vec<Step>>, rounds: u32) -> Script
-    ensures { (all : _) (k : ℕ) → scripts.old.items ≡ drop k all
-        → IsScriptAt (λ steps. steps.items) rounds all k result
-        × (scripts.new.items ≡ drop (k + 1) all) }
-{
-    if scripts.is_empty() {
-        return Script::Refine(rounds);
-    }
-    Script::Mutate(scripts.remove(0))
-}
 
 // One job for each caller, in the order of the callers: each mutator's calls, and then rounds of
 // refinement.

@@ -8,18 +8,18 @@ ghost use Rattle.g1_replay.specs.Scripted.{Scripted};
 ghost use Rattle.g1_trace.specs.declared.mode.Mode.TheVariants.{Crew};
 
 use crate::crews::jobs::run_jobs;
-use crate::crews::listing::Scripts;
 use crate::crews::output::put_crew;
 use crate::end::End;
 use crate::lines::source::Source;
-use crate::lines::whole::read_whole;
+use crate::lines::whole::read_scripts;
 use crate::runs::engine::put_end;
+use crate::scripts::Scripts;
 use crate::stop::Stop;
 use g1_history::Book;
 use g1_layout::Layout;
 use g1_options::Options;
 use g1_steps::Step;
-use g1_trace::{Dialect, Mode};
+use g1_trace::Mode;
 use std::alloc::Global;
 use std::io::{BufRead, Write};
 use std::marker::Brand;
@@ -73,13 +73,8 @@ fn play_crew<T: Threads + Wait + Sync, R: BufRead, W: Write>(
         source.old.number source.new.number (R.remaining input.old) (R.remaining input.new))
         (W.contents output.old) (W.contents output.new) result }
 {
-    let dialect = Dialect {
-        mode: Mode::Crew,
-        mutators: options.mutators,
-    };
-    let mut scripts = Scripts::new(alloc, options.mutators)?;
-    let layout = read_whole(rt, source, dialect, input, &mut scripts, output)?;
-    let Scripts { steps } = scripts;
+    let (layout, scripts) = read_scripts(rt, alloc, Mode::Crew, source, input, output, options)?;
+    let Scripts { steps, .. } = scripts;
     run_scripts(rt, alloc, layout, steps, output, options)
 }
 

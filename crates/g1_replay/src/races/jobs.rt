@@ -1,13 +1,13 @@
 //! The jobs of a race, and the table that they leave.
-ghost use Rattle.std.specs.Prelude.{◌≡◌, ◌≤◌, ◌+◌, ◌<◌};
-ghost use Rattle.g1_replay.specs.{All, IfErr, IfOk, OnOk, None, map, vec_len, slot_count};
-ghost use Rattle.g1_replay.specs.{race_layout, ScriptFits, IsCommandOf, is_racer, AllFrom, HasBack};
-ghost use Rattle.g1_replay.specs.{IsNewMember, IsRaceJob, IsRaceScript, IsTableLeftBy, IsUnstarted};
-ghost use Rattle.g1_replay.specs.{first_refusal};
+ghost use Rattle.std.specs.Prelude.{◌≡◌, ◌+◌};
+ghost use Rattle.g1_replay.specs.{ℕ, List, drop, true, All, IfErr, IfOk, OnOk, None, map, vec_len};
+ghost use Rattle.g1_replay.specs.{slot_count, race_layout, ScriptFits, StepFits, Command, is_racer};
+ghost use Rattle.g1_replay.specs.{AllFrom, AreScripts, HasBack, IsNewMember, IsRaceJob, IsScriptAt};
+ghost use Rattle.g1_replay.specs.{IsTableLeftBy, IsUnstarted, first_refusal, with_flush};
 
 use crate::races::desk::{Member, RaceDesk};
 use crate::races::members::{Returned, members_of};
-use crate::scripts::{refusal_of, steps_of};
+use crate::scripts::{append, next_script, refusal_of};
 use crate::stop::Stop;
 use g1_layout::{Layout, NoMemory};
 use g1_log::Line;
@@ -19,23 +19,19 @@ use std::alloc::Global;
 use std::sync::Wait;
 use std::thread::Threads;
 
-// What the member of this number does: the stores of its mutator in the order of the trace and one
-// flush, or rounds of refinement.
-fn race_script(
-    alloc: Global,
-    commands: &[Command],
-    number: u32,
-    options: &Options,
-) -> Result<Script, NoMemory>
-    ensures { IfOk result
-        (IsRaceScript options.now.mutators options.now.rounds number commands.now) }
+// The next script: the calls of a mutator and one flush, or rounds if none is left.
+fn race_script(scripts: &mut Vec<Vec<Step>>, rounds: u32) -> Result<Script, NoMemory>
+    ensures { IfOk result (λ script. (all : _) (k : ℕ) → scripts.old.items ≡ drop k all
+        → IsScriptAt (with_flush (λ steps. steps.items)) rounds all k script
+        × (scripts.new.items ≡ drop (k + 1) all)) }
 {
-    if number < options.mutators {
-        let mut steps = steps_of(alloc, commands, number)?;
-        steps.push(Step::Flush)?;
-        return Ok(Script::Mutate(steps));
+    match next_script(scripts, rounds) {
+        Script::Refine(rounds) => Ok(Script::Refine(rounds)),
+        Script::Mutate(mut steps) => {
+            append(&mut steps, Command::Flush { mutator: 0 })?;
+            Ok(Script::Mutate(steps))
+        }
     }
-    Ok(Script::Refine(options.rounds))
 }
 
 // One job for each member, in their order.
@@ -45,32 +41,32 @@ fn jobs_of<'a, T>(
     race: &'a Race,
     line: &'a Line,
     members: Vec<Member>,
-    commands: &[Command],
+    scripts: Vec<Vec<Step>>,
     options: &Options,
 ) -> Result<Vec<Job<RaceDesk<'a, T>>>, NoMemory>
     requires members { AllFrom (IsNewMember race.now line.now options.now.mutators) 0
         members.items }
-    requires few { vec_len members ≤ 12 }
-    requires commands { All (IsCommandOf (race_layout race.now) options.now.mutators) commands.now }
+    requires count { vec_len scripts ≡ options.now.mutators }
+    requires fits { All (λ steps. All (StepFits (slot_count (race_layout race.now)) true)
+        steps.items) scripts.items }
     ensures members { IfOk result (λ jobs.
         map (λ job. job.desk.member) jobs.items ≡ members.items) }
     ensures jobs { IfOk result (λ jobs.
-        AllFrom (λ k job. IsRaceJob race.now line.now options.now.mutators options.now.rounds
-        commands.now k job.desk.member job.script) 0 jobs.items) }
+        AllFrom (λ k job. IsRaceJob (λ steps. steps.items) race.now line.now options.now.mutators
+        options.now.rounds scripts.items k job.desk.member job.script) 0 jobs.items) }
     ensures fits { IfOk result (λ jobs.
         All (λ job. ScriptFits (slot_count (race_layout job.desk.race.now))
         (is_racer job.desk.member) job.script) jobs.items) }
 {
     let mut jobs = Vec::with_capacity(alloc, members.len())?;
-    let mut number = 0;
+    let mut left = scripts;
     for member in members {
-        let script = race_script(alloc, commands, number, options)?;
+        let script = race_script(&mut left, options.rounds)?;
         jobs.push_reserved(Job {
             desk: RaceDesk::new(rt, alloc, race, line, options.config.log(), member),
             script,
             outcome: None,
         });
-        number += 1;
     }
     Ok(jobs)
 }
@@ -93,8 +89,8 @@ fn returned_by<'a, T>(alloc: Global, jobs: Vec<Job<RaceDesk<'a, T>>>) -> Result<
     Ok(returned)
 }
 
-/// Runs a race: one job for each mutator, whose script is its stores in the order of the trace and
-/// one flush, and one for each refinement thread. Returns the closed race.
+/// Runs a race: one job for each mutator, with its script and one flush, and one for each
+/// refinement thread. Returns the closed race.
 ///
 /// Returns `NoMemory` if a growth for race, queue, jobs or scripts was refused, or a job was, and
 /// `NoThread` if a thread could not be started. The race is then given up. All threads have been
@@ -103,19 +99,23 @@ pub(crate) fn run_race<T: Threads + Wait + Sync>(
     rt: &T,
     alloc: Global,
     layout: Layout,
-    commands: &[Command],
+    scripts: Vec<Vec<Step>>,
     options: &Options,
 ) -> Result<Closed, Stop>
-    requires { All (IsCommandOf layout options.now.mutators) commands.now }
+    requires count { vec_len scripts ≡ options.now.mutators }
+    requires fits { All (λ steps.
+        All (StepFits (slot_count layout) true) steps.items) scripts.items }
     ensures layout { IfOk result (λ closed. closed.layout ≡ layout) }
-    ensures left { IfOk result (λ closed. IsTableLeftBy options.now.mutators commands.now closed) }
+    ensures left { IfOk result (λ closed. (commands : List Command)
+        → AreScripts (λ steps. steps.items) scripts.items commands
+        → IsTableLeftBy options.now.mutators commands closed) }
     ensures stops { IfErr result IsUnstarted }
 {
     let (mutators, refiners) = (options.mutators, options.refiners);
     let (race, racers, sweepers) = Race::open(alloc, layout, mutators, refiners)?;
     let (line, senders, takers) = Line::new(alloc, options.config.limit(), mutators, refiners)?;
     let members = members_of(alloc, &race, &line, (racers, senders), (sweepers, takers))?;
-    let jobs = jobs_of(rt, alloc, &race, &line, members, commands, options)?;
+    let jobs = jobs_of(rt, alloc, &race, &line, members, scripts, options)?;
     let done = run_crew(rt, alloc, jobs)?;
     let returned = returned_by(alloc, done)?;
     line.settle(rt, returned.senders, returned.takers);

@@ -1,44 +1,51 @@
 //! Reads a trace to its end, makes the stores of each mutator in a race, in a thread of its own,
 //! and prints the result.
-ghost use Rattle.g1_replay.specs.{All, IsCommandOf, RaceRan, IsScriptReplayed, dialect_in};
-ghost use Rattle.g1_replay.specs.{WritesSome};
+ghost use Rattle.std.specs.Prelude.{◌≡◌};
+ghost use Rattle.g1_replay.specs.{List, true, All, vec_len, slot_count, StepFits, Command};
+ghost use Rattle.g1_replay.specs.{AreScripts, RaceRan, IsScriptReplayed, WritesSome, dialect_in};
 ghost use Rattle.g1_replay.specs.Scripted.{Scripted};
 ghost use Rattle.g1_trace.specs.declared.mode.Mode.TheVariants.{Race};
 
 use crate::end::End;
 use crate::lines::source::Source;
-use crate::lines::whole::read_whole;
+use crate::lines::whole::read_scripts;
 use crate::races::jobs::run_race;
-use crate::races::listing::Listing;
 use crate::races::output::put_race;
 use crate::runs::engine::put_end;
+use crate::scripts::{Scripts, count_stores};
 use crate::stop::Stop;
 use g1_layout::Layout;
 use g1_options::Options;
-use g1_trace::{Command, Dialect, Mode};
+use g1_trace::Mode;
 use std::alloc::Global;
 use std::io::{BufRead, Write};
 use std::sync::Wait;
 use std::thread::Threads;
 
-// Races the scripts of the commands, and prints the result.
-fn race_commands<T: Threads + Wait + Sync, W: Write>(
+// Races the scripts, and prints the result.
+fn race_scripts<T: Threads + Wait + Sync, W: Write>(
     rt: &T,
     alloc: Global,
     layout: Layout,
-    commands: &[Command],
+    scripts: Scripts,
     output: &mut W,
     options: &Options,
 ) -> Result<(), Stop>
-    requires { All (IsCommandOf layout options.now.mutators) commands.now }
-    ensures { WritesSome (RaceRan options.now.mutators layout commands.now)
+    requires count { vec_len scripts.steps ≡ options.now.mutators }
+    requires fits { All (λ steps.
+        All (StepFits (slot_count layout) true) steps.items) scripts.steps.items }
+    ensures { (commands : List Command)
+        → AreScripts (λ steps. steps.items) scripts.steps.items commands
+        → WritesSome (RaceRan options.now.mutators layout commands)
         (W.contents output.old) (W.contents output.new) result }
 {
-    let closed = run_race(rt, alloc, layout, commands, options)?;
+    let Scripts { steps } = scripts;
+    let stores = count_stores(&steps)?;
+    let closed = run_race(rt, alloc, layout, steps, options)?;
     let Ok(mut core) = closed.into_core(alloc, options.config) else {
         return Err(Stop::NoMemory);
     };
-    put_race(&mut core, commands, output)
+    put_race(&mut core, stores, output)
 }
 
 // The whole trace and then its scripts, but for the line of the end.
@@ -54,15 +61,8 @@ fn play_race<T: Threads + Wait + Sync, R: BufRead, W: Write>(
         source.old.number source.new.number (R.remaining input.old) (R.remaining input.new))
         (W.contents output.old) (W.contents output.new) result }
 {
-    let dialect = Dialect {
-        mode: Mode::Race,
-        mutators: options.mutators,
-    };
-    let mut listing = Listing {
-        commands: Vec::new(alloc),
-    };
-    let layout = read_whole(rt, source, dialect, input, &mut listing, output)?;
-    race_commands(rt, alloc, layout, &listing.commands, output, options)
+    let (layout, scripts) = read_scripts(rt, alloc, Mode::Race, source, input, output, options)?;
+    race_scripts(rt, alloc, layout, scripts, output, options)
 }
 
 /// Replays a trace of stores by a race: reads all of it, and makes the stores of each mutator in a
@@ -87,10 +87,10 @@ fn play_race<T: Threads + Wait + Sync, R: BufRead, W: Write>(
 /// is not claimed that a history of one thread explains a run, nor that a logged card ever reaches
 /// a refinement thread: a card that none refines stays dirty, and the drains find it.
 ///
-/// The race keeps the commands and the scripts, asks the reader for bytes at most 2^40 times, and
-/// tries no failed read or write again. A line is one write or a few, so give it a writer with a
-/// buffer. Its threads wait for nothing but the queue of completed buffers. All of them have been
-/// joined when it returns.
+/// The race keeps the scripts, asks the reader for bytes at most 2^40 times, and tries no failed
+/// read or write again. A line is one write or a few, so give it a writer with a buffer. Its
+/// threads wait for nothing but the queue of completed buffers. All of them have been joined when
+/// it returns.
 pub fn race<T: Threads + Wait + Sync, R: BufRead, W: Write>(
     rt: &T,
     alloc: Global,

@@ -1,9 +1,8 @@
 use Rattle.std.specs.Prelude.{◌≡◌, ◌+◌, ◌++◌}
-use Rattle.g1_replay.specs.{ℕ, suc, map, ap, ◌∙◌, sym, subst, arith, All, into_iter_items, All-nil, All-push, All-same, slot_count, race_layout, ScriptFits, Member, is_racer, AllFrom, IsNewMember, IsRaceJob}
+use Rattle.g1_replay.specs.{ℕ, suc, drop, map, vec_len, with_flush, ap, ◌∙◌, sym, subst, arith, All, into_iter_items, All-nil, All-push, All-same, slot_count, race_layout, ScriptFits, Member, is_racer, AllFrom, IsNewMember, IsRaceJob}
 use Rattle.g1_race.specs.declared.race.Race.{Race}
 use Rattle.g1_steps.proofs.WorkerLemmas.{started_more}
-use Rattle.g1_replay.proofs.{all_from_next, all_from_rest, all_moved}
-use Rattle.g1_replay.proofs.RanRaceLemmas.{race_script_fits}
+use Rattle.g1_replay.proofs.{all_from_next, all_from_rest, all_moved, flushes_fit, script_at_fits}
 use Rattle.g1_replay.proofs.races.jobs.jobs_of.Goals as goal
 
 pub loop-member-preserved : goal.loop-member-preserved
@@ -14,24 +13,28 @@ loop-member-preserved g c =
     let line = c.args.line.now in
     let mutators = c.args.options.now.mutators in
     let rounds = c.args.options.now.rounds in
-    let commands = c.args.commands.now in
-    let k = c.loop-member.number in
+    let scripts = c.args.scripts.items in
+    let k = vec_len c.loop-member.jobs in
     let script = c.in_ok-script.script in
     let first = all_from_rest (IsNewMember race line mutators) k _ _ _ steps.0 was.rest in
-    let next : suc k ≡ k + 1 = omega arith in
-    let fits = race_script_fits (race_layout race) mutators rounds k commands c.in-Some.member script c.requires.commands first.0.kind c.in_ok-script.ensures in
+    let next = c.in_ok-script.ensures scripts k was.left in
+    let slots = slot_count (race_layout race) in
+    let fits = subst (λ b. ScriptFits slots b script) (sym first.0.kind)
+    (script_at_fits (with_flush (λ steps. steps.items)) slots rounds mutators k scripts script (omega (arith, c.requires.count, c.args.scripts.ok.0)) (flushes_fit (λ steps. steps.items) slots scripts c.requires.fits) next.0) in
+    let more : suc k ≡ vec_len c.push_reserved.new.self = omega (arith, c.push_reserved.ensures.len) in
+    let past : k + 1 ≡ vec_len c.push_reserved.new.self = omega (arith, c.push_reserved.ensures.len) in
     record {
       len = omega (arith, was.len, steps.1, c.push_reserved.ensures.len);
-      number = omega (arith, was.number, c.push_reserved.ensures.len);
       room = omega (arith, was.room, c.push_reserved.ensures.capacity);
       same = started_more (λ job. job.desk.member) _ _ _ _ _ _ _ was.same steps.0 c.push_reserved.ensures.items c.new.ensures.member;
-      rest = subst (λ (n : ℕ). AllFrom (IsNewMember race line mutators) n (into_iter_items c.next.new.self)) next first.1;
-      jobs = all_from_next (λ i job. IsRaceJob race line mutators rounds commands i job.desk.member job.script) _ _ k _ c.push_reserved.ensures.items (omega (arith, was.number, c.loop-member.jobs.ok.0)) was.jobs
-          (subst (λ (m : Member). IsRaceJob race line mutators rounds commands k m script) (sym c.new.ensures.member) (record { new = first.0; script = c.in_ok-script.ensures }));
+      rest = subst (λ (n : ℕ). AllFrom (IsNewMember race line mutators) n (into_iter_items c.next.new.self)) more first.1;
+      jobs = all_from_next (λ i job. IsRaceJob (λ steps. steps.items) race line mutators rounds scripts i job.desk.member job.script) _ _ k _ c.push_reserved.ensures.items (omega (arith, c.loop-member.jobs.ok.0)) was.jobs
+          (subst (λ (m : Member). IsRaceJob (λ steps. steps.items) race line mutators rounds scripts k m script) (sym c.new.ensures.member) (record { new = first.0; script = next.0 }));
       fits = All-same (λ job. ScriptFits (slot_count (race_layout job.desk.race.now)) (is_racer job.desk.member) job.script) _ _ c.push_reserved.ensures.items
           (All-push (λ job. ScriptFits (slot_count (race_layout job.desk.race.now)) (is_racer job.desk.member) job.script) _ _ was.fits
           (subst (λ (m : Member). ScriptFits (slot_count (race_layout c.new.result.race.now)) (is_racer m) script) (sym c.new.ensures.member)
           (subst (λ (r : Race). ScriptFits (slot_count (race_layout r)) (is_racer c.in-Some.member) script) (sym c.new.ensures.race) fits)));
+      left = next.1 ∙ ap (λ n. drop n scripts) past;
     }
 
 -- no member has a job at first
@@ -40,14 +43,16 @@ loop-member-init g c =
     let given : into_iter_items c.into_iter-member-iterator.result ≡ c.args.members.items = c.into_iter-member-iterator.ensures.into_iter_gives.0 in
     let left = c.into_iter-member-iterator.ensures.into_iter_gives.1 in
     let none = c.in_ok-jobs.ensures.items in
+    let empty : 0 ≡ vec_len c.in_ok-jobs.jobs = sym c.in_ok-jobs.ensures.len in
     record {
       len = omega (arith, left, c.in_ok-jobs.ensures.len);
-      number = sym c.in_ok-jobs.ensures.len;
       room = omega (arith, c.len.ensures, c.in_ok-jobs.ensures.capacity);
       same = ap (λ jobs. map (λ job. job.desk.member) jobs ++ into_iter_items c.into_iter-member-iterator.result) none ∙ given;
-      rest = subst (AllFrom (IsNewMember c.args.race.now c.args.line.now c.args.options.now.mutators) 0) (sym given) c.requires.members;
-      jobs = subst (λ jobs. AllFrom (λ i job. IsRaceJob c.args.race.now c.args.line.now c.args.options.now.mutators c.args.options.now.rounds c.args.commands.now i job.desk.member job.script) 0 jobs) (sym none) tt;
+      rest = subst (λ (n : ℕ). AllFrom (IsNewMember c.args.race.now c.args.line.now c.args.options.now.mutators) n (into_iter_items c.into_iter-member-iterator.result)) empty
+          (subst (AllFrom (IsNewMember c.args.race.now c.args.line.now c.args.options.now.mutators) 0) (sym given) c.requires.members);
+      jobs = subst (λ jobs. AllFrom (λ i job. IsRaceJob (λ steps. steps.items) c.args.race.now c.args.line.now c.args.options.now.mutators c.args.options.now.rounds c.args.scripts.items i job.desk.member job.script) 0 jobs) (sym none) tt;
       fits = subst (λ jobs. All (λ job. ScriptFits (slot_count (race_layout job.desk.race.now)) (is_racer job.desk.member) job.script) jobs) (sym none) (All-nil (λ job. ScriptFits (slot_count (race_layout job.desk.race.now)) (is_racer job.desk.member) job.script));
+      left = ap (λ n. drop n c.args.scripts.items) empty;
     }
 
 -- and each has one at the end
@@ -55,4 +60,4 @@ pub returns-clause-members : goal.returns-clause-members
 returns-clause-members g c = all_moved _ (into_iter_items c.loop-member.member-iterator) _ (omega (arith, c.in-None.ensures.steps.0, c.loop-member.member-iterator.rest.ok.0)) c.loop-member.invariant.same
 
 pub new-requires-clause-empty : goal.new-requires-clause-empty
-new-requires-clause-empty g c = (all_from_rest (IsNewMember c.args.race.now c.args.line.now c.args.options.now.mutators) c.loop-member.number _ _ _ c.in-Some.ensures.steps.0 c.loop-member.invariant.rest).0.logged
+new-requires-clause-empty g c = (all_from_rest (IsNewMember c.args.race.now c.args.line.now c.args.options.now.mutators) (vec_len c.loop-member.jobs) _ _ _ c.in-Some.ensures.steps.0 c.loop-member.invariant.rest).0.logged

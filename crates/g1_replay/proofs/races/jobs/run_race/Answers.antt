@@ -1,19 +1,23 @@
 use Rattle.std.specs.Prelude.{◌^◌, ◌≡◌, ◌+◌, ◌<◌}
-use Rattle.g1_replay.specs.{List, length, map, ap, refl, sym, subst, ◌∙◌, arith, All, sum_by, All-contains, slot_count, in_contains, IsCommandOf, Store, IsPairOf, Sender, Taker, sender_rights, taker_rights, IsSenderOf, IsTakerOf, Racer, Sweeper, Begun, beginning, null_of, IsKnown, IsOver, shape_of, null_begun, race_begun, race_id, racer_race, racer_start, racer_view, sweeper_race, sweeper_start, sweeper_view, Member, member_rights, IsMemberOf, racer_in, sweeper_in, sender_in, taker_in}
+use Rattle.g1_replay.specs.{List, length, map, ap, refl, sym, subst, ◌∙◌, arith, All, sum_by, [], ℕ, true, In, length-map, StepFits, slot_count, IsPairOf, Sender, Taker, sender_rights, taker_rights, IsSenderOf, IsTakerOf, Racer, Sweeper, Begun, beginning, null_of, IsKnown, IsOver, shape_of, null_begun, HaveBegun, race_begun, race_id, racer_race, racer_start, racer_view, sweeper_race, sweeper_start, sweeper_view, Member, member_rights, IsMemberOf, racer_in, sweeper_in, sender_in, taker_in}
 use Rattle.g1_layout.specs.Shape as layout
-use Rattle.g1_race.proofs.StoreCalls.{word_fits}
 use Rattle.g1_race_words.specs.declared.view.RaceShape.{RaceShape}
 use Rattle.g1_race.proofs.Fresh.{begun_as}
 use Rattle.g1_race.proofs.Opening.{begins_null}
 use Rattle.g1_replay.proofs.LeftLemmas.{table_left}
-use Rattle.g1_replay.proofs.{all_chosen, racer_of, sender_of, sweeper_of, taker_of, sorted_length, sorted_rights}
+use Rattle.g1_replay.proofs.StoreLemmas.{own, steps_at, stored_at, stored_own, stores_low}
+use Rattle.g1_replay.proofs.{all_chosen, each_script, racer_of, sender_of, sweeper_of, taker_of, sorted_length, sorted_rights}
 use Rattle.g1_replay.proofs.RanRaceLemmas.{AreRun, are_run, each_own, every_own, views_of}
 use Rattle.g1_replay.proofs.races.jobs.run_race.Goals as goal
 use Rattle.g1_replay.proofs.races.jobs.run_race.Goals.{In_ok-returned}
 
 -- the jobs were run
-run : (g : _) (c : In_ok-returned g) → AreRun (λ d. d.member) c.in_ok-race.race c.in_ok-line.line c.args.options.now.mutators c.args.commands.now 0 c.in_ok-jobs.jobs.items c.in_ok-done.done.items
-run g c = are_run (λ d. d.member) c.in_ok-race.race c.in_ok-line.line c.args.options.now.mutators c.args.options.now.rounds c.args.commands.now 0 c.in_ok-jobs.jobs.items c.in_ok-done.done.items c.in_ok-jobs.ensures.jobs c.in_ok-done.ensures c.in_ok-returned.ensures.whole
+run : (g : _) (c : In_ok-returned g) → AreRun (λ d. d.member) c.in_ok-race.race c.in_ok-line.line c.args.options.now.mutators (stored_at (λ steps. steps.items) c.args.scripts.items) 0 c.in_ok-jobs.jobs.items c.in_ok-done.done.items
+run g c = are_run (λ d. d.member) (λ steps. steps.items) c.in_ok-race.race c.in_ok-line.line c.args.options.now.mutators c.args.options.now.rounds c.args.scripts.items (omega (arith, c.requires.count, c.args.scripts.ok.0)) 0 c.in_ok-jobs.jobs.items c.in_ok-done.done.items c.in_ok-jobs.ensures.jobs c.in_ok-done.ensures c.in_ok-returned.ensures.whole
+
+pub members_of-requires-clause-begun : goal.members_of-requires-clause-begun
+members_of-requires-clause-begun g c =
+    subst (λ (k : RaceShape). HaveBegun (null_of k) c.in_ok-race.racers c.in_ok-race.sweepers) (sym c.in_ok-race.ensures.shape) c.in_ok-race.ensures.begun
 
 pub settle-requires-clause-senders : goal.settle-requires-clause-senders
 settle-requires-clause-senders g c =
@@ -59,11 +63,15 @@ close-requires-clause-sweepers g c =
     subst (λ (xs : List Sweeper). All (λ w. sweeper_race w ≡ race_id c.in_ok-race.race) xs) (sym c.in_ok-returned.ensures.back.sweepers) (λ k d lt. (all_chosen (IsMemberOf c.in_ok-race.race c.in_ok-line.line) (λ w. (sweeper_race w ≡ race_id c.in_ok-race.race) × (sweeper_start w ≡ null_of c.in_ok-race.race.shape)) sweeper_in (sweeper_of c.in_ok-race.race c.in_ok-line.line) _ (run g (goal.at.close-requires-clause-sweepers g c).In_ok-returned).of k d lt).0)
 
 pub returns-clause-left : goal.returns-clause-left
-returns-clause-left g c =
+returns-clause-left g c = λ commands of.
     let race = c.in_ok-race.race in
     let line = c.in_ok-line.line in
     let mutators = c.args.options.now.mutators in
-    let commands = c.args.commands.now in
+    let scripts = c.args.scripts.items in
+    let fits = c.requires.fits in
+    let kept = stored_at (λ steps. steps.items) scripts in
+    let many : length scripts ≡ mutators = omega (arith, c.requires.count, c.args.scripts.ok.0) in
+    let same : (m : ℕ) → m < mutators → kept m ≡ own m commands = λ m lt. stored_own (λ steps. steps.items) scripts commands of m (subst (λ n. m < n) (sym many) lt) in
     let closed = c.close.result in
     let count = mutators + c.args.options.now.refiners in
     let ms = map (λ job. job.desk.member) c.in_ok-done.done.items in
@@ -81,10 +89,14 @@ returns-clause-left g c =
     let over = subst (λ (xs : List Racer). IsOver (null_begun closed.layout count) closed.words (map racer_view xs) sweepers) c.in_ok-returned.ensures.back.racers (subst (λ (b : Begun). IsOver b closed.words (map racer_view rs) sweepers) begun c.close.ensures.over) in
     let low : slot_count c.args.layout < 2 ^ 32 = subst (λ (l : layout.Shape). slot_count l < 2 ^ 32) c.in_ok-race.ensures.layout (subst (λ (k : RaceShape). k.slots < 2 ^ 32) race.laid race.shaped.3) in
     table_left closed count mutators commands (views_of ms) sweepers over
-    (each_own mutators commands 0 ms run.run)
-    (λ m lt. every_own mutators commands 0 ms run.run m (omega arith) lt
-    (omega (arith, run.len, members, c.in_ok-members.ensures.len, c.in_ok-race.ensures.racers.0, c.in_ok-race.ensures.sweepers.0, c.in_ok-members.members.ok.0)))
-    (λ by slot target i. let fits = word_fits target (slot_count c.args.layout) (All-contains (IsCommandOf c.args.layout mutators) commands (Store by slot target) c.requires (in_contains commands _ i)).2 in omega (arith, fits, low))
+    (λ h a. let by = each_own mutators kept 0 ms run.run h a in (by.0, by.1, by.2 ∙ same by.0 by.1))
+    (λ m lt.
+    let by = every_own mutators kept 0 ms run.run m (omega arith) lt
+    (omega (arith, run.len, members, c.in_ok-members.ensures.len, c.in_ok-race.ensures.racers.0, c.in_ok-race.ensures.sweepers.0, c.in_ok-members.members.ok.0)) in
+    (by.0, by.1, by.2 ∙ same m lt))
+    (λ m slot word lt i. stores_low (slot_count c.args.layout) (steps_at (λ steps. steps.items) scripts m) low
+    (each_script (λ steps. steps.items) (All (StepFits (slot_count c.args.layout) true)) scripts fits m [] (omega (arith, length-map scripts (λ steps. steps.items), many, lt)))
+    slot word (subst (λ (l : List (ℕ × ℕ)). In l (slot, word)) (sym (same m lt)) i))
     c.close.ensures.cover
     (λ x i. subst (λ (l : layout.Shape). IsPairOf l x) (sym c.close.ensures.layout) (c.close.ensures.within x i))
     (λ x i. subst (λ (b : Begun). IsKnown b sweepers x) begun ((c.close.ensures.pairs x).0 i))

@@ -3,11 +3,11 @@ use Rattle.g1_replay.proofs.{count_failed, race_written}
 use Rattle.g1_replay.proofs.races.output.put_race.Goals as goal
 
 pub returns-in_err-put_stores : goal.returns-in_err-put_stores
-returns-in_err-put_stores g c mutators e is left =
+returns-in_err-put_stores g c mutators e commands many is left =
     let p = err_from_is_err_and c.from_residual.result c.from_residual.ensures.1 in
-    rw (p.1, p.2) (count_failed e mutators c.args.commands.now c.args.core.now is left _ _ (rw c.count_stores.ensures at c.in_err-put_stores.ensures))
+    rw (p.1, p.2) (count_failed e mutators commands c.args.core.now is left _ _ (rw many at c.in_err-put_stores.ensures))
 
 pub returns : goal.returns
-returns g c mutators e is left =
+returns g c mutators e commands many is left =
     let layout = c.layout-layout.ensures.value ∙ ap (λ (t : Table). t.layout) is in
-    race_written e mutators c.args.commands.now c.args.core.now is left c.put_drains.new.left _ (g.W.Write.contents c.put_stores.new.output) _ c.put_drains.result c.put_drains.ensures.stops (rw c.count_stores.ensures at c.in_ok-put_stores.ensures) (rw layout at c.put_drains.ensures.drained)
+    race_written e mutators commands c.args.core.now is left c.put_drains.new.left _ (g.W.Write.contents c.put_stores.new.output) _ c.put_drains.result c.put_drains.ensures.stops (rw many at c.in_ok-put_stores.ensures) (rw layout at c.put_drains.ensures.drained)

@@ -1,10 +1,13 @@
-use Rattle.std.specs.Prelude.{◌≡◌}
-use Rattle.g1_replay.specs.{rules, RaceRan}
-use Rattle.g1_replay.proofs.{scripts_run, listed}
+use Rattle.g1_replay.specs.{err_from_is_err_and, RaceRan}
+use Rattle.g1_replay.proofs.{scripts_run, scripts_unread}
 use Rattle.g1_replay.proofs.races.play.play_race.Goals as goal
+
+pub returns-in_err-layout : goal.returns-in_err-layout
+returns-in_err-layout g c =
+    let p = err_from_is_err_and c.from_residual.result c.from_residual.ensures.1 in
+    rw (p.1, p.2) (scripts_unread (RaceRan c.args.options.now.mutators) _ _ _ _ _ _ _ _ c.in_err-layout.ensures.read c.in_err-layout.ensures.silent)
 
 pub returns : goal.returns
 returns g c =
-    let same : c.deref.result.now ≡ c.read_whole.new.player.commands.items = search rules in
-    scripts_run (RaceRan c.args.options.now.mutators) _ _ _ c.in_ok-layout.layout _ _ _ _ _ _ c.race_commands.result
-    (listed _ _ _ c.in_ok-layout.layout (record { commands = c.new.result }) c.read_whole.new.player _ _ (search rules) c.in_ok-layout.ensures.read) c.in_ok-layout.ensures.silent (rw same at c.race_commands.ensures)
+    let read = c.in_ok-layout.ensures.read in
+    scripts_run (RaceRan c.args.options.now.mutators) _ _ _ _ _ _ _ _ _ _ c.race_scripts.result read.1 c.in_ok-layout.ensures.silent (c.race_scripts.ensures read.0 read.2)

@@ -1,7 +1,7 @@
 use Rattle.std.specs.Prelude.{◌<◌}
 use Rattle.g1_replay.specs.{length, refl, rules}
 use Rattle.g1_replay.proofs.{some_left}
-use Rattle.g1_replay.proofs.crews.jobs.next_script.Goals as goal
+use Rattle.g1_replay.proofs.scripts.next_script.Goals as goal
 
 pub returns : goal.returns
 returns c = λ all k e.

@@ -1,6 +1,6 @@
 use Rattle.std.specs.Prelude.{◌≡◌, ◌≤◌, ◌-◌}
 use Rattle.g1_replay.specs.{[], All, vec_len, vec_capacity}
-use Rattle.g1_replay.proofs.crews.listing.Scripts.new.Given as goal
+use Rattle.g1_replay.proofs.scripts.Scripts.new.Given as goal
 
 -- no calls of those so far, and room for the rest
 abbrev pub invariant-scripts : goal.invariant-scripts
