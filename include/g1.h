@@ -825,8 +825,8 @@ uint32_t g1_heap_is_pending(struct g1_heap *heap, uint32_t card, uint32_t *pendi
 
 /*
  * Sets `totals` to how many cards are dirty and how many pairs of a card and a region are recorded.
- * It reads a bit for each card, that many again for each region, and a word for each of the pairs:
- * 4 to 8 ms on a heap of 33 million slots, so it is no call for every pause. It takes no memory.
+ * It reads a bit for each card, that many again for each region, and a word for each of the pairs,
+ * so it is no call for every pause. It takes no memory.
  *
  * Returns G1_DONE, or G1_NOT_OPEN or G1_NOT_PAUSED: both totals are 0.
  */

@@ -87,7 +87,7 @@ fn store_each(rt: &impl Wait, race: &Race, racer: &mut Racer, stores: &Stores, t
     }
 }
 
-// The sweepers refine beside each other.
+// The sweepers refine, each in a thread of its own.
 fn refine_all<R: Threads + Wait + Sync>(
     rt: &R,
     race: &Race,

@@ -6,7 +6,7 @@ pub use Rattle.std.specs.Prelude.{Some, take, ℕ}
 pub use Rattle.arrayvec.specs.ArrayVec.{array_vec_len}
 pub use Rattle.g1_core.specs.Calls.{DoesCopy}
 pub use Rattle.g1_core.specs.Machine.{IsOnlyRead, new_machine}
-pub use Rattle.g1_core.specs.Queries.{TellsMembers, TellsPending, TellsStatus, TellsTarget}
+pub use Rattle.g1_core.specs.Calls.{TellsMembers, TellsPending, TellsStatus, TellsTarget}
 pub use Rattle.g1_handles.proofs.CalledLemmas.{called_ok, called_same, called_why}
 pub use Rattle.g1_handles.proofs.VisitLemmas.{role_if, role_of, role_ok, role_why, visit_same}
 pub use Rattle.g1_handles.proofs.VisitLemmas.{visit_so}

@@ -26,8 +26,8 @@ use Rattle.g1_core.specs.Pause.{IsDrainOf}
 use Rattle.g1_core.specs.Copying.{copied}
 use Rattle.g1_core.specs.Redirect.{DoesRedirect}
 use Rattle.g1_core.specs.Refinement.{IsRefined, AreCardsRead}
-use Rattle.g1_core.specs.Run.{kind_of}
-use Rattle.g1_core.specs.Table.{target_of, AreMembers}
+use Rattle.g1_core.specs.Run.{IsStep, kind_of}
+use Rattle.g1_core.specs.Table.{Table, target_of, AreMembers}
 
 abbrev pub store_entry : ℕ → ℕ → Option ℕ → StoreReply → Entry
 store_entry caller slot target answer =
@@ -133,9 +133,30 @@ pub record DoesRefine (buffer : Option (List ℕ)) (reply : RefineReply)
   pub left : reply.left ≡ 0
   pub idle : IsNone buffer → reply.taken ≡ 0
 
+-- The slot refers to the target.
+pub record TellsTarget (t : Table) (slot : ℕ) (target : Option ℕ) : Type 0 where
+  pub refers : target ≡ target_of t slot
+  pub within : IfSome target (λ place. place < slot_count t.layout)
+  pub step : (caller : ℕ) → IsStep t (target_entry caller slot target) t
+
+-- The answer is whether the card is pending.
+pub record TellsPending (t : Table) (card : ℕ) (answer : Bool) : Type 0 where
+  pub pending : answer ≡ set.contains t.pending card
+  pub step : (caller : ℕ) → IsStep t (pending_entry caller card answer) t
+
+-- These cards are recorded for the region, ascending, each once.
+pub record TellsMembers (t : Table) (region : ℕ) (cards : List ℕ) : Type 0 where
+  pub members : AreMembers t region cards
+  pub step : (caller : ℕ) → IsStep t (members_entry caller region cards) t
+
+-- The status counts the pending cards and the recorded pairs.
+pub record TellsStatus (t : Table) (status : Status) : Type 0 where
+  pub pending : status.pending ≡ set.len t.pending
+  pub recorded : status.recorded ≡ set.len t.recorded
+  pub step : (caller : ℕ) → IsStep t (status_entry caller status) t
+
 pub record DoesTarget (slot : ℕ) (target : Option ℕ) (old new : Machine) : Type 0 where
-  pub answer : target ≡ target_of old.state.table slot
-  pub within : IfSome target (λ place. place < slot_count (layout_at old))
+  pub told : TellsTarget old.state.table slot target
   pub machine : new ≡ record {
     state = old.state;
     settings = old.settings;
@@ -143,17 +164,16 @@ pub record DoesTarget (slot : ℕ) (target : Option ℕ) (old new : Machine) : T
   }
 
 pub record DoesPending (card : ℕ) (answer : Bool) (old new : Machine) : Type 0 where
-  pub pending : answer ≡ set.contains old.state.table.pending card
+  pub told : TellsPending old.state.table card answer
   pub machine : new ≡ old
 
 pub record DoesMembers (region : ℕ) (cards : List ℕ) (old new : Machine) : Type 0 where
-  pub members : AreMembers old.state.table region cards
+  pub told : TellsMembers old.state.table region cards
   pub within : All (λ card. card < card_count (layout_at old)) cards
   pub machine : new ≡ old
 
 pub record DoesStatus (status : Status) (old new : Machine) : Type 0 where
-  pub pending : status.pending ≡ set.len old.state.table.pending
-  pub recorded : status.recorded ≡ set.len old.state.table.recorded
+  pub told : TellsStatus old.state.table status
   pub machine : new ≡ old
 
 pub record DoesDrain (region : ℕ) (answer : Drained) (old new : Machine) : Type 0 where
@@ -166,7 +186,7 @@ pub record DoesClear (region : ℕ) (answer : ClearReply) (old new : Machine) : 
   pub unread : 1 ≤ set.len old.state.table.pending → new.reads ≡ old.reads
   pub reads : new.reads ≤ old.reads + member_count old.state.table region * (layout_at old).slots
 
--- What a copy of so many slots does: no log gets a card.
+-- What a copy of `count` slots does: no log gets a card.
 abbrev pub DoesCopy : ℕ → ℕ → ℕ → Machine → Machine → Type 0
 DoesCopy from to count old new = new ≡ record {
   state = record { table = copied from to count old.state.table; ring = old.state.ring };

@@ -11,8 +11,7 @@ use g1_layout::{Card, Layout, NoMemory, Region, Slot};
 
 impl Core {
     ghost use Rattle.g1_core.specs.{IsShape, IsCovered, IsSound, IsLater, IsStep, target_entry};
-    ghost use Rattle.g1_core.specs.{pending_entry, members_entry, status_entry, DoesTarget};
-    ghost use Rattle.g1_core.specs.{DoesPending, DoesMembers, DoesStatus};
+    ghost use Rattle.g1_core.specs.{DoesTarget, DoesPending, DoesMembers, DoesStatus};
 
     /// The layout of the heap. Constant time. The clauses also say what every core keeps, cover
     /// above all.
@@ -60,8 +59,6 @@ impl Core {
     pub fn is_pending(&self, card: Card) -> bool
         requires { card < card_count self.now.state.table.layout }
         ensures did { DoesPending card result self.now self.now }
-        ensures step { (caller : ℕ)
-            → IsStep self.now.state.table (pending_entry caller card result) self.now.state.table }
     {
         self.memory.heap.mark(card) != Mark::Clean
     }
@@ -74,9 +71,6 @@ impl Core {
     pub fn members(&self, region: Region) -> Result<CardList, NoMemory>
         requires { region < self.now.state.table.layout.regions }
         ensures did { IfOk result (λ cards. DoesMembers region cards self.now self.now) }
-        ensures step { IfOk result (λ cards. (caller : ℕ)
-            → IsStep self.now.state.table (members_entry caller region cards)
-            self.now.state.table) }
     {
         let cards = self.memory.sets.cards(region)?;
         Ok(CardList::of(cards))
@@ -86,8 +80,6 @@ impl Core {
     /// regions.
     pub fn status(&self) -> Status
         ensures did { DoesStatus result self.now self.now }
-        ensures step { (caller : ℕ)
-            → IsStep self.now.state.table (status_entry caller result) self.now.state.table }
     {
         Status {
             pending: self.memory.pending,

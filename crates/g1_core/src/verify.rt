@@ -72,10 +72,10 @@ impl Core {
     /// card is neither pending nor recorded for that region, so that no drain would return the
     /// card. Returns `None` if there is none.
     ///
-    /// The clause `later` of each call says that there is none (`cover`, of a sound core). So it is
-    /// for a debug build that looks whether something else wrote to the core's memory (HotSpot's
-    /// `VerifyRememberedSets` looks for the same). Takes time in proportion to the slots, each of
-    /// which is read, and no memory.
+    /// No core has one: the clause `later` of each call that changes a core says so (`cover` of
+    /// `IsSound`). So it is for a debug build that looks whether something else wrote to the core's
+    /// memory (HotSpot's `VerifyRememberedSets` looks for the same). Takes no memory, and time in
+    /// proportion to the slots, each of which is read.
     pub fn first_missing(&mut self, first: Slot, count: u32) -> Option<Slot>
         requires { first + count ≤ slot_count self.old.state.table.layout }
         ensures first { IsFirst (IsMissing self.old.state.table) first count result }

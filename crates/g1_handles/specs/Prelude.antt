@@ -46,7 +46,7 @@ pub use Rattle.g1_core.specs.Calls.{redirect_entry, redirect_refined, refine_ent
 pub use Rattle.g1_core.specs.Calls.{target_entry}
 pub use Rattle.g1_core.specs.Machine.{IsLater, IsOnlyRead, IsSound, Machine, machine_code}
 pub use Rattle.g1_core.specs.Machine.{new_machine, State}
-pub use Rattle.g1_core.specs.Queries.{TellsMembers, TellsPending, TellsStatus, TellsTarget}
+pub use Rattle.g1_core.specs.Calls.{TellsMembers, TellsPending, TellsStatus, TellsTarget}
 pub use Rattle.g1_core.specs.Redirect.{DoesRedirect}
 pub use Rattle.g1_core.specs.Run.{drained, IsStep, kind_of, stored}
 pub use Rattle.g1_core.specs.Settings.{AreSettings}

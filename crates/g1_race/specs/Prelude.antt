@@ -64,7 +64,7 @@ pub use Rattle.g1_core.specs.Calls.{clear_entry, drain_cards, drain_entry, drain
 pub use Rattle.g1_core.specs.Calls.{redirect_entry, redirect_refined, store_entry}
 pub use Rattle.g1_core.specs.Copying.{copied}
 pub use Rattle.g1_core.specs.Machine.{IsSound, Machine, pending_of, State}
-pub use Rattle.g1_core.specs.Queries.{TellsMembers, TellsPending, TellsStatus, TellsTarget}
+pub use Rattle.g1_core.specs.Calls.{TellsMembers, TellsPending, TellsStatus, TellsTarget}
 pub use Rattle.g1_core.specs.Run.{drained, IsStep, kind_of, pending_after, settled, stored}
 pub use Rattle.g1_core.specs.Run.{table_after, written}
 pub use Rattle.g1_core.specs.Table.{AreMembers, AreRefinable, Crosses, Enters, enters, Holds}

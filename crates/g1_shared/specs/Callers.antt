@@ -4,7 +4,8 @@ use Rattle.g1_shared.specs.Prelude.{ℕ, Bool, true, false, List, [], length, Op
 use Rattle.g1_shared.specs.Prelude.{IfSome, IsSome, IsNone, Result, OnOk, OnErr, Shape, Line, Taker}
 use Rattle.g1_shared.specs.Prelude.{Parcel, line_home, capacity_of, put_of, taken_of, StoreReply}
 use Rattle.g1_shared.specs.Prelude.{IsLent, logged, buffer_of, MayRefuse, RefineReply, No, Full}
-use Rattle.g1_shared.specs.Prelude.{Helped, Mutator, Refusal, IsRefinement, IsRound, round_size}
+use Rattle.g1_shared.specs.Prelude.{Helped, Mutator, Refusal, IsRefinement}
+use Rattle.g1_steps.specs.Rounds.{IsRoundFrom}
 use Rattle.g1_shared.specs.Prelude.{IsNewMutator}
 use Rattle.g1_log.specs.declared.buffer.Buffer.{Buffer}
 use Rattle.g1_log.specs.Log.{Cards}
@@ -132,9 +133,8 @@ IsRefinementAt layout c reply d =
 -- those of the buffers.
 abbrev pub IsRoundAt : SharedTerms → Line → CallerState → RefineReply → CallerState → Type 0
 IsRoundAt terms line c reply d =
-    (seen : ℕ) × (seen ≤ capacity_of line)
-    × IsRound (CountsDid terms.layout) c.counts (taken_list c)
-    (round_size terms.settings.start seen) reply (taken_list d) d.counts
+    IsRoundFrom (CountsDid terms.layout) line terms.settings.start c.counts c.taker reply d.taker
+    d.counts
 
 -- The list has grown by parcels, and no more entries were made than these.
 pub record MakesFor (made : ℕ) (old : List Parcel) (made' : ℕ) (new : List Parcel) : Type 0 where

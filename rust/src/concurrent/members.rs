@@ -169,7 +169,7 @@ impl Racer {
         Ok(counts)
     }
 
-    /// Which heap it is of.
+    /// Its heap.
     pub(super) fn home(&self) -> Home {
         self.seat.numbers.home
     }
@@ -210,7 +210,7 @@ pub struct SweepCounts {
 }
 
 impl Sweeper {
-    /// Which heap it is of.
+    /// Its heap.
     pub(super) fn home(&self) -> Home {
         self.seat.numbers.home
     }

@@ -104,7 +104,7 @@ impl Paused {
     }
 
     /// How much is pending and recorded. No memory. It reads a bit for each pair of a card and a
-    /// region, 4 to 8 ms on a heap of 33 million slots: it is no call for every pause.
+    /// region, so it is no call for every pause.
     pub fn status(&mut self) -> Result<Totals, Refusal> {
         let mut totals = Totals::default();
         match unsafe { g1_heap_status(&mut self.life.handle, &mut totals) } {

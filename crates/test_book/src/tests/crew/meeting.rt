@@ -1,4 +1,4 @@
-//! Jobs run beside each other: each waits until the other has begun.
+//! Jobs run concurrently: each waits until the other has begun.
 ghost use Rattle.std.specs.Prelude.{true, All, IfOk};
 ghost use Rattle.g1_layout.specs.Shape.{slot_count};
 ghost use Rattle.g1_steps.specs.Ask.{ScriptFits};

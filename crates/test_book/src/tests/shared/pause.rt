@@ -34,7 +34,7 @@ fn pause_nobody<M: Terms, S: Ledger, R: Wait>(rt: &R, shared: &Shared<M, S>) {
     shared.pause(rt, &mut nobody);
 }
 
-/// Lent no caller, a pause leaves the log of each and the line.
+/// With no callers, a pause leaves the log of each and the line.
 #[test]
 fn a_pause_without_callers_does_nothing(rt: HostRuntime) -> Result<(), Fail> {
     let book = book(&rt, rt.alloc(), 2, 4, 10)?;

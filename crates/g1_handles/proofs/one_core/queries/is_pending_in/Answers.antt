@@ -4,4 +4,4 @@ use Rattle.g1_handles.proofs.one_core.queries.is_pending_in.Goals as goal
 
 pub returns-clause-pending : goal.returns-clause-pending
 returns-clause-pending c =
-    subst (λ (card : ℕ). TellsPending c.args.core.now.state.table card c.is_pending.result) c.in-Some.ensures.1 (record { pending = c.is_pending.ensures.did.pending; step = c.is_pending.ensures.step })
+    subst (λ (card : ℕ). TellsPending c.args.core.now.state.table card c.is_pending.result) c.in-Some.ensures.1 c.is_pending.ensures.did.told

@@ -15,7 +15,7 @@ loop-number-preserved c =
     let i = c.loop-number.invariant in
     let old = words_of c.args.self.now in
     let n = c.loop-number.number in
-    let flag = c.is_pending.ensures.did.pending ∙ ap (λ (x : ℕ). set_of.contains t.pending x) c.in-Some.ensures.1 in
+    let flag = c.is_pending.ensures.did.told.pending ∙ ap (λ (x : ℕ). set_of.contains t.pending x) c.in-Some.ensures.1 in
     let done = λ (s : Writer). record { below : n + 1 ≤ k.cards; marks : Writes c.args.self.now s (λ heap old new. AreMarked heap t old new (n + 1)) } in
     elim c.if-is_pending.branch [
       | then-is_pending w ↦ subst done (sym w.self-is) (record {

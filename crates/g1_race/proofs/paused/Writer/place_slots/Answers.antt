@@ -10,7 +10,7 @@ use Rattle.g1_race.proofs.paused.Writer.place_slots.Goals as goal
 
 -- the word is that of the slot's reference
 word : (c : After-word_of-word) → c.word_of-word.result ≡ word_of (target_of c.args.core.now.state.table c.loop-number.number)
-word c = c.word_of-word.ensures ∙ ap word_of (c.target.ensures.did.answer ∙ ((λ j. let q : State = c.loop-number.invariant.same.state j in target_of q.table c.in-Some.slot) ∙ ap (λ (p : ℕ). target_of c.args.core.now.state.table p) c.in-Some.ensures.1))
+word c = c.word_of-word.ensures ∙ ap word_of (c.target.ensures.did.told.refers ∙ ((λ j. let q : State = c.loop-number.invariant.same.state j in target_of q.table c.in-Some.slot) ∙ ap (λ (p : ℕ). target_of c.args.core.now.state.table p) c.in-Some.ensures.1))
 
 pub put-requires-clause-begun : goal.put-requires-clause-begun
 put-requires-clause-begun c =
