@@ -1,8 +1,8 @@
 //! Cycles of race and pause over one heap of 65,536 slots, with 8 racers and 4 sweepers.
 //!
 //! `gate_heaps drains N STORES` has each of them in a thread of its own for a race in which each
-//! racer makes so many stores. At each of the N pauses one region is drained, the answer is
-//! compared with a scan of all slots, and the region is emptied and its remembered set cleared.
+//! racer makes STORES stores. At each of the N pauses one region is drained, the answer is compared
+//! with a scan of all slots, and the region is emptied and its remembered set cleared.
 //! `threads N STORES` makes the same races, and at their pauses the calls that take no memory.
 //! `alone N STORES` is that in one thread: between its pauses, and in them, nothing asks for
 //! memory.

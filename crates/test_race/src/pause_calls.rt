@@ -35,7 +35,7 @@ pub(crate) enum Call<'a> {
     Has(u32, u32, bool),
     /// A region is cleared.
     Clear(u32),
-    /// A clear is refused, as so many cards are pending.
+    /// A clear of the region is refused: this many cards are pending.
     ClearPending(u32, u32),
     /// A clear is refused, as this slot refers into the region.
     ClearReferenced(u32, u32),

@@ -49,7 +49,7 @@ fn run<R: Threads + Sync>(
     thread::join_mut(rt, &mut store, &mut refine);
 }
 
-// The racers store, in at most so many threads.
+// The racers store, in at most this many threads.
 fn store_all<R: Threads + Sync>(
     rt: &R,
     race: &Race,
@@ -66,7 +66,7 @@ fn store_all<R: Threads + Sync>(
     thread::for_each_mut(rt, racers, threads, &store);
 }
 
-// The sweepers refine, in at most so many threads.
+// The sweepers refine, in at most this many threads.
 fn refine_all<R: Threads + Sync>(rt: &R, race: &Race, sweepers: &mut [Sweeper], threads: usize)
     requires threads { 0 < threads }
     requires sweepers { All (λ s. sweeper_race s ≡ race_id race.now) sweepers.old }

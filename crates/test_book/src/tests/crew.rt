@@ -1,5 +1,5 @@
-//! Desks, workers and a crew: that their calls succeed and that jobs run beside each other, with
-//! answers worked by hand.
+//! Desks, workers and a crew: that their calls succeed and that jobs run concurrently, with answers
+//! worked by hand.
 ghost use Rattle.std.specs.Prelude.{◌<◌, true, All, IfOk};
 ghost use Rattle.g1_layout.specs.Shape.{slot_count};
 ghost use Rattle.g1_steps.specs.Ask.{StepFits};

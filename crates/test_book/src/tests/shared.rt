@@ -1,5 +1,4 @@
-//! A shared book: that callers' calls succeed beside each other, with answers and entries worked by
-//! hand.
+//! A shared book: that callers' concurrent calls succeed, with answers and entries worked by hand.
 ghost use Rattle.std.specs.Prelude.{◌≡◌, ◌<◌, ◌≤◌, [], vec_len, All, IfOk};
 ghost use Rattle.std.proofs.Props.{props};
 ghost use Rattle.g1_layout.specs.Shape.{slot_count, card_count};

@@ -49,7 +49,7 @@ fn fill_and_empty(rt: &impl Abort, alloc: Global, limit: u32)
     assert!(rt; done.is_empty() && done.take_oldest().is_none());
 }
 
-// Cuts `n` cards from the oldest buffer, which has these cards, and leaves so many buffers.
+// Cuts `n` cards from the oldest buffer, which has these cards. `left` buffers are left.
 fn cut(rt: &impl Abort, done: &mut Done, numbers: &[u32], n: usize, left: usize) {
     let oldest = done.oldest().expect(rt, "a buffer");
     assert_numbered(rt, oldest.cards(), numbers);
