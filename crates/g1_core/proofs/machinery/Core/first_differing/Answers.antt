@@ -10,7 +10,7 @@ returns-then-not-refers_to-clause-first g c =
     let memory = c.args.memory.now in
     first_found (Differs t c.args.first (map P memory)) c.args.first _ c.loop-i.i c.slot_behind-slot.result c.slot_behind-slot.ensures c.loop-i-test.true
     (slot_differs P memory t c.loop-i.self.state.table c.args.first c.loop-i.i c.slot_behind-slot.result c.index-memory-i.result c.target.result c.slot_behind-slot.ensures c.loop-i-test.true c.index-memory-i.is
-    (ap (λ (s : State). s.table) was.read.state) c.target.ensures.did.answer (λ e. absurd (let y = c.refers_to.ensures.1 e in let n = c.if-not-refers_to.true in cc (y, n)))) was.none
+    (ap (λ (s : State). s.table) was.read.state) c.target.ensures.did.told.refers (λ e. absurd (let y = c.refers_to.ensures.1 e in let n = c.if-not-refers_to.true in cc (y, n)))) was.none
 
 pub returns-clause-first : goal.returns-clause-first
 returns-clause-first g c =
