@@ -1,15 +1,14 @@
 -- What the collector's calls at a pause do, each from one pause to the next.
 use Rattle.std.specs.Prelude.{◌≡◌, ◌≢◌}
 use Rattle.g1_race.specs.Prelude.{ℕ, Option, None, Kind, Null, region_of, target_of, IsStep}
-use Rattle.g1_race.specs.Prelude.{kind_of}
-use Rattle.g1_race.specs.Prelude.{stored, copied, store_entry, clear_entry, redirect_entry}
-use Rattle.g1_race.specs.Prelude.{Moved, Cleared}
+use Rattle.g1_race.specs.Prelude.{kind_of, stored, copied, store_entry, unfilled, clear_entry}
+use Rattle.g1_race.specs.Prelude.{redirect_entry, Moved, Cleared}
 use Rattle.g1_core.specs.declared.reply.ClearReply.{ClearReply}
 use Rattle.g1_race.specs.Race.{word_of}
 use Rattle.g1_race.specs.Over.{Pause, table_at}
 use Rattle.g1_race.specs.Telling.{marked_cards}
 use Rattle.g1_race.specs.Evacuating.{IsSameRace, IsRefinedRace, SlotsBecome, same_word, one_word}
-use Rattle.g1_race.specs.Evacuating.{wiped_word, copied_word, plain_reply, AreAllRefined, wiped}
+use Rattle.g1_race.specs.Evacuating.{wiped_word, copied_word, AreAllRefined, wiped}
 use Rattle.g1_race.specs.Evacuating.{forgotten}
 use Rattle.g1_race.specs.Moving.{word_after}
 
@@ -21,7 +20,7 @@ pub record StoresAt (old : Pause) (slot : ℕ) (target : Option ℕ) (kind : Kin
   pub kind_is : kind ≡ kind_of (table_at old) slot target
   pub table : table_at new ≡ stored (table_at old) slot target
   pub step : (caller : ℕ)
-      → IsStep (table_at old) (store_entry caller slot target (plain_reply kind)) (table_at new)
+      → IsStep (table_at old) (store_entry caller slot target (unfilled kind)) (table_at new)
 
 -- data is stored into the slot, which is a store of null to the table
 pub record StoresDataAt (old : Pause) (slot word : ℕ) (new : Pause) : Type 0 where
@@ -29,7 +28,7 @@ pub record StoresDataAt (old : Pause) (slot word : ℕ) (new : Pause) : Type 0 w
   pub words : SlotsBecome (one_word slot word) old new
   pub table : table_at new ≡ stored (table_at old) slot None
   pub step : (caller : ℕ)
-      → IsStep (table_at old) (store_entry caller slot None (plain_reply Null)) (table_at new)
+      → IsStep (table_at old) (store_entry caller slot None (unfilled Null)) (table_at new)
 
 -- the words of `count` slots at or after `from` are copied to as many slots at or after `to`
 pub record Copies (old : Pause) (from to count : ℕ) (new : Pause) : Type 0 where
