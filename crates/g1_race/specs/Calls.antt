@@ -1,15 +1,17 @@
 -- What the collector's calls at a pause do, each from one pause to the next.
-use Rattle.std.specs.Prelude.{◌≡◌, ◌≢◌}
-use Rattle.g1_race.specs.Prelude.{ℕ, Option, None, Kind, Null, region_of, target_of, IsStep}
-use Rattle.g1_race.specs.Prelude.{kind_of, stored, copied, store_entry, unfilled, clear_entry}
-use Rattle.g1_race.specs.Prelude.{redirect_entry, Moved, Cleared}
+use Rattle.std.specs.Prelude.{◌≡◌, ◌≢◌, ◌≤◌}
+use Rattle.g1_race.specs.Prelude.{ℕ, Option, None, Kind, Null, length, region_of, card_count}
+use Rattle.g1_race.specs.Prelude.{target_of, IsStep, kind_of, stored, copied, IsStrictlyIncreasing}
+use Rattle.g1_race.specs.Prelude.{store_entry, unfilled, clear_entry, redirect_entry, drain_entry}
+use Rattle.g1_race.specs.Prelude.{drain_cards, drain_refined, Moved, Cleared}
 use Rattle.g1_core.specs.declared.reply.ClearReply.{ClearReply}
+use Rattle.g1_core.specs.declared.reply.Drained.{Drained}
 use Rattle.g1_race.specs.Race.{word_of}
 use Rattle.g1_race.specs.Over.{Pause, table_at}
 use Rattle.g1_race.specs.Telling.{marked_cards}
 use Rattle.g1_race.specs.Evacuating.{IsSameRace, IsRefinedRace, SlotsBecome, same_word, one_word}
 use Rattle.g1_race.specs.Evacuating.{wiped_word, copied_word, AreAllRefined, wiped}
-use Rattle.g1_race.specs.Evacuating.{forgotten}
+use Rattle.g1_race.specs.Evacuating.{forgotten, IsWhole, IsExactAtPause}
 use Rattle.g1_race.specs.Moving.{word_after}
 
 -- the target is stored into the slot, by a store of this kind
@@ -41,6 +43,15 @@ pub record Refines (old new : Pause) : Type 0 where
   pub race : IsRefinedRace old new
   pub words : SlotsBecome same_word old new
   pub refined : AreAllRefined (table_at old) (marked_cards old.shape old.words) (table_at new)
+
+-- all is refined, and a drain of the region got the answer
+pub record DrainsAt (old : Pause) (region : ℕ) (answer : Drained) (new : Pause) : Type 0 where
+  pub refines : Refines old new
+  pub whole : IsWhole answer
+  pub few : length (drain_cards answer) ≤ card_count old.layout
+  pub ascending : IsStrictlyIncreasing (drain_refined answer)
+  pub step : (caller : ℕ) → IsStep (table_at old) (drain_entry caller region answer) (table_at new)
+  pub exact : IsExactAtPause (table_at old) region (drain_cards answer)
 
 -- a clear of the region got the reply
 pub record ClearsAt (old : Pause) (region : ℕ) (reply : ClearReply) (new : Pause) : Type 0 where
