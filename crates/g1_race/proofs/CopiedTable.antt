@@ -1,6 +1,6 @@
 -- Words that have all of a core's table say that table.
 use Rattle.std.specs.Prelude.{◌^◌, ◌≡◌, ◌≢◌, ◌+◌, ◌-◌, ◌/◌, ◌<◌, ◌≤◌}
-use Rattle.g1_race.specs.{slot_card, eqb-true, length-take, ℕ, List, length, take, get_or, Bool, true, false, Option, None, Some, refl, sym, ap, ◌∙◌, subst, inl, inr, ⊎_elim, arith, some, get_elem?, length-map, length-take-le, get_or_past, cases_lt, true≢false, slot_count, card_count, region_of, Table, State, IsSound, same_cards, same_pairs, in_pairs, to_pairs, pending_flag, RaceShape, In, IsWholeShape, IsPair, HasBit, mark_word, region_at, as_number, word_count, shape_of, word_of, Ended, ended, target_of_word, refs_of, marks_of, table_of, Notes, AreMarked, ArePlaced, AreCovered, zeros, zero_at, no_bit, zeros_read, crosses_reference, card_below, at_take, in_contains, contains_in, reads_as, listed_set, set_listed}
+use Rattle.g1_race.specs.{slot_card, eqb-true, length-take, ℕ, List, length, take, get_or, Bool, true, false, Option, None, Some, refl, sym, ap, ◌∙◌, subst, inl, inr, ⊎_elim, arith, some, get_elem?, length-map, length-take-le, get_or_past, cases_lt, true≢false, slot_count, card_count, region_of, Table, State, IsSound, same_cards, same_pairs, in_pairs, to_pairs, pending_flag, RaceShape, In, IsWholeShape, IsPair, HasBit, mark_word, region_at, as_number, word_count, shape_of, word_of, Ended, ended, target_of_word, refs_of, marks_of, table_of, Notes, AreMarked, ArePlaced, AreCovered, HasWordsOf, zeros, zero_at, no_bit, zeros_read, crosses_reference, card_below, at_take, in_contains, contains_in, reads_as, listed_set, set_listed}
 use Rattle.std.specs.FinSet as set_of
 use Rattle.std.proofs.lemmas.List.{ext_get_or}
 use Rattle.g1_layout.specs.Shape as layout
@@ -90,6 +90,13 @@ pub copied : (s : State) (l : layout.Shape) (k : RaceShape) (words : List ℕ) �
 copied s l k words lay laid parts shaped copy =
     let path : k ≡ shape_of s.table.layout k.members = laid ∙ ap (λ (x : layout.Shape). shape_of x k.members) lay in
     (λ i. table_of (ended (lay i) (path i) words)) ∙ copy_at s k.members words parts (let e : k.slots ≡ slot_count s.table.layout = ap (λ (x : RaceShape). x.slots) path in let f = shaped.3 in omega (arith, e, f)) (subst (λ (q : RaceShape). IsCopy q s.table words) path copy)
+
+-- slots that refer to what they refer to in a table hold no data
+pub words_placed : (t : Table) (l : layout.Shape) (k : RaceShape) (old new : List ℕ) → l ≡ t.layout → k ≡ shape_of l k.members → ArePlaced k t old new k.slots → HasWordsOf t new
+words_placed t l k old new lay laid placed p lt =
+    let slots : k.slots ≡ slot_count t.layout = ap (λ (s : RaceShape). s.slots) laid ∙ ap slot_count lay in
+    let low : p < k.slots = omega (arith, lt, slots) in
+    placed.slots p low low
 
 -- the three steps, from a heap of nulls
 module _ (s : State) (l : layout.Shape) (k : RaceShape) (old a b : List ℕ) (pairs : List (ℕ × ℕ)) (lay : l ≡ s.table.layout) (laid : k ≡ shape_of l k.members) (parts : IsSound s) (shaped : IsWholeShape k)

@@ -1,6 +1,6 @@
 -- Members that a resume hands out are fresh where the logs are empty.
 use Rattle.std.specs.Prelude.{◌≡◌, ◌+◌, ◌<◌, ◌∷◌}
-use Rattle.g1_race.specs.{ℕ, zero, Vec, vec_len, List, [], get_or, length, map, replicate, All, sym, ap, ◌∙◌, subst, arith, Global, get_or-map, length-map, length-replicate, Table, RaceShape, Racer, Sweeper, Start, began, Pause, table_at, start_at, beginning, started, start_of, blank, race_begun, racer_view, sweeper_view, racer_log, racer_number, racer_start, sweeper_start, AreFreshRacers, AreFreshSweepers, HaveBegun, HaveBegunWith, IsNewRacer, IsNewSweeper, IsFreshRacer, IsFreshSweeper}
+use Rattle.g1_race.specs.{ℕ, zero, Vec, vec_len, List, [], get_or, length, map, replicate, All, sym, ap, ◌∙◌, subst, arith, Global, get_or-map, length-map, length-replicate, Table, RaceShape, Racer, Sweeper, Start, began, Pause, table_at, start_at, beginning, started, start_of, blank, race_begun, racer_view, sweeper_view, racer_log, racer_number, racer_start, sweeper_start, AreFreshRacers, AreFreshSweepers, HaveBegun, HaveBegunWith, HasWordsOf, IsNewRacer, IsNewSweeper, IsFreshRacer, IsFreshSweeper}
 use Rattle.std.proofs.lemmas.List.{get_or-replicate}
 use Rattle.g1_layout.specs.Shape as layout
 use Rattle.g1_race.specs.declared.race.Race.{Race}
@@ -21,8 +21,8 @@ module _ (race : Race) (h : Pause) (racers : Vec Racer Global) (sweepers : Vec S
   pub have_begun : (begin : Start) → start_at h ≡ begin → HaveBegun begin racers sweepers
   have_begun begin e = subst (λ (b : Start). HaveBegun b racers sweepers) e ((λ i d lt. ap start_of (new.1 i d lt).1), (λ i d lt. ap start_of (other.1 i d lt).1))
 
-  pub begun_with : (t : Table) → race.layout ≡ h.layout → table_at h ≡ t → HaveBegunWith t race racers sweepers
-  begun_with t laid is = (start_at h, have_begun (start_at h) (λ i. start_at h), ap (λ (l : layout.Shape). began l (beginning (start_at h))) laid ∙ is)
+  pub begun_with : (t : Table) → race.layout ≡ h.layout → table_at h ≡ t → HasWordsOf t h.words → HaveBegunWith t race racers sweepers
+  begun_with t laid is words = (start_at h, have_begun (start_at h) (λ i. start_at h), ap (λ (l : layout.Shape). began l (beginning (start_at h))) laid ∙ is, words)
 
   pub are_fresh : (n : ℕ) → race.shape ≡ h.shape → map racer_log racers.items ≡ h.logs → h.logs ≡ replicate n [] → AreFreshRacers race n racers
   are_fresh n shape logs empty = (

@@ -1,7 +1,7 @@
 -- A race over nulls begins with the opening table.
 use Rattle.std.specs.Prelude.{◌≡◌, ◌+◌, ◌-◌, ◌∷◌, ◌++◌}
-use Rattle.g1_race.specs.{false, ℕ, zero, suc, arith, eqb, List, [], map, refl, ap, ◌∙◌, replicate, slot_count, card_count, opening, pending_of, marks_for, target_of_word, ended, table_of, RaceShape, beginning, bit_word, front, null_of, pairs_of_card, pairs_up_to, word_count, shape_of, null_begun, pair_clear, zeros, no_bit, zeros_read}
-use Rattle.std.proofs.lemmas.List.{drop-replicate, take-replicate}
+use Rattle.g1_race.specs.{false, ℕ, zero, suc, arith, eqb, List, [], map, Option, None, some, get_elem?, refl, sym, ap, ◌∙◌, replicate, slot_count, card_count, opening, pending_of, marks_for, word_of, target_of_word, Pause, start_at, HasWordsOf, ended, table_of, RaceShape, Start, beginning, bit_word, front, null_of, pairs_of_card, pairs_up_to, word_count, shape_of, null_begun, pair_clear, zeros, zero_at, no_bit, zeros_read}
+use Rattle.std.proofs.lemmas.List.{drop-replicate, get_or-replicate, take-replicate}
 use Rattle.std.specs.FinSet as set
 use Rattle.g1_layout.specs.Shape as layout
 use Rattle.g1_core.proofs.OpeningLemmas.{none_pending}
@@ -38,3 +38,9 @@ pub begins_null : (l : layout.Shape) (m : ℕ) → beginning (null_of (shape_of 
 begins_null l m =
     let k = shape_of l m in
     λ i. record { shape = k; words = take-replicate (k.slots + k.cards) (word_count k) 0 (omega arith) i; pairs = no_pairs k (word_count k) k.cards i }
+
+-- a heap of nulls holds no data
+pub opening_words : (l : layout.Shape) (h : Pause) (m : ℕ) → start_at h ≡ null_of h.shape → h.shape ≡ shape_of l m → HasWordsOf (opening l) h.words
+opening_words l h m null laid p lt =
+    let slots : h.shape.slots ≡ slot_count l = ap (λ (k : RaceShape). k.slots) laid in
+    ap (λ (b : Start). get_elem? b.words p) null ∙ (zero_at (word_count h.shape) p (omega (arith, lt, slots)) ∙ ap (λ (o : Option ℕ). some (word_of o)) (sym (get_or-replicate (slot_count l) p None None lt)))

@@ -1,12 +1,12 @@
 -- A store at a pause as a step of the plain table.
 use Rattle.std.specs.Prelude.{◌≤◌, ◌^◌, ◌≡◌, ◌≢◌, ◌+◌, ◌-◌, ◌*◌, ◌/◌, ◌<◌}
-use Rattle.g1_race.specs.{SameBits, ℕ, cond, Bool, true, List, set, take, map, get_or, Option, None, refl, sym, ap, ◌∙◌, subst, inl, inr, arith, ne_eqb, some, get_elem?, nat_cmp, eq_by_cmp, Equal-is, take-set-lt, cases_Bool, cases_eq, or_cases, or_left, or_right, nat_cmp_total, eq_by_cmp_equiv, map-set, exact_unsigned, set_else, set_here, Kind, SameRegion, Null, AlreadyDirty, Logged, slot_count, region_of, CardSet, Table, IsPending, IsStep, kind_of, pending_after, stored, store_entry, refined_none, none_refinable, IfSome, RaceShape, IsBegun, IsWholeShape, slot_card, crosses, mark_word, started, shape_of, ended, refs_of, table_of, target_of_word, plain_reply, mark_apart, mul-add-lt, at_take, crosses_reference, bit_as, card_below, same_bits}
+use Rattle.g1_race.specs.{SameBits, ℕ, cond, Bool, true, List, set, take, map, get_or, Option, None, refl, sym, ap, ◌∙◌, subst, inl, inr, arith, ne_eqb, some, get_elem?, nat_cmp, eq_by_cmp, Equal-is, take-set-lt, cases_Bool, cases_eq, or_cases, or_left, or_right, nat_cmp_total, eq_by_cmp_equiv, map-set, exact_unsigned, set_else, set_here, Kind, SameRegion, Null, AlreadyDirty, Logged, slot_count, region_of, CardSet, Table, IsPending, IsStep, kind_of, pending_after, stored, store_entry, refined_none, none_refinable, IfSome, RaceShape, IsBegun, IsWholeShape, slot_card, crosses, mark_word, started, shape_of, ended, refs_of, table_of, target_of_word, unfilled, mark_apart, mul-add-lt, at_take, crosses_reference, bit_as, card_below, same_bits}
 use Rattle.std.specs.FinSet as fin
 use Rattle.g1_layout.specs.Shape as layout
 use Rattle.g1_race.proofs.Ends.{target_data, crosses_apart, recorded_set, set_recorded, target_some, word_gives}
 use Rattle.g1_race.proofs.PauseTable.{pending_word, refs_same, slots_are, table_is, word_pending}
 
-pub store_step : (t new : Table) (caller slot : ℕ) (target : Option ℕ) (kind : Kind) → slot < slot_count t.layout → IfSome target (λ place. place < slot_count t.layout) → kind ≡ kind_of t slot target → new ≡ stored t slot target → IsStep t (store_entry caller slot target (plain_reply kind)) new
+pub store_step : (t new : Table) (caller slot : ℕ) (target : Option ℕ) (kind : Kind) → slot < slot_count t.layout → IfSome target (λ place. place < slot_count t.layout) → kind ≡ kind_of t slot target → new ≡ stored t slot target → IsStep t (store_entry caller slot target (unfilled kind)) new
 store_step t new caller slot target kind lt within is e = record { allowed = record { numbers = (lt, within); refines = none_refinable (stored t slot target); answers = (is, λ h. refl) }; after = e ∙ sym (refined_none (stored t slot target)) }
 
 -- the slots of a region

@@ -1,7 +1,7 @@
 -- What the goals of one function cite together.
 use Rattle.g1_race.specs.{cases_lt, flag_pending, pending_flag, reads_as, shr_and_one, take_all}
 use Rattle.g1_race.proofs.Blocks.{all_regions, block_below, with_regions}
-use Rattle.g1_race.proofs.CopiedTable.{null_slots, table_copied}
+use Rattle.g1_race.proofs.CopiedTable.{null_slots, table_copied, words_placed}
 use Rattle.g1_race.proofs.Counting.{few_recorded}
 use Rattle.g1_race.proofs.Held.{held_table, lent_begun, lent_region, lent_view}
 use Rattle.g1_race.proofs.NextCards.{cards_fit, marked_word, unmarked_word}
@@ -20,4 +20,4 @@ pub ruleset of_a_bit = (shr_and_one, notes_same, bit_read)
 
 pub ruleset of_a_block = (take_all, all_regions, block_below, with_regions)
 
-pub ruleset of_a_copy = (null_slots, table_copied)
+pub ruleset of_a_copy = (null_slots, table_copied, words_placed)

@@ -1,16 +1,17 @@
 -- What the collector's calls at a pause do, each from one pause to the next.
-use Rattle.std.specs.Prelude.{◌≡◌, ◌≢◌}
-use Rattle.g1_race.specs.Prelude.{ℕ, Option, None, Kind, Null, region_of, target_of, IsStep}
-use Rattle.g1_race.specs.Prelude.{kind_of}
-use Rattle.g1_race.specs.Prelude.{stored, copied, store_entry, clear_entry, redirect_entry}
-use Rattle.g1_race.specs.Prelude.{Moved, Cleared}
+use Rattle.std.specs.Prelude.{◌≡◌, ◌≢◌, ◌≤◌}
+use Rattle.g1_race.specs.Prelude.{ℕ, Option, None, Kind, Null, length, region_of, card_count}
+use Rattle.g1_race.specs.Prelude.{target_of, IsStep, kind_of, stored, copied, IsStrictlyIncreasing}
+use Rattle.g1_race.specs.Prelude.{store_entry, unfilled, clear_entry, redirect_entry, drain_entry}
+use Rattle.g1_race.specs.Prelude.{drain_cards, drain_refined, Moved, Cleared}
 use Rattle.g1_core.specs.declared.reply.ClearReply.{ClearReply}
+use Rattle.g1_core.specs.declared.reply.Drained.{Drained}
 use Rattle.g1_race.specs.Race.{word_of}
 use Rattle.g1_race.specs.Over.{Pause, table_at}
 use Rattle.g1_race.specs.Telling.{marked_cards}
 use Rattle.g1_race.specs.Evacuating.{IsSameRace, IsRefinedRace, SlotsBecome, same_word, one_word}
-use Rattle.g1_race.specs.Evacuating.{wiped_word, copied_word, plain_reply, AreAllRefined, wiped}
-use Rattle.g1_race.specs.Evacuating.{forgotten}
+use Rattle.g1_race.specs.Evacuating.{wiped_word, copied_word, AreAllRefined, wiped}
+use Rattle.g1_race.specs.Evacuating.{forgotten, IsWhole, IsExactAtPause}
 use Rattle.g1_race.specs.Moving.{word_after}
 
 -- the target is stored into the slot, by a store of this kind
@@ -21,7 +22,7 @@ pub record StoresAt (old : Pause) (slot : ℕ) (target : Option ℕ) (kind : Kin
   pub kind_is : kind ≡ kind_of (table_at old) slot target
   pub table : table_at new ≡ stored (table_at old) slot target
   pub step : (caller : ℕ)
-      → IsStep (table_at old) (store_entry caller slot target (plain_reply kind)) (table_at new)
+      → IsStep (table_at old) (store_entry caller slot target (unfilled kind)) (table_at new)
 
 -- data is stored into the slot, which is a store of null to the table
 pub record StoresDataAt (old : Pause) (slot word : ℕ) (new : Pause) : Type 0 where
@@ -29,7 +30,7 @@ pub record StoresDataAt (old : Pause) (slot word : ℕ) (new : Pause) : Type 0 w
   pub words : SlotsBecome (one_word slot word) old new
   pub table : table_at new ≡ stored (table_at old) slot None
   pub step : (caller : ℕ)
-      → IsStep (table_at old) (store_entry caller slot None (plain_reply Null)) (table_at new)
+      → IsStep (table_at old) (store_entry caller slot None (unfilled Null)) (table_at new)
 
 -- the words of `count` slots at or after `from` are copied to as many slots at or after `to`
 pub record Copies (old : Pause) (from to count : ℕ) (new : Pause) : Type 0 where
@@ -42,6 +43,15 @@ pub record Refines (old new : Pause) : Type 0 where
   pub race : IsRefinedRace old new
   pub words : SlotsBecome same_word old new
   pub refined : AreAllRefined (table_at old) (marked_cards old.shape old.words) (table_at new)
+
+-- all is refined, and a drain of the region got the answer
+pub record DrainsAt (old : Pause) (region : ℕ) (answer : Drained) (new : Pause) : Type 0 where
+  pub refines : Refines old new
+  pub whole : IsWhole answer
+  pub few : length (drain_cards answer) ≤ card_count old.layout
+  pub ascending : IsStrictlyIncreasing (drain_refined answer)
+  pub step : (caller : ℕ) → IsStep (table_at old) (drain_entry caller region answer) (table_at new)
+  pub exact : IsExactAtPause (table_at old) region (drain_cards answer)
 
 -- a clear of the region got the reply
 pub record ClearsAt (old : Pause) (region : ℕ) (reply : ClearReply) (new : Pause) : Type 0 where

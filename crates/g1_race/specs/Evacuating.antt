@@ -1,14 +1,12 @@
 -- What the calls of an evacuation pause do to the plain table.
 use Rattle.std.specs.Prelude.{◌≡◌, ◌⊎◌, ◌+◌, ◌*◌, ◌/◌, ◌<◌, ◌==◌, if◌then◌else◌, ◌-◌, ◌&&◌}
-use Rattle.g1_race.specs.Prelude.{ℕ, not, zero, suc, false, List, [], None, Contains, length}
+use Rattle.g1_race.specs.Prelude.{ℕ, not, zero, suc, List, [], None, Contains, length}
 use Rattle.g1_race.specs.Prelude.{replicate, slice_index, nat_le, nat_lt, some, get_elem?}
-use Rattle.g1_race.specs.Prelude.{IsStrictlyIncreasing, Kind, region_of_card, Table, Holds}
+use Rattle.g1_race.specs.Prelude.{IsStrictlyIncreasing, region_of_card, Table, Holds}
 use Rattle.g1_race.specs.Prelude.{IsRecorded, IsCovered, AreRefinable, refined, stored, RaceShape}
 use Rattle.std.specs.FinSet as set
 use Rattle.g1_core.specs.declared.reply.Drained.{Drained}
 use Rattle.g1_core.specs.declared.reply.Drained.TheVariants.{Cards, Short}
-use Rattle.g1_core.specs.declared.reply.Fill.TheVariants.{No}
-use Rattle.g1_core.specs.declared.reply.StoreReply.{StoreReply}
 use Rattle.g1_race.specs.Over.{Pause}
 use Rattle.g1_race.specs.Refining.{AreUnflagged}
 
@@ -75,10 +73,6 @@ IsWhole (Short refined) = ⊥
 pub record IsExactAtPause (old : Table) (region : ℕ) (cards : List ℕ) : Type 0 where
   pub every : (card : ℕ) → Holds old card region → Contains cards card
   pub only : (card : ℕ) → Contains cards card → IsRecorded old card region ⊎ Holds old card region
-
--- what a store at a pause answers: it fills no log and refines nothing
-abbrev pub plain_reply : Kind → StoreReply
-plain_reply kind = record { kind = kind; fill = No; refined = []; short = false }
 
 -- null is stored to as many slots at or after `first`
 abbrev pub nulled : ℕ → ℕ → Table → Table

@@ -60,6 +60,7 @@ pub use Rattle.g1_core.proofs.TableLemmas.{newly_recorded, recorded_cases, refin
 pub use Rattle.g1_core.proofs.TableLemmas.{refined_pending, slot_of, still_recorded}
 pub use Rattle.g1_core.proofs.VerifyLemmas.{first_found, first_none, slot_differs, slot_same}
 pub use Rattle.g1_core.specs.Adoption.{adopted_machine, IsPairOf, marks_for, table_with}
+pub use Rattle.g1_core.specs.Barrier.{unfilled}
 pub use Rattle.g1_core.specs.Calls.{clear_entry, drain_cards, drain_entry, drain_refined}
 pub use Rattle.g1_core.specs.Calls.{redirect_entry, redirect_refined, store_entry}
 pub use Rattle.g1_core.specs.Copying.{copied}

@@ -5,21 +5,6 @@ use Rattle.g1_race.specs.Prelude.{get_elem?, Table, Holds, IsPending, IsCovered,
 use Rattle.g1_race.specs.Prelude.{RaceShape}
 use Rattle.g1_race.specs.Prelude.{In, IsBegun, IsPair, HasBit, BeganInto, flag, mark_word, started}
 use Rattle.g1_race.specs.Prelude.{pair_at}
-use Rattle.g1_race.specs.declared.paused.Writer.{Writer}
-
-abbrev pub heap_of : Writer → RaceShape
-heap_of writer = writer.race.now.shape
-
-abbrev pub words_of : Writer → List ℕ
-words_of writer = writer.reader.now.start.words
-
--- the words have changed so, a race can begin with them, and all else is as it was
-pub record Writes (old new : Writer) (Change : RaceShape → List ℕ → List ℕ → Type 0)
-    : Type 0 where
-  pub race : new.race ≡ old.race
-  pub reader : new.reader.ghost_name ≡ old.reader.ghost_name
-  pub begun : IsBegun (started (heap_of old) (words_of new))
-  pub words : Change (heap_of old) (words_of old) (words_of new)
 
 -- the pairs of the card's first slots, as many as this
 abbrev pub card_pairs : RaceShape → List ℕ → ℕ → ℕ → List (ℕ × ℕ)

@@ -2,8 +2,8 @@
 ghost use Rattle.std.specs.Prelude.{◌≡◌, ◌+◌, ◌<◌, ◌≤◌};
 ghost use Rattle.g1_race.specs.{ℕ, [], IfOk, All, replicate, some, get_elem?, IsPairOf, In, IsPair};
 ghost use Rattle.g1_race.specs.{IsOfCrossing, mark_word, null_of, shape_of, table_at, start_at};
-ghost use Rattle.g1_race.specs.{Notes, AreCovered, AreMarked, ArePlaced, IsSame, Writes, words_of};
-ghost use Rattle.g1_race.specs.{heap_of};
+ghost use Rattle.g1_race.specs.{Notes, AreCovered, AreMarked, ArePlaced, IsSame, HasWordsOf};
+ghost use Rattle.g1_race.specs.{Writes, words_of, heap_of};
 ghost use Rattle.std.specs.FinSet as set;
 
 use crate::paused::{Paused, Writer};
@@ -14,8 +14,9 @@ use std::alloc::Global;
 
 impl Paused {
     /// Opens a heap at a pause with a core's whole table, for 1 to 64 racers and 1 to 64 sweepers.
-    /// Each slot refers to what it refers to in the core, the pending cards are dirty, and the
-    /// recorded pairs are recorded. The settings and the refinement counts are not taken over.
+    /// Each slot refers to what it refers to in the core and holds no data, the pending cards are
+    /// dirty, and the recorded pairs are recorded. The settings and the refinement counts are not
+    /// taken over.
     ///
     /// Reads each slot of the core once. The core stays as it is, except for its count of reads.
     /// Takes the memory of [`Paused::open`] and, during the call, that of the list of pairs.
@@ -32,6 +33,7 @@ impl Paused {
         ensures shape { IfOk result (λ p.
             p.shape ≡ shape_of core.old.state.table.layout (racers + sweepers)) }
         ensures table { IfOk result (λ p. table_at p ≡ core.old.state.table) }
+        ensures words { IfOk result (λ p. HasWordsOf core.old.state.table p.words) }
         ensures logs { IfOk result (λ p. p.logs ≡ replicate racers []) }
         ensures sweepers { IfOk result (λ p. p.sweepers ≡ sweepers) }
         ensures same { IsSame core.old core.new }
@@ -50,6 +52,7 @@ impl Paused {
         requires pairs { set.from_list pairs.now ≡ core.old.state.table.recorded }
         requires within { All (IsPairOf core.old.state.table.layout) pairs.now }
         ensures table { table_at self.new ≡ core.old.state.table }
+        ensures words { HasWordsOf core.old.state.table self.new.words }
         ensures rest { self.new ≡ record self.old { words = self.new.words } }
         ensures same { IsSame core.old core.new }
     {

@@ -1,11 +1,9 @@
 //! Refinement and drains at a pause.
 ghost use Rattle.std.specs.Prelude.{◌≡◌, ◌+◌, ◌*◌, ◌<◌, ◌≤◌, ◌∷◌};
-ghost use Rattle.g1_race.specs.{ℕ, [], IfOk, OnErr, length, map, replicate, vec_len};
-ghost use Rattle.g1_race.specs.{IsStrictlyIncreasing, slot_count, card_count, IsStep, drain_cards};
-ghost use Rattle.g1_race.specs.{drain_entry, drain_refined, IsOfCrossing, IsWord, slot_card};
-ghost use Rattle.g1_race.specs.{pair_at, racer_log, table_at, Notes, RefinesCard, AreRefined};
-ghost use Rattle.g1_race.specs.{AreUnflagged, IsWhole, IsExactAtPause, Refines, Writes, words_of};
-ghost use Rattle.g1_race.specs.{heap_of};
+ghost use Rattle.g1_race.specs.{[], IfOk, OnErr, length, map, replicate, vec_len, slot_count};
+ghost use Rattle.g1_race.specs.{IsOfCrossing, IsWord, slot_card, pair_at, racer_log, Notes};
+ghost use Rattle.g1_race.specs.{RefinesCard, AreRefined, AreUnflagged, Refines, DrainsAt, Writes};
+ghost use Rattle.g1_race.specs.{words_of, heap_of};
 
 use crate::bits::bit_of;
 use crate::paused::holds::HoldsRace;
@@ -30,16 +28,7 @@ impl<R: HoldsRace> Paused<R> {
     #[tactic(auto, using(crate::proofs::members_room))]
     pub fn drain(&mut self, alloc: Global, region: Region) -> Result<Drained, NoMemory>
         requires { region < self.old.layout.regions }
-        ensures refines { IfOk result (λ answer. Refines self.old self.new) }
-        ensures whole { IfOk result IsWhole }
-        ensures few { IfOk result (λ answer.
-            length (drain_cards answer) ≤ card_count self.old.layout) }
-        ensures ascending { IfOk result (λ answer.
-            IsStrictlyIncreasing (drain_refined answer)) }
-        ensures step { IfOk result (λ answer. (caller : ℕ)
-            → IsStep (table_at self.old) (drain_entry caller region answer) (table_at self.new)) }
-        ensures exact { IfOk result (λ answer.
-            IsExactAtPause (table_at self.old) region (drain_cards answer)) }
+        ensures did { IfOk result (λ answer. DrainsAt self.old region answer self.new) }
         ensures err { OnErr result (self.new ≡ self.old) }
     {
         let refined = self.dirty_cards(alloc)?;

@@ -57,8 +57,8 @@ impl<R: HoldsRace> Paused<R> {
 
 impl Race {
     /// Opens a race that begins with a core's whole table, with 1 to 8 racers and 1 to 4 sweepers.
-    /// Each slot refers to what it refers to in the core, the pending cards are dirty, and the
-    /// recorded pairs are recorded (docs/rules.md, Racing stores).
+    /// Each slot refers to what it refers to in the core and holds no data, the pending cards are
+    /// dirty, and the recorded pairs are recorded (docs/rules.md, Racing stores).
     ///
     /// No racer has stored and no sweeper has refined. A card that is dirty from the beginning is
     /// in no racer's log: a sweep of that card, or a drain after the race, refines it. The settings
