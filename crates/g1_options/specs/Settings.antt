@@ -12,7 +12,7 @@ pub record AreDefaults (o : Options) : Type 0 where
   pub rounds : o.rounds ≡ 100
 
 -- the limits
-pub record AreWithin (o : Options) : Type 0 where
+pub record AreWithinLimits (o : Options) : Type 0 where
   pub mutators_low : 1 ≤ o.mutators
   pub mutators_high : o.mutators ≤ 8
   pub config : AreSettings o.config

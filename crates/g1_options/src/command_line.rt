@@ -3,7 +3,7 @@ ghost use Rattle.std.specs.Prelude.{◌≡◌, ◌≤◌, List, [], Some, true, 
 ghost use Rattle.std.specs.Prelude.{string_bytes};
 ghost use Rattle.clap.specs.Words.{Row, app_of, fault_of, found_of, kind_of, new_app, rows_of};
 ghost use Rattle.clap.specs.Words.{subcommand_rows_of, takes};
-ghost use Rattle.g1_options.specs.Settings.{AreWithin};
+ghost use Rattle.g1_options.specs.Settings.{AreWithinLimits};
 ghost use Rattle.g1_options.specs.CommandLine.{AreOptionsOf, AreSettingsRead, AreThreaded};
 ghost use Rattle.g1_options.specs.CommandLine.{IsCommandLine, IsLocal, IsRead, line_app, line_top};
 ghost use Rattle.g1_options.specs.CommandLine.{mode_name, with_shared, with_threads};
@@ -130,7 +130,7 @@ Exit status:
 /// unknown word, an option given twice, a value that is no decimal whole number or is outside its
 /// limits, a missing subcommand, and a request for help or the version. Refused memory has no text.
 pub fn read_options(alloc: Global, words: &[&str]) -> Result<(Mode, Options), LineFault>
-    ensures within { IfOk result (λ p. AreWithin p.1) }
+    ensures within { IfOk result (λ p. AreWithinLimits p.1) }
     ensures read { IfOk result (λ p. IsCommandLine (map (λ w. w.now) words.now) p.0 p.1) }
     ensures taken { OnOk result (fault_of line_app (map (λ w. w.now) words.now) ≡ []) }
 

@@ -82,15 +82,16 @@ is_heap r c s =
     nat_lt 0 r && nat_lt r 257 && nat_lt 0 c && nat_lt c 257 && nat_lt 0 s && nat_lt s 65 && nat_lt
     (r * c * s) 1048577
 
-abbrev pub heap_of : ℕ → ℕ → ℕ → Result Shape TraceFault
-heap_of r c s =
+abbrev pub heap_of_counts : ℕ → ℕ → ℕ → Result Shape TraceFault
+heap_of_counts r c s =
     if is_heap r c s then Ok (record { regions = r; cards = c; slots = s }) else Err BadHeap
 
 -- the header: `heap` and three counts
 unfoldable pub read_opening : List ℕ → List (List ℕ) → Result Shape TraceFault
 read_opening name words =
     if bytes_eq name (codes "heap")
-    then (read_three number_place number_place number_place words >>= λ v. heap_of v.0 v.1 v.2)
+    then (read_three number_place number_place number_place words >>= λ v.
+    heap_of_counts v.0 v.1 v.2)
     else Err NoHeader
 
 -- a line before the header is empty, a remark or the header

@@ -1,7 +1,7 @@
 //! The header of a trace, which opens its heap.
 
 ghost use Rattle.std.specs.Prelude.{◌≡◌};
-ghost use Rattle.g1_trace.specs.{ℕ, [], words_from, heap_of, read_opening, read_header};
+ghost use Rattle.g1_trace.specs.{ℕ, [], words_from, heap_of_counts, read_opening, read_header};
 
 use crate::fault::TraceFault;
 use crate::places::{clamped, three_numbers};
@@ -10,7 +10,7 @@ use g1_layout::Layout;
 
 // The heap of three counts, if they are within the limits.
 fn heap(regions: u64, cards: u64, slots: u64) -> Result<Layout, TraceFault>
-    ensures { result ≡ heap_of regions cards slots }
+    ensures { result ≡ heap_of_counts regions cards slots }
 {
     match Layout::new(clamped(regions), clamped(cards), clamped(slots)) {
         Some(layout) => Ok(layout),
