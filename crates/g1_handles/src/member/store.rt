@@ -63,7 +63,7 @@ pub(crate) fn may_store(
     target: u32,
 ) -> Result<(Slot, Option<Slot>), Reason>
     ensures room { IsOk result → array_vec_len racer.now.log < 256 }
-    ensures places { IfOk result (λ store. (store.0 ≡ slot) × (store.1 ≡ reference_of target)) }
+    ensures store { IfOk result (λ store. (store.0 ≡ slot) × (store.1 ≡ reference_of target)) }
     ensures within { IsOk result → IsStoreOf (race_layout race.now) slot target }
     ensures taken { array_vec_len racer.now.log < 256
         → IsStoreOf (race_layout race.now) slot target → IsOk result }
