@@ -232,14 +232,14 @@ pub record IsPauseOf (race : Race) (racers sweepers : List View) (logs : List (L
   pub cover : IsCovered (table_at p)
   pub kept : p.logs ≡ logs
 
--- a pause of the heap of the first handle; that the members are of its race, each given once, is
--- found out by counts, of which no proof knows
+-- a pause of the heap of the first handle; whether the members are of its race, each given once, is
+-- found out by counts, of which no proof knows, once they are as many as the heap's
 abbrev pub IsPauseRefused : Option RacingHeap → List (Option RacerMember)
     → List (Option SweeperMember) → Reason → Type 0
 IsPauseRefused h racers sweepers r =
     SaysNoHeap h r ⊎ SaysNotRacing h r
     ⊎ ((r ≡ refusal.BadMembers) × HasRacers h
     × (IsFor h (length racers) (length sweepers) → ⊥))
-    ⊎ Any (λ m. SaysNoMember m r) racers
-    ⊎ Any (λ m. SaysNoMember m r) sweepers
-    ⊎ (r ≡ refusal.OtherRace)
+    ⊎ (HasRacers h × IsFor h (length racers) (length sweepers)
+    × (Any (λ m. SaysNoMember m r) racers ⊎ Any (λ m. SaysNoMember m r) sweepers
+    ⊎ (r ≡ refusal.OtherRace)))
