@@ -11,8 +11,8 @@ pub record TellsRefusal {V : Type 0} (most word : ℕ) (old new : Option V) (Unt
   pub why : most < word → IsRefusal word Why
   pub same : most < word → new ≡ old
 
--- What a question answers is put into a place of the caller's, and the word of the call is 0. One
--- that is refused leaves nothing there.
+-- What a question answers is written to the caller's `out`, and the word of the call is 0. One that
+-- is refused tells nothing there.
 abbrev pub Tells : {A : Type 0} → Result A Reason → ℕ → A → Type 0 → Type 0
 Tells (Ok value) word told Untold = (word ≡ 0) × (told ≡ value)
 Tells (Err refusal) word told Untold = (word ≡ refusal_word refusal) × (7 < word) × Untold

@@ -6,7 +6,7 @@ use g1_handles::code::{DONE, Reason};
 
 // The word of a call that tells nothing else.
 #[inline(always)]
-pub(crate) fn word_of(answer: Result<(), Reason>) -> u32
+pub(crate) fn answer_word(answer: Result<(), Reason>) -> u32
     ensures { Tells answer result tt (Unit {0}) }
 {
     match answer {
@@ -15,34 +15,34 @@ pub(crate) fn word_of(answer: Result<(), Reason>) -> u32
     }
 }
 
-// Puts an answer into the caller's place, or `none` if the question is refused.
-pub(crate) fn tell<T: Copy>(answer: Result<T, Reason>, none: T, place: &mut T) -> u32
-    ensures { Tells answer result place.new (place.new ≡ none) }
+// Writes an answer to `out`, or `none` if the question is refused.
+pub(crate) fn tell<T: Copy>(answer: Result<T, Reason>, none: T, out: &mut T) -> u32
+    ensures { Tells answer result out.new (out.new ≡ none) }
 {
     match answer {
         Err(refusal) => {
-            *place = none;
+            *out = none;
             refusal.word()
         }
         Ok(value) => {
-            *place = value;
+            *out = value;
             DONE
         }
     }
 }
 
 // The same of a yes, which is 1, or a no, which is 0.
-pub(crate) fn tell_whether(answer: Result<bool, Reason>, place: &mut u32) -> u32
-    ensures told { Tells answer result (place.new == 1) (place.new ≡ 0) }
-    ensures word { place.new ≤ 1 }
+pub(crate) fn tell_whether(answer: Result<bool, Reason>, out: &mut u32) -> u32
+    ensures told { Tells answer result (out.new == 1) (out.new ≡ 0) }
+    ensures word { out.new ≤ 1 }
 {
     match answer {
         Err(refusal) => {
-            *place = 0;
+            *out = 0;
             refusal.word()
         }
         Ok(answer) => {
-            *place = answer as u32;
+            *out = answer as u32;
             DONE
         }
     }

@@ -42,5 +42,5 @@ stores_end a b ss i d r end below first (inr (e, lacks)) at_full else =
 -- all stores that can be made are made
 pub stores_whole : (a b : Racing) (ss : List Store) (i : ℕ) (end : BatchEnd) → CanStoreAll a ss → StoresAll a (take i ss) b → IsEnd end a ss i b → end ≡ Whole
 stores_whole a b ss i Whole can first end = refl
-stores_whole a b ss i Stopped can first (below, lacks) = let d : Store = record { slot = 0; target = 0 } in absurd (lacks d (can.places i d below))
+stores_whole a b ss i Stopped can first (below, lacks) = let d : Store = record { slot = 0; target = 0 } in absurd (lacks d (can.within i d below))
 stores_whole a b ss i Full can first (below, full) = absurd (omega (arith, can.room, stores_logged a b (take i ss) first, length-take i ss))

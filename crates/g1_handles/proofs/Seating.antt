@@ -31,7 +31,7 @@ module _ {A : Type 0} (xs : List A) (n : ℕ) (some : 0 < n) where
       subst (λ k. drop (n - 1) (set xs (n - 1) h) ≡ h ∷ drop k xs) next
       (drop-cons (set xs (n - 1) h) (n - 1) h (omega (arith, below, length-set xs (n - 1) h)) ∙ (λ i. get_or-set_same xs (n - 1) h h below i ∷ drop-set-lt (suc (n - 1)) xs (n - 1) h (omega arith) i))
 
--- what is seen of the handles from a place on is what is seen of a list from there on, also with the one before
+-- what is seen of the handles from an index on is what is seen of a list from there on, also with the one before
 pub seen_too : {H V T C : Type 0} (value : H → V) (f : V → C) (g : T → C) (hs : List H) (ys : List T) (n : ℕ) (h : H) (y : T) → 0 < n → n - 1 < length hs → n - 1 < length ys
     → f (value h) ≡ g (slice_index_or ys (n - 1) y) → map f (map value (drop n hs)) ≡ map g (drop n ys)
     → map f (map value (drop (n - 1) (set hs (n - 1) h))) ≡ map g (drop (n - 1) ys)

@@ -8,7 +8,7 @@ use Rattle.g1_handles.specs.declared.one_core.batch.Store.{Store}
 use Rattle.g1_handles.specs.Codes.{reference_of, IsStoreOf}
 
 -- the machine after some stores, and the cards that they logged, in order
-pub record Batch : Type 0 where
+pub record AfterStores : Type 0 where
   pub machine : Machine
   pub cards : List ℕ
 
@@ -24,7 +24,7 @@ cards_of cards None = cards
 cards_of cards (Some card) = cards ++ card ∷ []
 
 -- one store more
-abbrev pub made : Batch → Store → Batch
+abbrev pub made : AfterStores → Store → AfterStores
 made m store = record {
   machine = stored_machine m.machine store.slot (reference_of store.target);
   cards = cards_of m.cards (logged_card
@@ -33,10 +33,10 @@ made m store = record {
 }
 
 -- these stores, each after the one before
-abbrev pub made_all : Machine → List Store → Batch
+abbrev pub made_all : Machine → List Store → AfterStores
 made_all m stores = fold made (record { machine = m; cards = [] }) stores
 
--- The store at this place names a slot or a target that the heap does not have.
+-- The store at this index names a slot or a target that the heap does not have.
 abbrev pub IsFaultAt : layout.Shape → List Store → ℕ → Type 0
 IsFaultAt l stores i =
     (i < length stores) × ((d : Store)

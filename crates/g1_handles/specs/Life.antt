@@ -5,7 +5,7 @@ use Rattle.g1_handles.specs.Prelude.{IsSome, IsSomeAnd, Box, Vec, length, map, r
 use Rattle.g1_handles.specs.Prelude.{arc_value, Global, IsShape, opening, IsCovered, beginning}
 use Rattle.g1_handles.specs.Prelude.{View, Race, Racer, race_id, race_layout, racer_log, IsNewRacer}
 use Rattle.g1_handles.specs.Prelude.{Contains, IsNewSweeper, race_shape, Pause, table_at, start_at}
-use Rattle.g1_handles.specs.Prelude.{ended_of, IsKnown, IsOver, race_begun}
+use Rattle.g1_handles.specs.Prelude.{ended_of, IsKnown, IsOver, null_of, race_begun}
 use Rattle.g1_layout.specs.Shape as layout
 use Rattle.g1_core.specs.Adoption.{IsPairOf}
 use Rattle.g1_race.specs.Drain.{began}
@@ -93,6 +93,7 @@ pub record AreHeapCounts (racers sweepers : ℕ) : Type 0 where
 -- is recorded, and no log has a card
 pub record IsNewHeap (l : layout.Shape) (racers sweepers : ℕ) (p : Pause) : Type 0 where
   pub table : table_at p ≡ opening l
+  pub words : start_at p ≡ null_of p.shape
   pub logs : p.logs ≡ replicate racers []
   pub members : p.sweepers ≡ sweepers
 
@@ -232,14 +233,14 @@ pub record IsPauseOf (race : Race) (racers sweepers : List View) (logs : List (L
   pub cover : IsCovered (table_at p)
   pub kept : p.logs ≡ logs
 
--- a pause of the heap of the first handle; that the members are of its race, each given once, is
--- found out by counts, of which no proof knows
+-- a pause of the heap of the first handle; whether the members are of its race, each given once, is
+-- found out by counts, of which no proof knows, once they are as many as the heap's
 abbrev pub IsPauseRefused : Option RacingHeap → List (Option RacerMember)
     → List (Option SweeperMember) → Reason → Type 0
 IsPauseRefused h racers sweepers r =
     SaysNoHeap h r ⊎ SaysNotRacing h r
     ⊎ ((r ≡ refusal.BadMembers) × HasRacers h
     × (IsFor h (length racers) (length sweepers) → ⊥))
-    ⊎ Any (λ m. SaysNoMember m r) racers
-    ⊎ Any (λ m. SaysNoMember m r) sweepers
-    ⊎ (r ≡ refusal.OtherRace)
+    ⊎ (HasRacers h × IsFor h (length racers) (length sweepers)
+    × (Any (λ m. SaysNoMember m r) racers ⊎ Any (λ m. SaysNoMember m r) sweepers
+    ⊎ (r ≡ refusal.OtherRace)))

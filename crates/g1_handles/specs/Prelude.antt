@@ -81,6 +81,6 @@ pub use Rattle.g1_race.specs.Telling.{marked_cards}
 pub use Rattle.g1_race.specs.declared.race.Race.{Race}
 pub use Rattle.g1_race.specs.declared.race.Racer.{Racer}
 pub use Rattle.g1_race.specs.declared.race.Sweeper.{Sweeper}
-pub use Rattle.g1_race_words.specs.Rule.{beginning, IsWord, slot_card}
+pub use Rattle.g1_race_words.specs.Rule.{beginning, IsWord, null_of, slot_card}
 pub use Rattle.g1_race_words.specs.Seats.{IsFound}
 pub use Rattle.g1_race_words.specs.declared.view.View.{View}

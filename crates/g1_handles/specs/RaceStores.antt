@@ -68,5 +68,5 @@ pub record StoresFirst (a : Racing) (stores : List Store) (answer : RaceBatch) (
 
 -- the heap has each slot and each target, and the racer's log has room for all the slots' cards
 pub record CanStoreAll (a : Racing) (stores : List Store) : Type 0 where
-  pub places : All (λ s. IsStoreOf (race_layout a.race) s.slot s.target) stores
+  pub within : All (λ s. IsStoreOf (race_layout a.race) s.slot s.target) stores
   pub room : array_vec_len a.racer.log + length stores ≤ 256

@@ -48,7 +48,7 @@ SaysNoWordStore race racer slot word r =
 -- the racer can store the word to the slot
 pub record CanStoreWord (race : Race) (racer : Racer) (slot word : ℕ) : Type 0 where
   pub room : array_vec_len racer.log < 256
-  pub place : slot < slot_count (race_layout race)
+  pub within : slot < slot_count (race_layout race)
   pub fits : MayHave race word
 
 -- a store of the word into the slot by the racer of a handle

@@ -82,16 +82,16 @@ IsReadRefused h readers r =
     ⊎ ((r ≡ refusal.BadMembers) × OfPaused h (λ p. p.shape.members < length readers))
     ⊎ ((r ≡ refusal.AlreadyOpen) × (AreClosed readers → ⊥))
 
--- the readers of these handles are to end their reading of the heap; that they are of its race,
--- each given once, is found out by counts, of which no proof knows
+-- the readers of these handles are to end their reading of the heap; whether they are of its race,
+-- each given once, is found out by counts, of which no proof knows, if as many read it
 abbrev pub IsReadEndRefused : Option RacingHeap → List (Option ReaderMember) → Reason → Type 0
 IsReadEndRefused h readers r =
     SaysNoHeap h r
     ⊎ ((r ≡ refusal.NotPaused) × HasRacers h)
     ⊎ ((r ≡ refusal.BadMembers) × (OfPaused h (λ p. Unit {0}) ⊎ HasReaders h)
     × (IsReadBy h (length readers) → ⊥))
-    ⊎ Any (λ m. SaysNoMember m r) readers
-    ⊎ (r ≡ refusal.OtherRace)
+    ⊎ (IsReadBy h (length readers)
+    × (Any (λ m. SaysNoMember m r) readers ⊎ (r ≡ refusal.OtherRace)))
 
 -- the slot has this word
 abbrev pub ReadsWord : ReaderAt → ℕ → ℕ → Type 0

@@ -4,7 +4,7 @@ ghost use Rattle.g1_c.specs.{slot_count, Copies, IsHeapRefused, IsSameHeap};
 ghost use Rattle.g1_c.specs.{OfPaused, LacksRanges, TellsRefusal};
 
 use crate::calling::on_heap;
-use crate::tell::word_of;
+use crate::tell::answer_word;
 use g1_handles::heap::copy::copy_at;
 use g1_handles::heap::handle::HeapHandle;
 use std::alloc::Global;
@@ -25,5 +25,5 @@ pub extern "C" fn g1_heap_copy(
     ensures told { TellsRefusal 0 result heap.old.value heap.new.value (Unit {0})
         (IsHeapRefused heap.old.value (λ old. LacksRanges old.layout from count to count)) }
 {
-    word_of(on_heap!(alloc, heap, copy_at(from, to, count)))
+    answer_word(on_heap!(alloc, heap, copy_at(from, to, count)))
 }

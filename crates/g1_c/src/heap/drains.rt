@@ -4,7 +4,7 @@ ghost use Rattle.g1_c.specs.{take, DrainsAtPause, Refines, IsWritten, IsRefusal}
 ghost use Rattle.g1_c.specs.{IsHeapRefused, IsSameHeap, HasFirst, LacksRegion, TellsRefusal};
 
 use crate::calling::on_heap;
-use crate::tell::word_of;
+use crate::tell::answer_word;
 use g1_handles::code::{DONE, Reason};
 use g1_handles::heap::drains::refine_at;
 use g1_handles::heap::handle::HeapHandle;
@@ -53,5 +53,5 @@ pub extern "C" fn g1_heap_refine(alloc: Global, heap: &mut HeapHandle) -> u32
     ensures told { TellsRefusal 0 result heap.old.value heap.new.value (Unit {0})
         (IsHeapRefused heap.old.value (λ old r. ⊥)) }
 {
-    word_of(on_heap!(alloc, heap, Ok(refine_at())))
+    answer_word(on_heap!(alloc, heap, Ok(refine_at())))
 }

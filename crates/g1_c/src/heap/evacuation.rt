@@ -6,7 +6,7 @@ ghost use Rattle.g1_c.specs.{IsRefusal, IsHeapRefused, IsSameHeap, OfPaused, Lac
 ghost use Rattle.g1_c.specs.{SaysNoMove, TellsRefusal};
 
 use crate::calling::on_heap;
-use crate::tell::{tell, word_of};
+use crate::tell::{answer_word, tell};
 use g1_core::ClearReply;
 use g1_handles::code::Reason;
 use g1_handles::heap::evacuation::{clear_at, forget_at, redirect_at, wipe_at};
@@ -70,7 +70,7 @@ pub extern "C" fn g1_heap_wipe(alloc: Global, heap: &mut HeapHandle, region: u32
     ensures told { TellsRefusal 0 result heap.old.value heap.new.value (Unit {0})
         (IsHeapRefused heap.old.value (λ old. LacksRegion old.layout region)) }
 {
-    word_of(on_heap!(alloc, heap, wipe_at(region)))
+    answer_word(on_heap!(alloc, heap, wipe_at(region)))
 }
 
 /// As in `g1.h`.
@@ -82,5 +82,5 @@ pub extern "C" fn g1_heap_forget(alloc: Global, heap: &mut HeapHandle, region: u
         (IsHeapRefused heap.old.value (λ old r. LacksRegion old.layout region r ⊎
         ((r ≡ Reason.StillReferenced) × RefersOut old region))) }
 {
-    word_of(on_heap!(alloc, heap, forget_at(region)))
+    answer_word(on_heap!(alloc, heap, forget_at(region)))
 }

@@ -6,7 +6,7 @@ ghost use Rattle.g1_c.specs.{IsNewHeap, IsHeapOpenRefused, IsResumeRefused, IsPa
 ghost use Rattle.g1_c.specs.{IsCloseRefused, AreLikeOf, AreOfHeap, HasCountedNothing, ComesToPause};
 ghost use Rattle.g1_c.specs.{Resumes, held_racers, held_sweepers, TellsRefusal};
 
-use crate::tell::word_of;
+use crate::tell::answer_word;
 use g1_handles::heap::handle::HeapHandle;
 use g1_handles::heap::open::{close_heap, open_heap};
 use g1_handles::heap::pause::pause_heap;
@@ -32,7 +32,7 @@ pub extern "C" fn g1_heap_open(
     ensures told { TellsRefusal 0 result heap.old.value heap.new.value (Unit {0})
         (IsHeapOpenRefused heap.old.value (layout_of counts.now) racers sweepers) }
 {
-    word_of(open_heap(alloc, heap, counts, racers, sweepers))
+    answer_word(open_heap(alloc, heap, counts, racers, sweepers))
 }
 
 /// As in `g1.h`.
@@ -53,13 +53,13 @@ pub extern "C" fn g1_heap_resume(
         × (held_racers racers.new ≡ held_racers racers.old)
         × (held_sweepers sweepers.new ≡ held_sweepers sweepers.old) }
 {
-    word_of(resume_heap(alloc, heap, racers, sweepers))
+    answer_word(resume_heap(alloc, heap, racers, sweepers))
 }
 
 /// As in `g1.h`.
 ///
 /// Members of other heaps are refused before anything changes, by counts of each race's owners. No
-/// proof knows what these counts say, so the condition `one` takes their place: members that are as
+/// proof knows what these counts say, so the condition `one` stands for them: members that are as
 /// many as the heap's are of its race. Nothing relies on the condition before the counts are taken.
 #[unsafe(no_mangle)]
 pub extern "C" fn g1_heap_pause(
@@ -81,7 +81,7 @@ pub extern "C" fn g1_heap_pause(
         × (held_racers racers.new ≡ held_racers racers.old)
         × (held_sweepers sweepers.new ≡ held_sweepers sweepers.old) }
 {
-    word_of(pause_heap(alloc, heap, racers, sweepers))
+    answer_word(pause_heap(alloc, heap, racers, sweepers))
 }
 
 /// As in `g1.h`.
@@ -92,5 +92,5 @@ pub extern "C" fn g1_heap_close(alloc: Global, heap: &mut HeapHandle) -> u32
     ensures why { 0 < result → IsRefusal result (IsCloseRefused heap.old.value) }
     ensures refused { 0 < result → heap.new.value ≡ heap.old.value }
 {
-    word_of(close_heap(alloc, heap))
+    answer_word(close_heap(alloc, heap))
 }

@@ -4,7 +4,7 @@ ghost use Rattle.g1_c.specs.{length, IsRefusal, BeginsReading, EndsReading, held
 ghost use Rattle.g1_c.specs.{AreReadersOf, AreReadersLike, IsReadBy, IsReadRefused};
 ghost use Rattle.g1_c.specs.{IsReadEndRefused};
 
-use crate::tell::word_of;
+use crate::tell::answer_word;
 use g1_handles::heap::handle::HeapHandle;
 use g1_handles::heap::reading::read_heap;
 use g1_handles::heap::reading_end::end_read_of_heap;
@@ -25,13 +25,13 @@ pub extern "C" fn g1_heap_read(
     ensures refused { 0 < result → (heap.new.value ≡ heap.old.value)
         × (held_readers readers.new ≡ held_readers readers.old) }
 {
-    word_of(read_heap(alloc, heap, readers))
+    answer_word(read_heap(alloc, heap, readers))
 }
 
 /// As in `g1.h`.
 ///
 /// Readers of other heaps are refused before anything changes, by counts of each race's owners. No
-/// proof knows what these counts say, so the condition `one` takes their place: readers that are as
+/// proof knows what these counts say, so the condition `one` stands for them: readers that are as
 /// many as read the heap are those that read it. Nothing relies on the condition before the counts
 /// are taken.
 #[unsafe(no_mangle)]
@@ -50,5 +50,5 @@ pub extern "C" fn g1_heap_read_end(
     ensures refused { 0 < result → (heap.new.value ≡ heap.old.value)
         × (held_readers readers.new ≡ held_readers readers.old) }
 {
-    word_of(end_read_of_heap(alloc, heap, readers))
+    answer_word(end_read_of_heap(alloc, heap, readers))
 }

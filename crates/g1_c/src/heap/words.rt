@@ -6,7 +6,7 @@ ghost use Rattle.g1_c.specs.{IsTold};
 ghost use denote.RawPtr.{null_ptr};
 
 use crate::calling::on_heap;
-use crate::tell::{tell, word_of};
+use crate::tell::{answer_word, tell};
 use core::mem::replace_with;
 use g1_handles::heap::handle::HeapHandle;
 use g1_handles::heap::words::{store_data_at, word_at, words_of_heap};
@@ -53,5 +53,5 @@ pub extern "C" fn g1_heap_store_data(
     ensures told { TellsRefusal 0 result heap.old.value heap.new.value (Unit {0})
         (IsHeapRefused heap.old.value (λ old. SaysNoData old.layout slot word)) }
 {
-    word_of(on_heap!(alloc, heap, store_data_at(slot, word)))
+    answer_word(on_heap!(alloc, heap, store_data_at(slot, word)))
 }

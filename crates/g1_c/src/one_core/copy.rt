@@ -4,7 +4,7 @@ ghost use Rattle.g1_c.specs.{IfSome, slot_count, Between, LacksRanges};
 ghost use Rattle.g1_c.specs.{IsCallRefused, DoesCopy, TellsRefusal};
 
 use crate::calling::on_core;
-use crate::tell::word_of;
+use crate::tell::answer_word;
 use g1_handles::one_core::copy::copy_in;
 use g1_handles::one_core::handle::Handle;
 use std::alloc::Global;
@@ -21,5 +21,5 @@ pub extern "C" fn g1_copy(alloc: Global, handle: &mut Handle, from: u32, to: u32
         (IsCallRefused handle.old.value
         (λ old. LacksRanges old.state.table.layout from count to count)) }
 {
-    word_of(on_core!(alloc, handle, copy_in(from, to, count)))
+    answer_word(on_core!(alloc, handle, copy_in(from, to, count)))
 }

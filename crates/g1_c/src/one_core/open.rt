@@ -3,7 +3,7 @@ ghost use Rattle.std.specs.Prelude.{◌≡◌, ◌↔◌, ◌<◌};
 ghost use Rattle.g1_c.specs.{Some, None, IsSome, new_machine, layout_of};
 ghost use Rattle.g1_c.specs.{settings_of, IsRefusal, IsOpenRefused, SaysNotOpen, TellsRefusal};
 
-use crate::tell::word_of;
+use crate::tell::answer_word;
 use core::mem::replace_with;
 use g1_handles::one_core::handle::Handle;
 use g1_handles::one_core::open::{Counts, close_core, open_core};
@@ -24,7 +24,7 @@ pub extern "C" fn g1_open(
     ensures told { TellsRefusal 0 result handle.old.value handle.new.value (Unit {0})
         (IsOpenRefused handle.old.value (layout_of counts.now) (settings_of hot ring)) }
 {
-    word_of(open_core(alloc, handle, counts, hot, ring))
+    answer_word(open_core(alloc, handle, counts, hot, ring))
 }
 
 /// As in `g1.h`.

@@ -7,7 +7,7 @@ ghost use Rattle.g1_c.specs.Calls.{TellsRefusal};
 use crate::calling::on_core;
 use g1_handles::list::write_list;
 use g1_handles::one_core::handle::Handle;
-use g1_handles::one_core::refinement::{refine_in, word_of};
+use g1_handles::one_core::refinement::{refine_in, reply_word};
 use std::alloc::Global;
 
 /// What a refinement counted.
@@ -54,7 +54,7 @@ pub extern "C" fn g1_refine(
                 hot: reply.hot,
                 skipped: reply.skipped,
             };
-            word_of(&reply)
+            reply_word(&reply)
         }
     }
 }

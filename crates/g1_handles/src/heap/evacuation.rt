@@ -8,7 +8,7 @@ ghost use Rattle.g1_handles.specs.{SaysNoMove};
 
 use crate::code::Reason;
 use crate::heap::at_pause::PausedHeap;
-use crate::one_core::evacuation::words_of;
+use crate::one_core::evacuation::{move_of, words_of};
 use g1_layout::{Layout, Region};
 
 /// Empties the remembered set of a region, once no card is dirty and no slot outside the region
@@ -38,16 +38,7 @@ pub fn redirect_at(heap: &mut PausedHeap, from: u32, to: u32) -> Result<u32, Rea
     ensures refused { OnErr result (heap.new ≡ heap.old) }
     ensures kept { IsRaceWith heap.new.logs heap.old heap.new }
 {
-    let layout = heap.layout();
-    let Some(from) = layout.region(from) else {
-        return Err(Reason::NoRegion);
-    };
-    let Some(to) = layout.region(to) else {
-        return Err(Reason::NoRegion);
-    };
-    if from == to {
-        return Err(Reason::SameRegion);
-    }
+    let (from, to) = move_of(heap.layout(), from, to)?;
     Ok(heap.redirect_in_place(from, to))
 }
 

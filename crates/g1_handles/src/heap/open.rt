@@ -101,7 +101,7 @@ fn idle_readers(alloc: Global, race: &Arc<Race, Global>, count: usize) -> Result
 }
 
 /// As many members that wait, each in its box, and have counted nothing. The number of each is its
-/// place.
+/// index.
 fn waiting<P: Role>(
     alloc: Global,
     race: &Arc<Race, Global>,

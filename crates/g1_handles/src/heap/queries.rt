@@ -7,7 +7,7 @@ ghost use Rattle.g1_handles.specs.{LacksRegion, LacksSlot};
 
 use crate::code::{NULL, Reason};
 use crate::heap::at_pause::PausedHeap;
-use crate::one_core::queries::word_of;
+use crate::one_core::queries::reference_word;
 use g1_core::Status;
 
 /// Returns the word of what a slot refers to, or `NoSlot`.
@@ -22,7 +22,7 @@ pub fn target_at(heap: &mut PausedHeap, slot: u32) -> Result<u32, Reason>
     let Some(slot) = layout.slot(slot) else {
         return Err(Reason::NoSlot);
     };
-    Ok(word_of(layout, heap.target(slot)))
+    Ok(reference_word(layout, heap.target(slot)))
 }
 
 /// Returns whether a card is pending, or `NoCard`.

@@ -17,7 +17,7 @@ use std::alloc::Global;
 
 /// Lets the heap of a handle go on, and puts its racers and its sweepers into handles that are
 /// closed. The race begins with the table that the pause left, and each racer has its log, which is
-/// empty if all was refined. Each member has what the one at its place had counted. Takes no
+/// empty if all was refined. Each member has what the one at its index had counted. Takes no
 /// memory.
 ///
 /// Returns `NotOpen`, `NotPaused`, `BadMembers` if there are not as many handles as the heap was
@@ -113,7 +113,7 @@ fn leave_pause(heap: RacingHeap, _nothing: ()) -> (RacingHeap, ())
     (RacingHeap::Racing(under_way), ())
 }
 
-/// Gives each handle the role of its place, in the box of that place.
+/// Gives each handle the role at its index, in the box at that index.
 pub(crate) fn hand_out_to<P: Role, H: AnyHandle<Value = Member<P>>>(
     handles: &mut [H],
     boxes: &mut Vec<Box<Member<P>>>,

@@ -101,13 +101,13 @@ fn write_set(heap: &mut PausedHeap, region: Region, array: &mut [u32]) -> SetTol
     }
 }
 
-/// Writes the number of a card to this place of an array, if the array reaches that far.
+/// Writes the number of a card at this index of an array, if the array reaches that far.
 #[tactic(auto, using(std::proofs::lemmas::List::set_past))]
-fn write_at(array: &mut [u32], place: usize, card: Card)
-    ensures { array.new ≡ slice_set array.old place card }
+fn write_at(array: &mut [u32], index: usize, card: Card)
+    ensures { array.new ≡ slice_set array.old index card }
 {
-    if array.len() <= place {
+    if array.len() <= index {
         return;
     }
-    array[place] = card.number();
+    array[index] = card.number();
 }

@@ -7,7 +7,7 @@ ghost use Rattle.g1_handles.specs.{StoresAllAt, IsFaultAt, reference_of, LacksPl
 use crate::code::Reason;
 use crate::heap::at_pause::PausedHeap;
 use crate::one_core::batch::Store;
-use crate::one_core::store::reference;
+use crate::one_core::store::store_of;
 use g1_layout::Kind;
 
 /// Stores a target into a slot, and returns the kind of the store. Returns `NoSlot`, for the slot
@@ -19,13 +19,7 @@ pub fn store_at(heap: &mut PausedHeap, slot: u32, target: u32) -> Result<Kind, R
     ensures refused { OnErr result (heap.new ≡ heap.old) }
     ensures kept { IsRaceWith heap.new.logs heap.old heap.new }
 {
-    let layout = heap.layout();
-    let Some(slot) = layout.slot(slot) else {
-        return Err(Reason::NoSlot);
-    };
-    let Some(target) = reference(layout, target) else {
-        return Err(Reason::NoSlot);
-    };
+    let (slot, target) = store_of(heap.layout(), slot, target)?;
     Ok(heap.store(slot, target))
 }
 

@@ -7,7 +7,7 @@ ghost use Rattle.g1_handles.specs.{Finds, LacksRanges, table_at};
 use crate::code::Reason;
 use crate::heap::at_pause::PausedHeap;
 use crate::one_core::copy::has_slots;
-use crate::one_core::queries::word_of;
+use crate::one_core::queries::reference_word;
 use crate::one_core::verify::{Findings, NOTHING};
 
 /// Checks a heap against the references that a runtime's memory has from a slot on, as many as are
@@ -36,7 +36,7 @@ pub fn verify_at(
     let Some(from) = layout.slot(first) else {
         return Ok(NOTHING);
     };
-    let differing = word_of(layout, heap.first_differing(from, memory));
-    let missing = word_of(layout, heap.first_missing(from, count));
+    let differing = reference_word(layout, heap.first_differing(from, memory));
+    let missing = reference_word(layout, heap.first_missing(from, count));
     Ok(Findings { differing, missing })
 }

@@ -10,7 +10,7 @@ use crate::code::Reason;
 use crate::heap::at_pause::PausedHeap;
 use crate::heap::handle::HeapHandle;
 use crate::heap::racing_heap::RacingHeap;
-use crate::member::data::DATA;
+use crate::member::data::data_slot;
 use std::alloc::Global;
 
 /// Returns the address of the words of the heap of a handle, at a pause or not: the word of each
@@ -53,12 +53,7 @@ pub fn store_data_at(heap: &mut PausedHeap, slot: u32, word: u64) -> Result<(), 
     ensures refused { OnErr result (heap.new ≡ heap.old) }
     ensures kept { IsRaceWith heap.new.logs heap.old heap.new }
 {
-    let Some(slot) = heap.layout().slot(slot) else {
-        return Err(Reason::NoSlot);
-    };
-    if word < DATA {
-        return Err(Reason::BadWord);
-    }
+    let slot = data_slot(heap.layout(), slot, word)?;
     heap.store_data(slot, word);
     Ok(())
 }

@@ -26,8 +26,8 @@ impl StoreCounts {
         ensures { self.new ≡ with_store self.old kind }
     {
         // (By a match, a store would take a jump more.)
-        let place = kind_word(kind) as usize;
-        self.by_kind[place] = self.by_kind[place].wrapping_add(1);
+        let index = kind_word(kind) as usize;
+        self.by_kind[index] = self.by_kind[index].wrapping_add(1);
     }
 }
 

@@ -2,10 +2,11 @@
 ghost use Rattle.std.specs.Prelude.{◌≡◌, ◌<◌, ◌≤◌, ◌^◌};
 ghost use Rattle.g1_handles.specs.{Some, IsOk, IfOk, IfErr, OnErr, slot_count};
 ghost use Rattle.g1_handles.specs.{race_layout, OfRacer, IfRacer, StoresData, IsRaceDataRefused};
+ghost use Rattle.g1_handles.specs.{SaysNoData};
 
 use crate::code::Reason;
 use crate::member::Member;
-use g1_layout::Kind;
+use g1_layout::{Kind, Layout, Slot};
 use g1_race::Racer;
 
 /// The least word that is data.
@@ -25,13 +26,25 @@ pub fn store_data_by(member: &mut Member<Racer>, slot: u32, word: u64) -> Result
     let Some(racer) = &mut member.role else {
         return Err(Reason::NotOpen);
     };
-    let Some(slot) = member.race.layout().slot(slot) else {
+    let slot = data_slot(member.race.layout(), slot, word)?;
+    let old = racer.store_data(&member.race, slot, word);
+    member.counts.stores.add(Kind::Null);
+    Ok(old)
+}
+
+/// Returns the slot of a store of data, or `NoSlot`, or `BadWord` for a word that is no data.
+#[inline(always)]
+pub(crate) fn data_slot(layout: Layout, slot: u32, word: u64) -> Result<Slot, Reason>
+    ensures slot { IfOk result (λ found. found ≡ slot) }
+    ensures data { IsOk result → (slot < slot_count layout) × (2 ^ 32 ≤ word) }
+    ensures taken { slot < slot_count layout → 2 ^ 32 ≤ word → IsOk result }
+    ensures why { IfErr result (SaysNoData layout slot word) }
+{
+    let Some(slot) = layout.slot(slot) else {
         return Err(Reason::NoSlot);
     };
     if word < DATA {
         return Err(Reason::BadWord);
     }
-    let old = racer.store_data(&member.race, slot, word);
-    member.counts.stores.add(Kind::Null);
-    Ok(old)
+    Ok(slot)
 }

@@ -10,7 +10,7 @@ ghost use Rattle.g1_handles.specs.Refusals.{IsRaceStoreRefused, IsRaceExchangeRe
 use crate::code::Reason;
 use crate::member::Member;
 use crate::member::store::may_store;
-use crate::one_core::queries::word_of;
+use crate::one_core::queries::reference_word;
 use crate::one_core::store::reference;
 use g1_layout::Kind;
 use g1_race::Racer;
@@ -54,7 +54,7 @@ pub fn swap_by(member: &mut Member<Racer>, slot: u32, target: u32) -> Result<Swa
     let layout = member.race.layout();
     let (kind, old) = racer.swap(&member.race, slot, target);
     member.counts.stores.add(kind);
-    let old = word_of(layout, old);
+    let old = reference_word(layout, old);
     Ok(Swapped { kind, old })
 }
 
@@ -89,6 +89,6 @@ pub fn compare_exchange_by(
             member.counts.stores.add(kind);
             Ok(Exchange::Stored(kind))
         }
-        Err(found) => Ok(Exchange::Differs(word_of(layout, found))),
+        Err(found) => Ok(Exchange::Differs(reference_word(layout, found))),
     }
 }

@@ -7,7 +7,7 @@ ghost use Rattle.g1_handles.specs.{IsReaderRefused, LacksCard, LacksPair, LacksR
 
 use crate::code::{NULL, Reason};
 use crate::member::Member;
-use crate::one_core::queries::word_of;
+use crate::one_core::queries::reference_word;
 use g1_race::Reader;
 
 /// Returns the word of what a slot refers to, by a reader, or `NotOpen` or `NoSlot`. The reader
@@ -25,7 +25,7 @@ pub fn target_by(member: &mut Member<Reader>, slot: u32) -> Result<u32, Reason>
     };
     let layout = member.race.layout();
     let slot = layout.slot(slot).ok_or(Reason::NoSlot)?;
-    Ok(word_of(layout, reader.target(&member.race, slot)))
+    Ok(reference_word(layout, reader.target(&member.race, slot)))
 }
 
 /// Returns a slot's word, by a reader: 0 for null, the number of the slot that it refers to plus 1,

@@ -8,7 +8,7 @@ ghost use Rattle.g1_handles.specs.{SaysNoStore};
 use crate::code::Reason;
 use crate::member::Member;
 use crate::member::counts::StoreCounts;
-use crate::one_core::store::reference;
+use crate::one_core::store::store_of;
 use g1_layout::{Kind, Slot};
 use g1_race::{Race, Racer};
 
@@ -63,7 +63,7 @@ pub(crate) fn may_store(
     target: u32,
 ) -> Result<(Slot, Option<Slot>), Reason>
     ensures room { IsOk result → array_vec_len racer.now.log < 256 }
-    ensures places { IfOk result (λ store. (store.0 ≡ slot) × (store.1 ≡ reference_of target)) }
+    ensures store { IfOk result (λ store. (store.0 ≡ slot) × (store.1 ≡ reference_of target)) }
     ensures within { IsOk result → IsStoreOf (race_layout race.now) slot target }
     ensures taken { array_vec_len racer.now.log < 256
         → IsStoreOf (race_layout race.now) slot target → IsOk result }
@@ -72,12 +72,5 @@ pub(crate) fn may_store(
     if !racer.has_room() {
         return Err(Reason::LogFull);
     }
-    let layout = race.layout();
-    let Some(slot) = layout.slot(slot) else {
-        return Err(Reason::NoSlot);
-    };
-    let Some(target) = reference(layout, target) else {
-        return Err(Reason::NoSlot);
-    };
-    Ok((slot, target))
+    store_of(race.layout(), slot, target)
 }

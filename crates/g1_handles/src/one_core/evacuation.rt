@@ -1,11 +1,12 @@
 //! The clear and the redirect, which may follow an evacuation.
-ghost use Rattle.std.specs.Prelude.{◌≡◌, ◌<◌};
+ghost use Rattle.std.specs.Prelude.{◌≡◌, ◌≢◌, ◌<◌};
 ghost use Rattle.g1_handles.specs.{IfOk, IfErr, OnErr, IsOnlyRead, cleared_of};
 ghost use Rattle.g1_handles.specs.{IsClearWord, ClearsTo, LacksRegion, redirect_refined};
-ghost use Rattle.g1_handles.specs.{IsRedirectRefused, RedirectsTo, FitIn};
+ghost use Rattle.g1_handles.specs.{IsRedirectRefused, RedirectsTo, FitIn, IsOk, SaysNoMove};
 
 use crate::code::{DONE, Reason};
 use g1_core::{ClearReply, Core, Redirected};
+use g1_layout::{Layout, Region};
 
 /// Clears a region. Returns the word of the reply and the number that goes with it:
 ///
@@ -54,6 +55,23 @@ pub fn redirect_in(core: &mut Core, from: u32, to: u32, room: usize) -> Result<R
     ensures refused { OnErr result (core.new ≡ core.old) }
 {
     let layout = core.layout();
+    let (from, to) = move_of(layout, from, to)?;
+    if room < layout.card_count() as usize {
+        return Err(Reason::NoRoom);
+    }
+    match core.redirect(from, to) {
+        Ok(answer) => Ok(answer),
+        Err(_) => Err(Reason::NoMemory),
+    }
+}
+
+/// Returns the two regions of a redirect, or `NoRegion` for either, or `SameRegion`.
+pub(crate) fn move_of(layout: Layout, from: u32, to: u32) -> Result<(Region, Region), Reason>
+    ensures regions { IfOk result (λ regions. (regions.0 ≡ from) × (regions.1 ≡ to)) }
+    ensures within { IsOk result → (from < layout.regions) × (to < layout.regions) }
+    ensures apart { IsOk result → from ≢ to }
+    ensures why { IfErr result (SaysNoMove layout from to) }
+{
     let Some(from) = layout.region(from) else {
         return Err(Reason::NoRegion);
     };
@@ -63,11 +81,5 @@ pub fn redirect_in(core: &mut Core, from: u32, to: u32, room: usize) -> Result<R
     if from == to {
         return Err(Reason::SameRegion);
     }
-    if room < layout.card_count() as usize {
-        return Err(Reason::NoRoom);
-    }
-    match core.redirect(from, to) {
-        Ok(answer) => Ok(answer),
-        Err(_) => Err(Reason::NoMemory),
-    }
+    Ok((from, to))
 }

@@ -19,11 +19,11 @@ pub fn target_in(core: &mut Core, slot: u32) -> Result<u32, Reason>
     let Some(slot) = layout.slot(slot) else {
         return Err(Reason::NoSlot);
     };
-    Ok(word_of(layout, core.target(slot)))
+    Ok(reference_word(layout, core.target(slot)))
 }
 
 /// The word of a reference.
-pub(crate) fn word_of(layout: Layout, target: Option<Slot>) -> u32
+pub(crate) fn reference_word(layout: Layout, target: Option<Slot>) -> u32
     requires { IfSome target (λ place. place < slot_count layout) }
     ensures { reference_of result ≡ target }
 {

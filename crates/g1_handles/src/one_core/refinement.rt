@@ -11,7 +11,7 @@ use g1_layout::{Card, Layout};
 use g1_log::Buffer;
 
 /// The word of a reply: 0, or 1 if it is short.
-pub fn word_of(reply: &RefineReply) -> u32
+pub fn reply_word(reply: &RefineReply) -> u32
     requires taken { reply.now.taken ≡ (if reply.now.short then 0 else 1) }
     requires left { reply.now.left ≡ 0 }
     ensures reply { reply.now ≡ reply_of result reply.now.refined reply.now.hot reply.now.skipped }

@@ -17,15 +17,30 @@ pub fn store_in(core: &mut Core, slot: u32, target: u32) -> Result<Kind, Reason>
     ensures why { IfErr result (LacksPlace core.old.state.table.layout slot target) }
     ensures refused { OnErr result (core.new ≡ core.old) }
 {
-    let layout = core.layout();
+    let (slot, target) = store_of(core.layout(), slot, target)?;
+    let (kind, _dirtied) = core.store_unlogged(slot, target);
+    Ok(kind)
+}
+
+/// Returns the slot and the target of a store, or `NoSlot` if the heap lacks one of them.
+#[inline(always)]
+pub(crate) fn store_of(
+    layout: Layout,
+    slot: u32,
+    target: u32,
+) -> Result<(Slot, Option<Slot>), Reason>
+    ensures store { IfOk result (λ store. (store.0 ≡ slot) × (store.1 ≡ reference_of target)) }
+    ensures within { IsOk result → IsStoreOf layout slot target }
+    ensures taken { IsStoreOf layout slot target → IsOk result }
+    ensures why { IfErr result (LacksPlace layout slot target) }
+{
     let Some(slot) = layout.slot(slot) else {
         return Err(Reason::NoSlot);
     };
     let Some(target) = reference(layout, target) else {
         return Err(Reason::NoSlot);
     };
-    let (kind, _dirtied) = core.store_unlogged(slot, target);
-    Ok(kind)
+    Ok((slot, target))
 }
 
 /// The reference of a word, or `None` if the heap has no such slot.

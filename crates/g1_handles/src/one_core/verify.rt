@@ -7,7 +7,7 @@ ghost use Rattle.g1_handles.specs.Lacks.{LacksRanges};
 
 use crate::code::{NULL, Reason};
 use crate::one_core::copy::has_slots;
-use crate::one_core::queries::word_of;
+use crate::one_core::queries::reference_word;
 use g1_core::Core;
 
 /// What a check found: the numbers of slots, or the word for null where there is none.
@@ -52,7 +52,7 @@ pub fn verify_in(
     let Some(from) = layout.slot(first) else {
         return Ok(NOTHING);
     };
-    let differing = word_of(layout, core.first_differing(from, memory));
-    let missing = word_of(layout, core.first_missing(from, count));
+    let differing = reference_word(layout, core.first_differing(from, memory));
+    let missing = reference_word(layout, core.first_missing(from, count));
     Ok(Findings { differing, missing })
 }

@@ -1,4 +1,4 @@
--- The first i places have the first i numbers, and the others are as they were.
+-- The first i elements are the first i numbers, and the others are as they were.
 use Rattle.std.specs.Prelude.{◌≡◌}
 use Rattle.g1_handles.specs.{length, take, drop}
 use Rattle.g1_handles.proofs.list.write_list.Given as goal

@@ -7,4 +7,4 @@ pub returns-in-Ok-clause-refined : goal.returns-in-Ok-clause-refined
 returns-in-Ok-clause-refined c few =
     let made : Between c.args.handle.now.value c.replace_with.new.dest.value (λ old new. RefinesTo old c.args.cards.now c.in-Ok.reply new) = search rules in
     subst (λ (reply : RefineReply). Between c.args.handle.now.value c.replace_with.new.dest.value (λ old new. RefinesTo old c.args.cards.now reply new))
-    (c.word_of.ensures.reply ∙ search rules) made
+    (c.reply_word.ensures.reply ∙ search rules) made

@@ -1,4 +1,4 @@
--- The members that are in the list are of the race, and have the numbers of their places.
+-- The members that are in the list are of the race, and have their indices as numbers.
 use Rattle.std.specs.Prelude.{◌≡◌, ◌<◌}
 use Rattle.g1_handles.specs.{ℕ, All, slice_index_or, vec_len, arc_value, no_counts}
 use Rattle.g1_handles.proofs.heap.open.waiting.Given as goal

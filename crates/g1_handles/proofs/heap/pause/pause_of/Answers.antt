@@ -1,26 +1,40 @@
 -- A check of the members finds a handle with none, or a member of another race.
 use Rattle.std.specs.Prelude.{◌≡◌, ◌⊎◌}
-use Rattle.g1_handles.specs.{◌∙◌, ℕ, List, arith, rules, All, length, map, refl, ap, subst, arc_value, View, racer_view, sweeper_view, racer_log, log_of, role_in, role_view, counts_of, IsOf, AreFor, OfPaused, IsPauseOf, inl, inr, Some, Any, SaysNoMember, IsPauseRefused, held_racers, held_sweepers}
+use Rattle.g1_handles.specs.{◌∙◌, ℕ, List, arith, rules, All, length, map, refl, ap, subst, arc_value, View, racer_view, sweeper_view, racer_log, log_of, role_in, role_view, counts_of, IsOf, AreFor, OfPaused, IsPauseOf, inl, inr, Option, Some, Any, Reason, RacingHeap, RacerMember, SweeperMember, HasRacers, IsFor, SaysNoMember, IsPauseRefused, held_racers, held_sweepers}
 use Rattle.g1_handles.specs.declared.code.Reason.TheVariants as refusal
 use Rattle.std.proofs.lemmas.Grind.{common_steps}
 use Rattle.g1_handles.proofs.{passed, seen_alike}
 use Rattle.g1_handles.proofs.heap.pause.pause_of.Goals as goal
+
+of_racers : (h : Option RacingHeap) (rs : List (Option RacerMember)) (ss : List (Option SweeperMember)) (r : Reason)
+    → HasRacers h → IsFor h (length rs) (length ss) → (r ≡ refusal.OtherRace) ⊎ Any (λ m. SaysNoMember m r) rs → IsPauseRefused h rs ss r
+of_racers h rs ss r out as_many (inl other) = inr (inr (inr (out, as_many, inr (inr other))))
+of_racers h rs ss r out as_many (inr none) = inr (inr (inr (out, as_many, inl none)))
+
+of_sweepers : (h : Option RacingHeap) (rs : List (Option RacerMember)) (ss : List (Option SweeperMember)) (r : Reason)
+    → HasRacers h → IsFor h (length rs) (length ss) → (r ≡ refusal.OtherRace) ⊎ Any (λ m. SaysNoMember m r) ss → IsPauseRefused h rs ss r
+of_sweepers h rs ss r out as_many (inl other) = inr (inr (inr (out, as_many, inr (inr other))))
+of_sweepers h rs ss r out as_many (inr none) = inr (inr (inr (out, as_many, inr (inl none))))
 
 pub returns-in_err-check_members-clause-why : goal.returns-in_err-check_members-clause-why
 returns-in_err-check_members-clause-why c =
     let h = Some c.args.heap.now in
     let rs = held_racers c.args.racers.now in
     let ss = held_sweepers c.args.sweepers.now in
+    let out : HasRacers h = first_of (search rules, grind (arith, common_steps)) in
+    let as_many : IsFor h (length rs) (length ss) = first_of (search rules, grind (arith, common_steps)) in
     passed (λ r. (r ≡ refusal.OtherRace) ⊎ Any (λ m. SaysNoMember m r) rs) (IsPauseRefused h rs ss) c.check_members.result _ _ c.in_err-check_members.was c.check_members.ensures.why c.from_residual.ensures.1
-    (λ w. elim w [ inl other ↦ inr (inr (inr (inr (inr other)))) | inr none ↦ inr (inr (inr (inl none))) ])
+    (of_racers h rs ss _ out as_many)
 
 pub returns-in_err-check_members-2-clause-why : goal.returns-in_err-check_members-2-clause-why
 returns-in_err-check_members-2-clause-why c =
     let h = Some c.args.heap.now in
     let rs = held_racers c.args.racers.now in
     let ss = held_sweepers c.args.sweepers.now in
+    let out : HasRacers h = first_of (search rules, grind (arith, common_steps)) in
+    let as_many : IsFor h (length rs) (length ss) = first_of (search rules, grind (arith, common_steps)) in
     passed (λ r. (r ≡ refusal.OtherRace) ⊎ Any (λ m. SaysNoMember m r) ss) (IsPauseRefused h rs ss) c.check_members-2.result _ _ c.in_err-check_members-2.was c.check_members-2.ensures.why c.from_residual-in_err-check_members-2.ensures.1
-    (λ w. elim w [ inl other ↦ inr (inr (inr (inr (inr other)))) | inr none ↦ inr (inr (inr (inr (inl none)))) ])
+    (of_sweepers h rs ss _ out as_many)
 
 pub replace_with-requires : goal.replace_with-requires
 replace_with-requires c =

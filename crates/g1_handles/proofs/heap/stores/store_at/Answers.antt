@@ -4,6 +4,6 @@ use Rattle.g1_handles.proofs.heap.stores.store_at.Goals as goal
 
 pub returns-clause-stored : goal.returns-clause-stored
 returns-clause-stored c =
-    subst (λ (slot : ℕ). StoresAt c.args.heap.now slot (reference_of c.args.target) c.store.result c.store.new.self) c.in-Some.ensures.1
-    (subst (λ (target : Option ℕ). StoresAt c.args.heap.now c.in-Some.slot target c.store.result c.store.new.self) c.in-Some-reference.ensures.value
+    subst (λ (slot : ℕ). StoresAt c.args.heap.now slot (reference_of c.args.target) c.store.result c.store.new.self) c.in_ok-slot.ensures.store.0
+    (subst (λ (target : Option ℕ). StoresAt c.args.heap.now c.in_ok-slot.slot target c.store.result c.store.new.self) c.in_ok-slot.ensures.store.1
     c.store.ensures)

@@ -6,8 +6,8 @@ use Rattle.g1_handles.proofs.one_core.evacuation.redirect_in.Goals as goal
 
 pub returns-in-Ok-clause-redirected : goal.returns-in-Ok-clause-redirected
 returns-in-Ok-clause-redirected c =
-    subst (λ (from : ℕ). RedirectsTo c.args.core.now from c.args.to c.in-Ok.answer c.redirect.new.self) c.in-Some.ensures.1
-    (subst (λ (to : ℕ). RedirectsTo c.args.core.now c.in-Some.from to c.in-Ok.answer c.redirect.new.self) c.in-Some-region.ensures.1
+    subst (λ (from : ℕ). RedirectsTo c.args.core.now from c.args.to c.in-Ok.answer c.redirect.new.self) c.in_ok-from.ensures.regions.0
+    (subst (λ (to : ℕ). RedirectsTo c.args.core.now c.in_ok-from.from to c.in-Ok.answer c.redirect.new.self) c.in_ok-from.ensures.regions.1
     (record { made = record { did = c.in-Ok.ensures.did; step = c.in-Ok.ensures.step; later = c.in-Ok.ensures.later } }))
 
 pub returns-in-Ok-clause-refined : goal.returns-in-Ok-clause-refined

@@ -4,6 +4,6 @@ use Rattle.g1_handles.proofs.one_core.store.store_in.Goals as goal
 
 pub returns-clause-stored : goal.returns-clause-stored
 returns-clause-stored c =
-    subst (λ (slot : ℕ). StoresTo c.args.core.now slot (reference_of c.args.target) c.store_unlogged-kind.result.0 c.store_unlogged-kind.new.self) c.in-Some.ensures.1
-    (subst (λ (target : Option ℕ). StoresTo c.args.core.now c.in-Some.slot target c.store_unlogged-kind.result.0 c.store_unlogged-kind.new.self) c.in-Some-reference.ensures.value
+    subst (λ (slot : ℕ). StoresTo c.args.core.now slot (reference_of c.args.target) c.store_unlogged-kind.result.0 c.store_unlogged-kind.new.self) c.in_ok-slot.ensures.store.0
+    (subst (λ (target : Option ℕ). StoresTo c.args.core.now c.in_ok-slot.slot target c.store_unlogged-kind.result.0 c.store_unlogged-kind.new.self) c.in_ok-slot.ensures.store.1
     (record { did = c.store_unlogged-kind.ensures.did; step = c.store_unlogged-kind.ensures.step; later = c.store_unlogged-kind.ensures.later }))
