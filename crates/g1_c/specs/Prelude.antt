@@ -10,7 +10,7 @@ pub use Rattle.g1_core.specs.Calls.{TellsMembers, TellsPending, TellsStatus, Tel
 pub use Rattle.g1_handles.proofs.CalledLemmas.{called_ok, called_same, called_why}
 pub use Rattle.g1_handles.proofs.VisitLemmas.{role_if, role_of, role_ok, role_why, visit_same}
 pub use Rattle.g1_handles.proofs.VisitLemmas.{visit_so}
-pub use Rattle.g1_handles.specs.AtPause.{DrainsAtPause, HasWord, RefersOut, StoresAllAt}
+pub use Rattle.g1_handles.specs.AtPause.{DrainsRegion, HasWord, RefersOut, StoresAllAt}
 pub use Rattle.g1_handles.specs.Batch.{IsFaultAt, made_all}
 pub use Rattle.g1_handles.specs.Codes.{Between, IsRefusal, IsStoreOf, IsVisit, kind_word, layout_of}
 pub use Rattle.g1_handles.specs.Codes.{OfKind, OfOpen, reference_of, refusal_word, settings_of}

@@ -1,5 +1,5 @@
-//! The machinery of a heap as a static library: calls on a handle that C keeps, with words and
-//! arrays of the caller's. `include/g1.h` describes each call; here its clauses say it exactly.
+//! The machinery of a heap as a static library: calls on a handle that C keeps, with words and the
+//! caller's own arrays. `include/g1.h` describes each call; here its clauses say it exactly.
 //!
 //! Here is what C sees and nothing else: the exported functions, each with what it promises, and
 //! the structs that they fill. The handles and the work of each call are in the crate `g1_handles`,

@@ -5,7 +5,7 @@ use Rattle.std.proofs.lemmas.List.{set_past, take_all, take-append-drop, take-ap
 use Rattle.g1_race.proofs.Gathering.{Gathered, gathered_none, gathered_in, gathered_out}
 use Rattle.g1_handles.specs.declared.heap.sets.SetTold.TheVariants.{All}
 
--- so many cards are the region's below a number, and the array has the first of them, as far as it reaches
+-- this many cards are the region's below a number, and the array has the first of them, as far as it reaches
 pub record Shows (t : Table) (region from count : ℕ) (array : List ℕ) : Type 0 where
   pub cards : List ℕ
   pub gathered : Gathered (λ c. IsRecorded t c region) from cards

@@ -2,17 +2,16 @@
 use Rattle.std.specs.Prelude.{◌≡◌}
 use Rattle.g1_handles.specs.Prelude.{ℕ, List, fold, get_elem?, region_of, Table}
 use Rattle.g1_handles.specs.Prelude.{Crosses, IsStep, drained, stored}
-use Rattle.g1_handles.specs.Prelude.{IsWord, word_of, Pause, table_at, IsSameRace, IsRefinedRace}
-use Rattle.g1_handles.specs.Prelude.{SlotsBecome, same_word, one_word, IsExactAtPause}
+use Rattle.g1_handles.specs.Prelude.{IsWord, word_of, Pause, table_at, IsSameRace, Refines}
+use Rattle.g1_handles.specs.Prelude.{SlotsBecome, one_word, IsExactAtPause}
 use mathlib.Core.Option.{some}
 use Rattle.g1_handles.specs.declared.one_core.batch.Store.{Store}
 use Rattle.g1_handles.specs.Codes.{reference_of}
 
 -- all is refined, and these cards are every one that holds into the region, and only such or
 -- recorded ones
-pub record DrainsAtPause (old : Pause) (region : ℕ) (new : Pause) (cards : List ℕ) : Type 0 where
-  pub race : IsRefinedRace old new
-  pub words : SlotsBecome same_word old new
+pub record DrainsRegion (old : Pause) (region : ℕ) (new : Pause) (cards : List ℕ) : Type 0 where
+  pub refines : Refines old new
   pub done : List ℕ
   pub step : (caller : ℕ) → IsStep (table_at old) (drained caller region cards done) (table_at new)
   pub exact : IsExactAtPause (table_at old) region cards

@@ -66,8 +66,8 @@ pub use Rattle.g1_layout.specs.declared.kind.Kind.TheVariants.{AlreadyDirty, Log
 pub use Rattle.g1_layout.specs.declared.kind.Kind.TheVariants.{SameRegion}
 pub use Rattle.g1_race.specs.Calls.{ClearsAt, Copies, Forgets, Redirects, Refines, StoresAt}
 pub use Rattle.g1_race.specs.Calls.{StoresDataAt, Wipes}
-pub use Rattle.g1_race.specs.Evacuating.{forgotten, IsExactAtPause, IsRaceWith, IsRefinedRace}
-pub use Rattle.g1_race.specs.Evacuating.{IsSameRace, one_word, same_word, SlotsBecome, wiped}
+pub use Rattle.g1_race.specs.Evacuating.{forgotten, IsExactAtPause, IsRaceWith, IsSameRace}
+pub use Rattle.g1_race.specs.Evacuating.{one_word, SlotsBecome, wiped}
 pub use Rattle.g1_race.specs.Members.{HasDiffered, HasNotStored, HasOverwritten, HasStored}
 pub use Rattle.g1_race.specs.Members.{is_logged, IsKind, IsNewRacer, IsNewSweeper, race_begun}
 pub use Rattle.g1_race.specs.Members.{race_id, race_layout, race_shape, race_words, racer_log}

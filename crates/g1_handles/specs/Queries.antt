@@ -6,7 +6,7 @@ use Rattle.g1_handles.specs.Replies.{FitIn}
 use Rattle.g1_handles.specs.declared.one_core.members.Listed.{Listed}
 use Rattle.g1_handles.specs.declared.one_core.members.Listed.TheVariants.{Members, NoRoom}
 
--- So many cards are so, and an array of this length has no room for them.
+-- This many cards are so, and an array of this length has no room for them.
 pub record Overflows (AreSo : List ℕ → Type 0) (room count : ℕ) : Type 0 where
   pub cards : List ℕ
   pub so : AreSo cards
@@ -22,7 +22,7 @@ abbrev pub IsListOf : List ℕ → ℕ → Listed → Type 0
 IsListOf cards = Lists (λ list. list ≡ cards)
 
 -- the words are of the least slot that refers to something else than memory does, which has these
--- references from the first slot on, and of the least of so many slots that refers into another
+-- references from the first slot on, and of the least of `count` slots that refers into another
 -- region from a card that is neither pending nor recorded for it
 pub record Finds (t : Table) (first count : ℕ) (memory : List ℕ) (differing missing : ℕ)
     : Type 0 where

@@ -54,7 +54,7 @@ StoresAll a [] b = b ≡ a
 StoresAll a (s ∷ stores) b =
     (c : Racing) × (k : Kind) × Stores a s.slot (reference_of s.target) k c × StoresAll c stores b
 
--- why a racer made so many of these stores, before and after them
+-- why a racer made as many of these stores, before and after them
 abbrev pub IsEnd : BatchEnd → Racing → List Store → ℕ → Racing → Type 0
 IsEnd Whole a stores count b = count ≡ length stores
 IsEnd Stopped a stores count b = IsFaultAt (race_layout a.race) stores count

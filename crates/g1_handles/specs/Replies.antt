@@ -55,7 +55,7 @@ DrainsTo old region answer new =
 abbrev pub FitIn : ℕ → List ℕ → Type 0
 FitIn room cards = (length cards ≤ room) × (length cards ≤ 16777216)
 
--- at most so many elements were written, those at the front; the array has as many
+-- at most this many elements were written, those at the front; the array has as many
 abbrev pub IsWritten : List ℕ → ℕ → List ℕ → Type 0
 IsWritten old count new = (count ≤ length old) × (drop count new ≡ drop count old)
 

@@ -3,7 +3,7 @@ use Rattle.std.specs.Prelude.{◌≡◌, ◌<◌, ◌+◌, ◌++◌}
 use Rattle.g1_handles.specs.Prelude.{ℕ, List, Result, IfOk, IfErr, OnErr}
 use Rattle.g1_handles.specs.Prelude.{length, take, Pause, table_at, TellsMembers}
 use Rattle.g1_handles.specs.Replies.{IsWritten}
-use Rattle.g1_handles.specs.AtPause.{DrainsAtPause}
+use Rattle.g1_handles.specs.AtPause.{DrainsRegion}
 use Rattle.g1_handles.specs.declared.code.Reason.{Reason}
 use Rattle.g1_handles.specs.declared.heap.sets.SetTold.{SetTold}
 use Rattle.g1_handles.specs.declared.heap.sets.SetTold.TheVariants.{All as All-of, First}
@@ -11,7 +11,7 @@ use Rattle.g1_handles.specs.declared.heap.sets.Which.{Which}
 use Rattle.g1_handles.specs.declared.heap.sets.Which.TheVariants.{Recorded, Refined}
 use Rattle.g1_handles.specs.Lacks.{LacksRegion}
 
--- the array has the first of so many cards that are so, and there are more
+-- this many cards are so, more than the array has room for, and it has the first of them
 pub record HasFirst (AreSo : List ℕ → Type 0) (array : List ℕ) (count : ℕ) : Type 0 where
   pub rest : List ℕ
   pub so : AreSo (array ++ rest)
@@ -26,7 +26,7 @@ TellsSet AreSo old (First count) new = HasFirst AreSo new count × (length new �
 -- these cards are the set
 abbrev pub IsSet : Which → Pause → ℕ → Pause → List ℕ → Type 0
 IsSet Recorded old region new cards = TellsMembers (table_at old) region cards
-IsSet Refined old region new cards = DrainsAtPause old region new cards
+IsSet Refined old region new cards = DrainsRegion old region new cards
 
 -- a call for the set of a region, with what the array had before and has after it
 pub record IsSetCall (which : Which) (region : ℕ) (before after : List ℕ) (old : Pause)

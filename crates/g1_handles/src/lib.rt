@@ -1,7 +1,7 @@
 //! The work of each call of the C library, and the handles that C keeps.
 //!
-//! The library keeps a table of a runtime's references, and must be told of each store; in a heap
-//! whose stores race, that table may be the references themselves. Its rooms:
+//! The library keeps a table of a runtime's references, and the runtime reports each store; in a
+//! heap whose stores race, that table may be the references themselves. Its rooms:
 //!
 //! - [`one_core`] is a core, for one thread at a time.
 //! - [`heap`] is a heap whose stores race: how it begins, pauses, is read and ends, and the

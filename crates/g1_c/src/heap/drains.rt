@@ -1,6 +1,6 @@
 //! Refinement and drains of a heap at a pause.
 ghost use Rattle.std.specs.Prelude.{◌≡◌, ◌≢◌, ◌<◌};
-ghost use Rattle.g1_c.specs.{take, DrainsAtPause, Refines, IsWritten, IsRefusal};
+ghost use Rattle.g1_c.specs.{take, DrainsRegion, Refines, IsWritten, IsRefusal};
 ghost use Rattle.g1_c.specs.{IsHeapRefused, IsSameHeap, HasFirst, LacksRegion, TellsRefusal};
 
 use crate::calling::on_heap;
@@ -21,9 +21,9 @@ pub extern "C" fn g1_heap_drain(
     count: &mut u32,
 ) -> u32
     ensures drained { result ≡ 0 → IsSameHeap heap.old.value heap.new.value (λ old new.
-        DrainsAtPause old region new (take count.new cards.new)) }
+        DrainsRegion old region new (take count.new cards.new)) }
     ensures room { result ≡ 16 → IsSameHeap heap.old.value heap.new.value (λ old new.
-        HasFirst (DrainsAtPause old region new) cards.new count.new) }
+        HasFirst (DrainsRegion old region new) cards.new count.new) }
     ensures why { 0 < result → result ≢ 16 → IsRefusal result
         (IsHeapRefused heap.old.value (λ old. LacksRegion old.layout region)) }
     ensures none { result ≢ 0 → result ≢ 16 → count.new ≡ 0 }

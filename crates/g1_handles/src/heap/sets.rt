@@ -1,4 +1,4 @@
-//! The remembered set of a region at a pause, in an array of the caller's.
+//! The remembered set of a region at a pause, in the caller's own array.
 ghost use Rattle.std.specs.Prelude.{◌≡◌, ◌<◌};
 ghost use Rattle.g1_handles.specs.Prelude.{Some, OnErr, slice_set, AreMembers, table_at};
 ghost use Rattle.g1_handles.specs.Prelude.{IsRaceWith};

@@ -1,4 +1,4 @@
--- What is lent is the heap of the pause, and so many of its readers.
+-- What is lent is the heap of the pause, and as many of its readers.
 use Rattle.std.specs.Prelude.{◌≡◌}
 use Rattle.g1_handles.specs.{Box, All, length, refl, sym, ap, ◌∙◌, subst, arith, Global, arc_value, All-nil, TableId, Pause, start_at, Known, ReaderMember}
 use Rattle.g1_handles.proofs.heap.reading.lend.Goals as goal

@@ -1,4 +1,4 @@
--- So many boxes have moved, and all are of the race that they were of.
+-- This many boxes have moved, and all are of the race that they were of.
 use Rattle.std.specs.Prelude.{◌≡◌, ◌+◌}
 use Rattle.g1_handles.specs.{All, vec_len, vec_capacity, arc_value, Race}
 use Rattle.g1_handles.proofs.heap.reading.move_boxes.Given as goal

@@ -1,6 +1,6 @@
 -- The set of the table, as it is or as refinement leaves it.
 use Rattle.std.specs.Prelude.{◌<◌}
-use Rattle.g1_handles.specs.{ℕ, sym, subst, Shape, AreMembers, Pause, table_at, marked_cards, DrainsAtPause, TellsMembers}
+use Rattle.g1_handles.specs.{ℕ, sym, subst, Shape, AreMembers, Pause, table_at, marked_cards, DrainsRegion, TellsMembers}
 use Rattle.g1_core.proofs.QueryLemmas.{members_step}
 use Rattle.g1_race.proofs.PauseTable.{drain_step, exact_is}
 use Rattle.g1_handles.proofs.{tells_so}
@@ -31,12 +31,11 @@ returns-in-Refined-clause-called c =
     let below = subst (λ (l : Shape). c.args.region < l.regions) c.layout.ensures c.in-Some.ensures.0 in
     let lt = subst (λ (r : ℕ). r < old.layout.regions) (sym c.in-Some.ensures.1) below in
     rw c.in-Refined.is (record {
-      told = tells_so (AreMembers (table_at mid) region) (DrainsAtPause old c.args.region new) c.args.cards.now c.write_set-in-Refined.result c.write_set-in-Refined.new.array
-          (λ cs m. subst (λ (r : ℕ). DrainsAtPause old r new cs) c.in-Some.ensures.1
-          (subst (λ (h : Pause). DrainsAtPause old region h cs) (sym c.write_set-in-Refined.ensures.same)
+      told = tells_so (AreMembers (table_at mid) region) (DrainsRegion old c.args.region new) c.args.cards.now c.write_set-in-Refined.result c.write_set-in-Refined.new.array
+          (λ cs m. subst (λ (r : ℕ). DrainsRegion old r new cs) c.in-Some.ensures.1
+          (subst (λ (h : Pause). DrainsRegion old region h cs) (sym c.write_set-in-Refined.ensures.same)
           (record {
-            race = c.refine_all.ensures.did.race;
-            words = c.refine_all.ensures.did.words;
+            refines = c.refine_all.ensures.did;
             done = done;
             step = λ caller. drain_step (table_at old) (table_at mid) caller region cs done lt c.refine_all.ensures.did.refined m;
             exact = exact_is (table_at old) (table_at mid) region cs done c.refine_all.ensures.did.refined m;

@@ -1,4 +1,4 @@
--- So many of the set's cards are below the next number, and the array has the first of them.
+-- This many of the set's cards are below the next number, and the array has the first of them.
 use Rattle.std.specs.Prelude.{◌≡◌, ◌-◌, ◌≤◌}
 use Rattle.g1_handles.specs.{ℕ, length, card_count, table_at, drop}
 use Rattle.g1_handles.proofs.SetLemmas.{Shows}
