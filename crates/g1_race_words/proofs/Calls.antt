@@ -1,6 +1,6 @@
 -- What the calls of a step ask, of the table and the seat inside.
 use Rattle.std.specs.Prelude.{◌≡◌, ◌-◌, ◌*◌, ◌%◌, ◌^◌, ◌<◌, ◌≤◌, ◌==◌, ◌∷◌}
-use Rattle.g1_race_words.specs.{ℕ, bit_or, cond, List, [], set, get_or, Bool, true, false, None, refl, sym, ap, ◌∙◌, subst, arith, some, get_elem?, either, Me, keeps, Allows, Splits, Joins, TableId, Seat, set_again, set-get_or, RaceShape, View, Start, AtRest, Going, StoreHistory, IsBegun, IsBlank, IsWholeShape, IsWord, Raced, beginning, mark_word, bit_word, bit_index, flag, started, word_count, blank, both, whole_seat, cleaned, dirtied, exchanged, frozen_seat, after_split, looked, new_racer, new_sweeper, new_reader, no_seat, owed_card, changed, raised, read, recorded, sought, spotted, thawed, wrote, Freezes, HoldsBit, IsWholeSeat, IsFound, IsMark, IsAtPause, IsPaused, OwesFlag, OwesMark, Sits}
+use Rattle.g1_race_words.specs.{ℕ, bit_or, cond, List, [], set, get_or, Bool, true, false, None, refl, sym, ap, ◌∙◌, subst, arith, some, get_elem?, either, Me, keeps, Allows, Splits, Joins, TableId, Seat, set_again, set-get_or, RaceShape, View, Start, AtRest, Going, StoreHistory, IsBegun, IsBlank, IsWholeShape, IsWord, Raced, beginning, mark_word, bit_word, bit_index, flag, started, word_count, blank, both, whole_seat, cleaned, dirtied, exchanged, frozen_seat, after_split, looked, new_racer, new_sweeper, new_reader, no_seat, owed_card, changed_at, raised, read, recorded, sought, spotted, thawed, wrote, Freezes, HoldsBit, IsWholeSeat, IsFound, IsMark, IsAtPause, IsPaused, OwesFlag, OwesMark, Sits}
 use Rattle.g1_race_words.proofs.PairBits.{word_below}
 use Rattle.g1_race_words.proofs.Flags.{flag_below}
 use Rattle.g1_race_words.proofs.Plain.{read_at}
@@ -193,5 +193,5 @@ module _ (z : TableId) (k : RaceShape) (fits : z.words ≡ word_count k) (shaped
       pub thaw_owed : Owed 0 (λ n. n) (λ n after. after ≡ (thawed v, s.me.1))
       thaw_owed = anew 0 (λ n. n) (thawed v) some_word paused.here.begun (set-get_or v.began_words 0 0) (frozen_blank paused.here).1 refl (omega (arith, paused.all)) refl
 
-      pub put_owed : (p n : ℕ) → p < word_count k → IsBegun (started k (set v.began_words p n)) → Owed p (λ _. n) (Is (λ _. changed v p n))
-      put_owed p n lt begun = anew p (λ _. n) (changed v p n) (omega (arith, fits, lt)) begun refl (frozen_blank paused.here).1 refl (omega (arith, (frozen_blank paused.here).2)) refl
+      pub put_owed : (p n : ℕ) → p < word_count k → IsBegun (started k (set v.began_words p n)) → Owed p (λ _. n) (Is (λ _. changed_at v p n))
+      put_owed p n lt begun = anew p (λ _. n) (changed_at v p n) (omega (arith, fits, lt)) begun refl (frozen_blank paused.here).1 refl (omega (arith, (frozen_blank paused.here).2)) refl

@@ -44,8 +44,8 @@ abbrev pub thawed : View → View
 thawed view = record view { frozen = false; spare = view.weight }
 
 -- one word changes at a pause
-abbrev pub changed : View → ℕ → ℕ → View
-changed view slot word = record view { began_words = slice_set view.began_words slot word }
+abbrev pub changed_at : View → ℕ → ℕ → View
+changed_at view slot word = record view { began_words = slice_set view.began_words slot word }
 
 -- the first history gains a store
 abbrev pub gains_store : ℕ → ℕ → List StoreHistory → List StoreHistory

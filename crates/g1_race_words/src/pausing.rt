@@ -30,10 +30,10 @@ pub(crate) struct Sets;
 
 impl Play<(), View> for Sets {
     ghost use Rattle.std.specs.Prelude.{◌≡◌};
-    ghost use Rattle.g1_race_words.specs.Steps.{changed};
+    ghost use Rattle.g1_race_words.specs.Steps.{changed_at};
 
     ghost then = { λ step before found after.
-        after ≡ (changed before.0 step.word step.first, before.1) };
+        after ≡ (changed_at before.0 step.word step.first, before.1) };
 }
 
 impl RaceTable {
