@@ -1,6 +1,6 @@
 -- Drains of the core that a race has become.
 use Rattle.std.specs.Prelude.{◌≡◌, ◌≢◌, ◌⊎◌, ◌∷◌}
-use Rattle.g1_replay.specs.{ℕ, List, [], append-nil, ap, sym, subst, ◌∙◌, refl, inl, inr, ⊎_elim, Option, true, Contains, arith, Bool, Result, Err, true≢false, Shape, card_of, region_of, region_of_card, Drained, Cards, Short, drain_entry, drain_reply, Machine, IsStep, Table, Holds, IsCovered, IsRecorded, held, refined, Ended, refs_of, table_of, Command, Drain, Call, call_line, Stop, NoMemory, BookFull, Writes, AreDrains, CoreDrained, core_drained_none, Does, AreExact, IsExactByStores, drain_text, referring, IsTableLeftBy}
+use Rattle.g1_replay.specs.{ℕ, List, [], append-nil, ap, sym, subst, ◌∙◌, refl, inl, inr, ⊎_elim, Option, true, Contains, arith, Bool, Result, Err, true≢false, Shape, card_of, region_of, region_of_card, Drained, Cards, Short, drain_entry, drain_reply, Machine, IsStep, Table, Holds, IsCovered, IsRecorded, held, refined, Ended, refs_of, table_of, Command, Drain, Call, call_line, Stop, NoMemory, BookFull, Prints, AreDrains, CoreDrained, core_drained_none, Does, AreExact, IsExactByStores, drain_text, referring, IsTableLeftBy}
 use Rattle.std.specs.FinSet as set
 use Rattle.std.specs.Ordering.{nat_cmp}
 use Rattle.g1_layout.specs.Sets.{CardSet}
@@ -31,7 +31,7 @@ one_drain old new region answer s = record {
   heap = step_layout old.state.table new.state.table region answer (s 0);
 }
 
-pub drives_said : (old new : Machine) (region : ℕ) (answer : Drained) (out out' : Option (List ℕ)) (r : Result Bool Stop) → r ≢ Err BookFull → Steps region old answer new → Writes out out' r (call_line (Drain region) (drain_reply answer)) → Drives region old new out out' r
+pub drives_said : (old new : Machine) (region : ℕ) (answer : Drained) (out out' : Option (List ℕ)) (r : Result Bool Stop) → r ≢ Err BookFull → Steps region old answer new → Prints out out' r (call_line (Drain region) (drain_reply answer)) → Drives region old new out out' r
 drives_said old new region answer out out' r no_book s w = one_done CoreDrained (λ m. ⊥) old new _ _ out out' r (one_drain old new region answer s) (none_undone r no_book) no_book w
 
 pub drives_refused : (old new : Machine) (region : ℕ) (out : Option (List ℕ)) → new ≡ old → Drives region old new out out (Err NoMemory)

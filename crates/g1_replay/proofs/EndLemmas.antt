@@ -1,6 +1,6 @@
 -- The line of the end, and the whole output where the end says what it is.
 use Rattle.std.specs.Prelude.{◌≡◌, ◌∷◌, ◌++◌}
-use Rattle.g1_replay.specs.{ℕ, List, [], refl, ap, ◌∙◌, subst, append-nil, append_assoc, Option, Some, None, false, Result, Ok, Err, IfSome, Appends-trans, Appends, Consumes, Shape, Settings, Command, Dialect, TraceFault, AppendsFront, read_trace, before, front_then, End, Whole, Refused, Stop, Fault, WriteFailed, Tale, Told, IsEndWritten, IsReplayed, ending_line, end_of, IsRunText, IsUndone, IsWholeOutput, IsRefusedOutput, end_met, Writes, Reads, IsLeftToRead}
+use Rattle.g1_replay.specs.{ℕ, List, [], refl, ap, ◌∙◌, subst, append-nil, append_assoc, Option, Some, None, false, Result, Ok, Err, IfSome, Appends-trans, Appends, Consumes, Shape, Settings, Command, Dialect, TraceFault, AppendsFront, read_trace, before, front_then, End, Whole, Refused, Stop, Fault, WriteFailed, Tale, Told, IsEndWritten, IsReplayed, ending_line, end_of, IsRunText, IsUndone, IsWholeOutput, IsRefusedOutput, end_met, Prints, Reads, IsLeftToRead}
 use Rattle.g1_replay.specs.declared.end.End.TheVariants.{WriteFailed as EndWriteFailed}
 use Rattle.g1_replay.proofs.ReadingLemmas.{left_none}
 
@@ -9,18 +9,18 @@ nil_front [] l e = refl
 nil_front (x ∷ f) l e = cc
 
 -- the line of the end behind the text, or a beginning of it
-front_ended : (out out1 out' : Option (List ℕ)) (r : Result (Unit {0}) Stop) (n : ℕ) (text : List ℕ) → Writes out out1 r text → AppendsFront out1 out' (ending_line n r) → AppendsFront out out' (text ++ ending_line n r)
+front_ended : (out out1 out' : Option (List ℕ)) (r : Result (Unit {0}) Stop) (n : ℕ) (text : List ℕ) → Prints out out1 r text → AppendsFront out1 out' (ending_line n r) → AppendsFront out out' (text ++ ending_line n r)
 front_ended out out1 out' (Err WriteFailed) n text w i =
     let none : i.0 ≡ [] = nil_front i.0 i.1 i.3 in
     let same : w.0 ++ i.0 ≡ w.0 = ap (λ l. w.0 ++ l) none ∙ append-nil w.0 in
     (w.0, w.1, subst (λ (l : List ℕ). Appends out out' l) same (Appends-trans _ _ _ _ _ w.2 i.2), append-nil text ∙ w.3)
 front_ended out out1 out' r n text w i = front_then _ _ _ _ _ w i
 
-whole_ended : (out out1 out' : Option (List ℕ)) (r : Result (Unit {0}) Stop) (n : ℕ) (text : List ℕ) → (end_of r ≡ EndWriteFailed → ⊥) → Writes out out1 r text → Appends out1 out' (ending_line n r) → Appends out out' (text ++ ending_line n r)
+whole_ended : (out out1 out' : Option (List ℕ)) (r : Result (Unit {0}) Stop) (n : ℕ) (text : List ℕ) → (end_of r ≡ EndWriteFailed → ⊥) → Prints out out1 r text → Appends out1 out' (ending_line n r) → Appends out out' (text ++ ending_line n r)
 whole_ended out out1 out' (Err WriteFailed) n text ne w i = absurd (ne refl)
 whole_ended out out1 out' r n text ne w i = Appends-trans _ _ _ _ _ w i
 
-ended_then : (out out1 out' : Option (List ℕ)) (r : Result (Unit {0}) Stop) (n : ℕ) (text : List ℕ) (end : End) → Writes out out1 r text → IsEndWritten out1 out' r (ending_line n r) end → IsEndWritten out out' r (text ++ ending_line n r) end
+ended_then : (out out1 out' : Option (List ℕ)) (r : Result (Unit {0}) Stop) (n : ℕ) (text : List ℕ) (end : End) → Prints out out1 r text → IsEndWritten out1 out' r (ending_line n r) end → IsEndWritten out out' r (text ++ ending_line n r) end
 ended_then out out1 out' r n text EndWriteFailed w i = front_ended out out1 out' r n text w i
 ended_then out out1 out' r n text end w i = (i.0, whole_ended out out1 out' r n text (λ e. let bad : end ≡ EndWriteFailed = i.0 ∙ e in cc) w i.1)
 
@@ -76,7 +76,7 @@ module _ (d : Dialect) (Tells : Dialect → Tale) (IsWhole IsRefused : Option Sh
   says_refused (Some xs) (Err stop) Refused t i e = cc
   says_refused (Some xs) r end t i e = cc
 
-  pub replayed : (first : ℕ) (rd out1 : Option (List ℕ)) (r : Result (Unit {0}) Stop) (end : End) → first ≡ 1 → Tells d first n rd rd' r text → Writes out out1 r text → IsEndWritten out1 out' r (ending_line n r) end → IsReplayed d Tells IsWhole IsRefused rd rd' out out' end
+  pub replayed : (first : ℕ) (rd out1 : Option (List ℕ)) (r : Result (Unit {0}) Stop) (end : End) → first ≡ 1 → Tells d first n rd rd' r text → Prints out out1 r text → IsEndWritten out1 out' r (ending_line n r) end → IsReplayed d Tells IsWhole IsRefused rd rd' out out' end
   replayed first rd out1 r end one t w e =
       let i = ended_then out out1 out' r n text end w e in
       let told = subst (λ m. Tells d m n rd rd' r text) one t in

@@ -1,6 +1,6 @@
 -- Lines that were played: one, and one after another.
 use Rattle.std.specs.Prelude.{◌≡◌, ◌≢◌, ◌+◌, ◌∷◌, ◌++◌, ◌<◌, ◌≤◌, ◌⊎◌}
-use Rattle.g1_replay.specs.{ℕ, List, [], refl, sym, ap, subst, ◌∙◌, append_assoc, append-nil, take, drop, length, Option, Some, None, true, arith, Bool, Result, Ok, Err, IfErr, OnOk, Consumes, take-take, drop-take, take-append-drop, Shape, Command, Dialect, puts_none, puts_then, Stop, Fault, NoMemory, BookFull, WriteFailed, IsUndone, Does, MayStop, Follows, FollowsFront, PlaysFirst, Writes, written_by, IsReadStop, IsOfTrace, Reads, ReadsBehind, Commands, more_may_come}
+use Rattle.g1_replay.specs.{ℕ, List, [], refl, sym, ap, subst, ◌∙◌, append_assoc, append-nil, take, drop, length, Option, Some, None, true, arith, Bool, Result, Ok, Err, IfErr, OnOk, Consumes, take-take, drop-take, take-append-drop, Shape, Command, Dialect, puts_none, puts_then, Stop, Fault, NoMemory, BookFull, WriteFailed, IsUndone, Does, MayStop, Follows, FollowsFront, PlaysFirst, Prints, written_by, IsReadStop, IsOfTrace, Reads, ReadsBehind, Commands, more_may_come}
 use Rattle.g1_replay.proofs.ReadingLemmas.{reads_none, reads_then}
 
 -- nothing to be done
@@ -24,7 +24,7 @@ does_none did full s out r none no_book = record {
 
 -- one command that was done, and one that was not
 pub one_done : {S : Type 0} (did : S → List Command → List ℕ → S → Type 0) (full : S → Type 0) (old new : S) (c : Command) (text : List ℕ) (out out' : Option (List ℕ)) (r : Result Bool Stop)
-    → did old (c ∷ []) text new → IsUndone r [] → (r ≡ Err BookFull → ⊥) → Writes out out' r text → Does did full (c ∷ []) old new out out' r
+    → did old (c ∷ []) text new → IsUndone r [] → (r ≡ Err BookFull → ⊥) → Prints out out' r text → Does did full (c ∷ []) old new out out' r
 one_done did full old new c text out out' r made none no_book w = record { done = c ∷ []; undone = []; all = refl; stopped = none; text = text; made = made; filled = λ e. absurd (no_book e); written = w }
 
 pub one_undone : {S : Type 0} (did : S → List Command → List ℕ → S → Type 0) (full : S → Type 0) (old new : S) (c : Command) (out : Option (List ℕ)) (r : Result Bool Stop)

@@ -1,6 +1,6 @@
 -- What the jobs of a crew come to, by its book.
 use Rattle.std.specs.Prelude.{◌≡◌, ◌≢◌, ◌≤◌, ◌==◌, ◌++◌}
-use Rattle.g1_replay.specs.{ℕ, List, [], length, refl, sym, subst, ap, ◌∙◌, append-nil, Option, inl, inr, arith, Result, Ok, Err, IfErr, cases_Bool, eqb-true, count_by, Shape, opening, Entry, IsPermitted, is_store, History, IsHistory, BookTerms, Refusal, Command, is_store_command, layout_in, AppendsFront, stores_text, front_more, puts_none, puts_then, Stop, BookFull, NoThread, WriteFailed, CrewRan, crew_stop, drains, HasDrained, played_none, entries_of, HasPlayed, IsBookFull, MayStop, Writes, written_by, IsRunEnd, IsUnstarted, Appends}
+use Rattle.g1_replay.specs.{ℕ, List, [], length, refl, sym, subst, ap, ◌∙◌, append-nil, Option, inl, inr, arith, Result, Ok, Err, IfErr, cases_Bool, eqb-true, count_by, Shape, opening, Entry, IsPermitted, is_store, History, IsHistory, BookTerms, Refusal, Command, is_store_command, layout_in, AppendsFront, stores_text, front_more, puts_none, puts_then, Stop, BookFull, NoThread, WriteFailed, CrewRan, crew_stop, drains, HasDrained, played_none, entries_of, HasPlayed, IsBookFull, MayStop, Prints, written_by, IsRunEnd, IsUnstarted, Appends}
 use Rattle.g1_history.specs.declared.refusal.Refusal.TheVariants as refusal
 
 -- a book with drains behind it is a run, and its text counts the stores in front of them
@@ -33,19 +33,19 @@ drains_alone r h e = subst (λ r. IfErr r MayStop) e h
 
 -- the count could not be written
 pub stores_failed : (asked : List Command) (h : History) (out out' : Option (List ℕ)) → IsHistory h → count_by is_store h.entries ≡ count_by is_store_command asked → AppendsFront out out' (stores_text (count_by is_store h.entries))
-    → (text : List ℕ) × CrewRan h.limit (layout_in h) asked (Err WriteFailed) text × Writes {V = Unit {0}} out out' (Err WriteFailed) text
+    → (text : List ℕ) × CrewRan h.limit (layout_in h) asked (Err WriteFailed) text × Prints {V = Unit {0}} out out' (Err WriteFailed) text
 stores_failed asked h out out' history many w =
     (stores_text (count_by is_store h.entries) ++ [], ran_book asked h h 0 (Err WriteFailed) [] many (played_none h) history (inr tt) (λ e. cc) (λ e. cc) (λ e. cc), front_more out out' (stores_text (count_by is_store h.entries)) [] w)
 
 -- the count was written, and drains behind it
 pub book_written : (asked : List Command) (old new : History) (out mid_out out' : Option (List ℕ)) (r : Result (Unit {0}) Stop) → IfErr r MayStop → IsHistory new → count_by is_store old.entries ≡ count_by is_store_command asked → Appends out mid_out (stores_text (count_by is_store old.entries))
-    → HasDrained HasPlayed IsBookFull (layout_in old).regions old new mid_out out' r → (text : List ℕ) × CrewRan old.limit (layout_in old) asked r text × Writes out out' r text
+    → HasDrained HasPlayed IsBookFull (layout_in old).regions old new mid_out out' r → (text : List ℕ) × CrewRan old.limit (layout_in old) asked r text × Prints out out' r text
 book_written asked old new out mid_out out' r stops history many w d =
     (stores_text (count_by is_store old.entries) ++ d.text, ran_book asked old new d.drained r d.text many d.played history (may_end r stops) (drains_alone r stops) d.filled d.all, puts_then out mid_out out' (written_by r) (stores_text (count_by is_store old.entries)) d.text w d.written)
 
 -- nothing was drained or written
 stopped_with : (asked : List Command) (l : Shape) (history : ℕ) (entries : List Entry) (stop : Stop) (out : Option (List ℕ)) → IsRunEnd (Err stop) → IsPermitted (opening l) entries → length entries ≤ history → (stop ≡ BookFull → length entries ≡ history)
-    → (text : List ℕ) × CrewRan history l asked (Err stop) text × Writes {V = Unit {0}} out out (Err stop) text
+    → (text : List ℕ) × CrewRan history l asked (Err stop) text × Prints {V = Unit {0}} out out (Err stop) text
 stopped_with asked l history entries stop out ends permitted within full = (
   [],
   record {
@@ -72,11 +72,11 @@ crew_may made history refusal.BookFull = elim (cases_Bool (made == history)) [
 ]
 
 -- a job was refused
-pub job_refused : (asked : List Command) (h : History) (refused : Refusal) (out : Option (List ℕ)) → IsHistory h → (text : List ℕ) × CrewRan h.limit (layout_in h) asked (Err (crew_stop (length h.entries) h.limit refused)) text × Writes {V = Unit {0}} out out (Err (crew_stop (length h.entries) h.limit refused)) text
+pub job_refused : (asked : List Command) (h : History) (refused : Refusal) (out : Option (List ℕ)) → IsHistory h → (text : List ℕ) × CrewRan h.limit (layout_in h) asked (Err (crew_stop (length h.entries) h.limit refused)) text × Prints {V = Unit {0}} out out (Err (crew_stop (length h.entries) h.limit refused)) text
 job_refused asked h refused out history =
     let may = crew_may (length h.entries) h.limit refused in
     stopped_with asked (layout_in h) h.limit h.entries (crew_stop (length h.entries) h.limit refused) out (inr may.0) history.run history.within may.1
 
 -- no job was run
-pub not_started : (asked : List Command) (l : Shape) (history : ℕ) (stop : Stop) (out : Option (List ℕ)) → IsUnstarted stop → (text : List ℕ) × CrewRan history l asked (Err stop) text × Writes {V = Unit {0}} out out (Err stop) text
+pub not_started : (asked : List Command) (l : Shape) (history : ℕ) (stop : Stop) (out : Option (List ℕ)) → IsUnstarted stop → (text : List ℕ) × CrewRan history l asked (Err stop) text × Prints {V = Unit {0}} out out (Err stop) text
 not_started asked l history stop out h = stopped_with asked l history [] stop out (inl h) tt (omega arith) (λ e. absurd (subst IsUnstarted e h))

@@ -1,6 +1,6 @@
 -- A trace that is read to its end before its scripts are run: how it is read, what that comes to, and its whole output.
 use Rattle.std.specs.Prelude.{◌≡◌, ◌⊎◌}
-use Rattle.g1_replay.specs.{ℕ, List, [], refl, subst, Option, Some, None, inl, inr, ⊎_elim, true, false, Bool, Result, Ok, Err, Appends, Consumes-nil, Shape, Command, Dialect, TraceFault, Puts, puts_none, puts_then, End, Commands, Stop, Fault, NoMemory, WriteFailed, Follows, Writes, written_by, WritesSome, IsEndWritten, ending_line, IsReadStop, Reads, IsRunEnd, IsScriptReplayed, ScriptEnd, WasUnread, IfSome}
+use Rattle.g1_replay.specs.{ℕ, List, [], refl, subst, Option, Some, None, inl, inr, ⊎_elim, true, false, Bool, Result, Ok, Err, Appends, Consumes-nil, Shape, Command, Dialect, TraceFault, Puts, puts_none, puts_then, End, Commands, Stop, Fault, NoMemory, WriteFailed, Follows, Prints, written_by, PrintsSome, IsEndWritten, ending_line, IsReadStop, Reads, IsRunEnd, IsScriptReplayed, ScriptEnd, WasUnread, IfSome}
 use Rattle.g1_replay.specs.Scripted.{Scripted}
 use Rattle.g1_replay.proofs.EndLemmas.{ReadsAs, all_done, replayed}
 use Rattle.g1_replay.proofs.ReadingLemmas.{reads_then}
@@ -49,17 +49,17 @@ module _ {S : Type 0} (Did : S → List Command → List ℕ → S → Type 0) (
 
 -- a trace that was not read to its end
 pub scripts_unread : (Ran : ScriptEnd) (d : Dialect) (n n' : ℕ) (rd rd' out out' : Option (List ℕ)) (stop : Stop) → WasUnread d n n' rd rd' (Err stop) [] → Appends out out' []
-    → (text : List ℕ) × Scripted Ran d n n' rd rd' (Err stop) text × Writes {V = Unit {0}} out out' (Err stop) text
+    → (text : List ℕ) × Scripted Ran d n n' rd rd' (Err stop) text × Prints {V = Unit {0}} out out' (Err stop) text
 scripts_unread Ran d n n' rd rd' out out' stop s w =
     ([], inl s, puts_then out out' out' (written_by {V = Unit {0}} (Err stop)) [] [] w (puts_none out' (written_by {V = Unit {0}} (Err stop))))
 
 -- a trace that was read to its end, and what its scripts came to
 pub scripts_run : (Ran : ScriptEnd) (d : Dialect) (n n' : ℕ) (l : Shape) (cs : List Command) (rd rd' out mid_out out' : Option (List ℕ)) (r : Result (Unit {0}) Stop) → Reads d None n n' rd rd' (Some l) cs (Ok false) → Appends out mid_out []
-    → (text : List ℕ) × Ran l cs r text × Writes mid_out out' r text → (text : List ℕ) × Scripted Ran d n n' rd rd' r text × Writes out out' r text
+    → (text : List ℕ) × Ran l cs r text × Prints mid_out out' r text → (text : List ℕ) × Scripted Ran d n n' rd rd' r text × Prints out out' r text
 scripts_run Ran d n n' l cs rd rd' out mid_out out' r read w t = (t.0, inr (record { layout = l; commands = cs; read = read; ran = t.1 }), puts_then out mid_out out' (written_by r) [] t.0 w t.2)
 
 pub scripts_replayed : (Ran : ScriptEnd) → ((l : Shape) (cs : List Command) (r : Result (Unit {0}) Stop) (text : List ℕ) → Ran l cs r text → IsRunEnd r) → (d : Dialect) (first n : ℕ) (rd rd' out out1 out' : Option (List ℕ)) (r : Result (Unit {0}) Stop) (end : End) → first ≡ 1
-    → WritesSome (Scripted Ran d first n rd rd') out out1 r → IsEndWritten out1 out' r (ending_line n r) end → IsScriptReplayed Ran d rd rd' out out' end
+    → PrintsSome (Scripted Ran d first n rd rd') out out1 r → IsEndWritten out1 out' r (ending_line n r) end → IsScriptReplayed Ran d rd rd' out out' end
 scripts_replayed Ran ends d first n rd rd' out out1 out' r end one t w = replayed d (Scripted Ran) _ _ whole refused n rd' out out' t.0 first rd out1 r end one t.1 t.2 w
   where
     whole : ReadsAs d (Scripted Ran d) (Ok tt) (λ heap cs text. IfSome heap (λ l. Ran l cs (Ok tt) text))

@@ -1,6 +1,6 @@
 -- From what was read and played to the text of a permitted run.
 use Rattle.std.specs.Prelude.{◌≡◌, ◌≢◌, ◌≤◌, ◌++◌, ◌⊎◌}
-use Rattle.g1_replay.specs.{Bool, ℕ, List, [], refl, length, sym, ap, ◌∙◌, subst, arith, Option, Some, None, true, Result, Ok, Err, IfErr, IfSome, IfNone, Shape, Settings, opening, Entry, IsPermitted, History, IsHistory, BookTerms, layout_in, Command, Dialect, Options, Stop, Fault, NoMemory, BookFull, NoThread, Told, WritesSome, written_by, puts_none, ⊎_elim, end_met, AreSetBy, entries_of, IsOpened, IsBookFull, HasPlayed, Follows, MayStop, Writes, IsReadStop, Reads, Commands}
+use Rattle.g1_replay.specs.{Bool, ℕ, List, [], refl, length, sym, ap, ◌∙◌, subst, arith, Option, Some, None, true, Result, Ok, Err, IfErr, IfSome, IfNone, Shape, Settings, opening, Entry, IsPermitted, History, IsHistory, BookTerms, layout_in, Command, Dialect, Options, Stop, Fault, NoMemory, BookFull, NoThread, Told, PrintsSome, written_by, puts_none, ⊎_elim, end_met, AreSetBy, entries_of, IsOpened, IsBookFull, HasPlayed, Follows, MayStop, Prints, IsReadStop, Reads, Commands}
 use Rattle.g1_replay.proofs.PlayingLemmas.{none_undone}
 use Rattle.g1_replay.proofs.ReadingLemmas.{reads_then}
 
@@ -16,7 +16,7 @@ nothing_permitted None = tt
 nothing_permitted (Some l) = tt
 
 -- nothing was done
-pub told_nothing : (d : Dialect) (s : Settings) (history n n' : ℕ) (rd rd' out : Option (List ℕ)) (heap : Option Shape) (stop : Stop) → stop ≢ NoThread → stop ≢ BookFull → Reads d None n n' rd rd' heap [] (Err stop) → WritesSome (Told d s history n n' rd rd') out out (Err stop)
+pub told_nothing : (d : Dialect) (s : Settings) (history n n' : ℕ) (rd rd' out : Option (List ℕ)) (heap : Option Shape) (stop : Stop) → stop ≢ NoThread → stop ≢ BookFull → Reads d None n n' rd rd' heap [] (Err stop) → PrintsSome (Told d s history n n' rd rd') out out (Err stop)
 told_nothing d s history n n' rd rd' out heap stop no_thread no_book read = (
   [],
   record {
@@ -37,15 +37,15 @@ told_nothing d s history n n' rd rd' out heap stop no_thread no_book read = (
 )
 
 -- a trace without a header
-pub head_told : (d : Dialect) (s : Settings) (history n n' : ℕ) (rd rd' out : Option (List ℕ)) (stop : Stop) → IsReadStop stop → Reads d None n n' rd rd' None [] (Err stop) → WritesSome (Told d s history n n' rd rd') out out (Err stop)
+pub head_told : (d : Dialect) (s : Settings) (history n n' : ℕ) (rd rd' out : Option (List ℕ)) (stop : Stop) → IsReadStop stop → Reads d None n n' rd rd' None [] (Err stop) → PrintsSome (Told d s history n n' rd rd') out out (Err stop)
 head_told d s history n n' rd rd' out stop h read = told_nothing d s history n n' rd rd' out None stop (λ e. subst IsReadStop e h) (λ e. subst IsReadStop e h) read
 
 -- a header, and no memory for what it asks for
-pub unopened_told : (d : Dialect) (s : Settings) (history n n' : ℕ) (l : Shape) (rd rd' out : Option (List ℕ)) → Reads d None n n' rd rd' (Some l) [] (Ok true) → WritesSome (Told d s history n n' rd rd') out out (Err NoMemory)
+pub unopened_told : (d : Dialect) (s : Settings) (history n n' : ℕ) (l : Shape) (rd rd' out : Option (List ℕ)) → Reads d None n n' rd rd' (Some l) [] (Ok true) → PrintsSome (Told d s history n n' rd rd') out out (Err NoMemory)
 unopened_told d s history n n' l rd rd' out read =
     told_nothing d s history n n' rd rd' out (Some l) NoMemory (λ e. cc) (λ e. cc) (record { lines = read.lines; rest = read.rest; consumed = read.consumed; passed = read.passed; met = read.met })
 
-pub written_as : (out out' : Option (List ℕ)) (r : Result (Unit {0}) Stop) (text : List ℕ) → Writes out out' (end_met r) text → Writes out out' r text
+pub written_as : (out out' : Option (List ℕ)) (r : Result (Unit {0}) Stop) (text : List ℕ) → Prints out out' (end_met r) text → Prints out out' r text
 written_as out out' (Ok done) text w = w
 written_as out out' (Err (Fault f)) text w = w
 written_as out out' (Err stop) text w = w
@@ -58,7 +58,7 @@ starts_none r h e = ⊎_elim (λ x. x) (λ x. x) (subst (λ r. IfErr r (λ stop.
 pub played_told : {S : Type 0} (book_of : S → History) (o : Options) (n n' : ℕ) (a a' : Commands) (old new : S) (rd rd1 rd' out out' : Option (List ℕ)) (r : Result (Unit {0}) Stop)
     → a'.source.now.number ≡ n' → IsOpened a.layout o (book_of old) → Reads a.dialect None n a.source.now.number rd rd1 (Some a.layout) [] (Ok true)
     → Follows (λ s cs text t. HasPlayed (book_of s) cs text (book_of t)) (λ s. IsBookFull (book_of s)) a a' old new rd1 rd' out out' (end_met r) → IfErr r (λ stop. IsReadStop stop ⊎ MayStop stop) → IsHistory (book_of new)
-    → WritesSome (Told a.dialect o.config o.history n n' rd rd') out out' r
+    → PrintsSome (Told a.dialect o.config o.history n n' rd rd') out out' r
 played_told book_of o n n' a a' old new rd rd1 rd' out out' r at_end is head f stops h =
     let p = f.done.made in
     let es : (book_of new).entries ≡ entries_of p.pieces = p.grows.entries ∙ ap (λ (h : History). h.entries ++ entries_of p.pieces) is in

@@ -4,7 +4,7 @@ use Rattle.g1_replay.specs.Prelude.{ℕ, zero, suc, List, [], Result, Ok, Err, O
 use Rattle.g1_replay.specs.Prelude.{Call}
 use Rattle.g1_replay.specs.declared.stop.Stop.{Stop}
 use Rattle.g1_replay.specs.declared.stop.Stop.TheVariants.{BookFull}
-use Rattle.g1_replay.specs.Playing.{Writes}
+use Rattle.g1_replay.specs.Playing.{Prints}
 
 -- the drains of the first k regions, in order
 abbrev pub drains : ℕ → List Command
@@ -21,4 +21,4 @@ pub record HasDrained {S : Type 0} (did : S → List Command → List ℕ → S 
   pub played : did old (drains drained) text new
   pub filled : r ≡ Err BookFull → full new
   pub all : r ≡ Ok tt → drained ≡ regions
-  pub written : Writes out out' r text
+  pub written : Prints out out' r text

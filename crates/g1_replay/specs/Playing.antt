@@ -65,14 +65,14 @@ written_by (Err WriteFailed) = Err tt
 written_by r = Ok tt
 
 -- All of the text was written, or a beginning of it where a write failed.
-abbrev pub Writes : {V : Type 0} → Option (List ℕ) → Option (List ℕ) → Result V Stop → List ℕ
+abbrev pub Prints : {V : Type 0} → Option (List ℕ) → Option (List ℕ) → Result V Stop → List ℕ
     → Type 0
-Writes out out' r text = Puts out out' (written_by r) text
+Prints out out' r text = Puts out out' (written_by r) text
 
 -- A text of which this holds was written, or a beginning of it where a write failed.
-abbrev pub WritesSome : (Result (Unit {0}) Stop → List ℕ → Type 0) → Option (List ℕ)
+abbrev pub PrintsSome : (Result (Unit {0}) Stop → List ℕ → Type 0) → Option (List ℕ)
     → Option (List ℕ) → Result (Unit {0}) Stop → Type 0
-WritesSome Holds out out' r = (text : List ℕ) × Holds r text × Writes out out' r text
+PrintsSome Holds out out' r = (text : List ℕ) × Holds r text × Prints out out' r text
 
 -- The commands that were read and not done: the one that was refused for a full book, one at most
 -- for refused memory, and no other.
@@ -93,7 +93,7 @@ pub record Does {S : Type 0} (did : S → List Command → List ℕ → S → Ty
   pub text : List ℕ
   pub made : did old done text new
   pub filled : r ≡ Err BookFull → full new
-  pub written : Writes out out' r text
+  pub written : Prints out out' r text
 
 -- what stops a command
 abbrev pub MayStop : Stop → Type 0

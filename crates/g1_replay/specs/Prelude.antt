@@ -26,8 +26,9 @@ pub use Rattle.std.specs.Iterator.{YieldsFirst}
 pub use Rattle.std.specs.List.{AllZip, cons_option, filter_map, flat_map}
 pub use Rattle.std.specs.Option.{option_or}
 pub use Rattle.std.specs.Prelude.{[], All, Bool, codes, count_by, Err, IfErr, IfNone, IfOk, IfSome}
-pub use Rattle.std.specs.Prelude.{IsErrAnd, IsNone, IsSome, MatchResult, Ok, OnOk, option_to_list}
-pub use Rattle.std.specs.Prelude.{Result, slice_index, slice_index_or, sum_by, unwrap_or, zero}
+pub use Rattle.std.specs.Prelude.{IsErrAnd, IsNone, IsSome, MatchResult, Ok, OnErr, OnOk}
+pub use Rattle.std.specs.Prelude.{option_to_list, Result, slice_index, slice_index_or, sum_by}
+pub use Rattle.std.specs.Prelude.{unwrap_or, zero}
 pub use Rattle.std.specs.Vec.Iter.{into_iter_items, into_iter_len}
 pub use Rattle.arrayvec.specs.ArrayVec.{array_vec_len}
 pub use Rattle.g1_core.specs.Adoption.{IsPairOf}

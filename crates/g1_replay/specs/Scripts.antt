@@ -14,6 +14,15 @@ asked_in (Store by slot target) = Some (by, step.Store slot target)
 asked_in (Flush by) = Some (by, step.Flush)
 asked_in c = None
 
+-- the calls of what a command asks for: one, or none
+abbrev pub asked_calls : Option (ℕ × Step) → List Step
+asked_calls None = []
+asked_calls (Some asked) = asked.1 ∷ []
+
+-- the calls that a command asks of its mutator
+abbrev pub calls_in : Command → List Step
+calls_in command = asked_calls (asked_in command)
+
 -- what a call that is asked of some mutator is to this one
 abbrev pub own_step : ℕ → Option (ℕ × Step) → Option Step
 own_step mutator None = None

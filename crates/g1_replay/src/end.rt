@@ -1,6 +1,12 @@
-//! How a replay ends, and the exit status that tells so.
+//! How a replay ends: the line of its end, and the exit status that tells so.
 ghost use Rattle.std.specs.Prelude.{◌≡◌};
-ghost use Rattle.g1_replay.specs.{exit_status};
+ghost use Rattle.g1_replay.specs.{IsEndWritten, ending_line, end_or_failed, exit_status};
+
+use crate::stop::Stop;
+use g1_trace::{
+    WriteFailed, put_book_full, put_fault, put_no_memory, put_no_thread, put_read_failed,
+};
+use std::io::Write;
 
 /// How a replay ended (docs/traces.md, Ends).
 #[derive(Clone, Copy, Debug, PartialEq, Eq)]
@@ -31,5 +37,31 @@ impl End {
             End::ReadFailed => 4,
             End::WriteFailed => 5,
         }
+    }
+}
+
+/// Writes the line of the end.
+pub(crate) fn put_end<W: Write>(output: &mut W, number: u64, outcome: Result<(), Stop>) -> End
+    ensures { IsEndWritten (W.contents output.old) (W.contents output.new) outcome
+        (ending_line number outcome) result }
+{
+    match outcome {
+        Ok(()) => End::Whole,
+        Err(Stop::WriteFailed) => End::WriteFailed,
+        Err(Stop::Fault(fault)) => end_unless(put_fault(output, number, fault), End::Refused),
+        Err(Stop::NoMemory) => end_unless(put_no_memory(output), End::Stopped),
+        Err(Stop::BookFull) => end_unless(put_book_full(output), End::Stopped),
+        Err(Stop::NoThread) => end_unless(put_no_thread(output), End::Stopped),
+        Err(Stop::ReadFailed) => end_unless(put_read_failed(output), End::ReadFailed),
+    }
+}
+
+// The end, unless its line could not be written.
+fn end_unless(written: Result<(), WriteFailed>, end: End) -> End
+    ensures { result ≡ end_or_failed written end }
+{
+    match written {
+        Ok(()) => end,
+        Err(_) => End::WriteFailed,
     }
 }

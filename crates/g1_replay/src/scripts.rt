@@ -1,11 +1,11 @@
 //! The scripts of a trace: what each mutator of a crew or a race is to do, kept as the trace is
 //! read, and why a job was refused.
-ghost use Rattle.std.specs.Prelude.{◌≡◌, ◌+◌, ◌∷◌, ◌++◌};
-ghost use Rattle.g1_replay.specs.Prelude.{ℕ, [], drop, refl, true, Ok, Some, All, IfOk, OnOk};
+ghost use Rattle.std.specs.Prelude.{◌≡◌, ◌<◌, ◌+◌, ◌^◌, ◌++◌};
+ghost use Rattle.g1_replay.specs.Prelude.{ℕ, [], drop, refl, true, All, IfOk, OnOk, OnErr};
 ghost use Rattle.g1_replay.specs.Prelude.{vec_len, sum_by, slot_count, StepFits};
 ghost use Rattle.g1_replay.specs.Scripted.{no_memory_may};
-ghost use Rattle.g1_replay.specs.Scripts.{AreKept, IsScriptAt, asked_in, kept_nothing, kept_then};
-ghost use Rattle.g1_replay.specs.Scripts.{refusal_in, stores_in};
+ghost use Rattle.g1_replay.specs.Scripts.{AreKept, IsScriptAt, asked_in, calls_in, kept_nothing};
+ghost use Rattle.g1_replay.specs.Scripts.{kept_then, refusal_in, stores_in};
 ghost use Rattle.g1_replay.specs.declared.stop.Stop.TheVariants.{NoMemory};
 ghost use Rattle.g1_steps.specs.declared.crew.desk.Step.{Step};
 
@@ -60,12 +60,10 @@ impl Player for Scripts {
         command: Command,
         _output: &mut W,
     ) -> Result<(), Stop> {
-        let Some((by, step)) = asked(command) else {
+        let Some((by, _step)) = asked(command) else {
             return Ok(());
         };
-        let script = &mut self.steps[by as usize];
-        script.reserve(1)?;
-        script.push_reserved(step);
+        append(&mut self.steps[by as usize], &command)?;
         Ok(())
     }
 
@@ -105,19 +103,16 @@ fn stores_of(script: &[Step]) -> u64
     stores
 }
 
-/// How many stores the scripts have, or `NoMemory` if these are 2^64 or more.
-pub(crate) fn count_stores(scripts: &[Vec<Step>]) -> Result<u64, NoMemory>
-    ensures { IfOk result (λ stores.
-        stores ≡ sum_by (λ script. stores_in script.items) scripts.now) }
+/// How many stores the scripts have.
+pub(crate) fn count_stores(scripts: &[Vec<Step>]) -> u64
+    requires few { sum_by (λ script. stores_in script.items) scripts.now < 2 ^ 64 }
+    ensures { result ≡ sum_by (λ script. stores_in script.items) scripts.now }
 {
     let mut stores: u64 = 0;
     for script in scripts {
-        let Some(sum) = stores.checked_add(stores_of(script)) else {
-            return Err(NoMemory);
-        };
-        stores = sum;
+        stores += stores_of(script);
     }
-    Ok(stores)
+    stores
 }
 
 /// The next script: the calls of a mutator, or rounds if none is left.
@@ -133,11 +128,11 @@ pub(crate) fn next_script(scripts: &mut Vec<Vec<Step>>, rounds: u32) -> Script
 }
 
 /// Adds the call that a command asks of a mutator behind these, if it asks for one.
-pub(crate) fn append(steps: &mut Vec<Step>, command: Command) -> Result<(), NoMemory>
-    ensures { OnOk result ((by : ℕ) (step : Step) → asked_in command ≡ Some (by, step)
-        → steps.new.items ≡ steps.old.items ++ step ∷ []) }
+pub(crate) fn append(steps: &mut Vec<Step>, command: &Command) -> Result<(), NoMemory>
+    ensures ok { OnOk result (steps.new.items ≡ steps.old.items ++ calls_in command.now) }
+    ensures err { OnErr result (steps.new.items ≡ steps.old.items) }
 {
-    let Some((_, step)) = asked(command) else {
+    let Some((_, step)) = asked(*command) else {
         return Ok(());
     };
     steps.reserve(1)?;

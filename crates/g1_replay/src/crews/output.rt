@@ -3,7 +3,7 @@ ghost use Rattle.std.specs.Prelude.{◌≡◌};
 ghost use Rattle.g1_replay.specs.{List, [], Err, None, IfSome, length, count_by, Appends};
 ghost use Rattle.g1_replay.specs.{is_store, is_store_command, Command, IsHistory};
 ghost use Rattle.g1_replay.specs.{layout_in, CrewRan, crew_stop, played_in, played_none};
-ghost use Rattle.g1_replay.specs.{played_then, HasPlayed, IsBookFull, WritesSome};
+ghost use Rattle.g1_replay.specs.{played_then, HasPlayed, IsBookFull, PrintsSome};
 
 use crate::calls::play_call;
 use crate::drains::{Drains, put_drains};
@@ -36,7 +36,7 @@ impl Drains for Book {
 fn put_book<W: Write>(book: &mut Book, stores: u64, output: &mut W) -> Result<(), Stop>
     requires { stores ≡ count_by is_store book.old.entries }
     ensures { (commands : List Command) → stores ≡ count_by is_store_command commands
-        → WritesSome (CrewRan book.old.limit (layout_in book.old) commands)
+        → PrintsSome (CrewRan book.old.limit (layout_in book.old) commands)
         (W.contents output.old) (W.contents output.new) result }
 {
     let layout = book.layout();
@@ -72,7 +72,7 @@ pub(crate) fn put_crew<W: Write>(
     requires stores { stores ≡ count_by is_store book.old.entries }
     ensures ran { (commands : List Command)
         → (refused ≡ None → stores ≡ count_by is_store_command commands)
-        → WritesSome (CrewRan history (layout_in book.old) commands)
+        → PrintsSome (CrewRan history (layout_in book.old) commands)
         (W.contents output.old) (W.contents output.new) result }
     ensures refused { IfSome refused (λ r.
         (result ≡ Err (crew_stop (length book.old.entries) history r))

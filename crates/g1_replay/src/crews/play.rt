@@ -3,17 +3,15 @@
 ghost use Rattle.std.specs.Prelude.{◌≡◌};
 ghost use Rattle.g1_replay.specs.{List, true, vec_len, All, count_by, sum_by, slot_count};
 ghost use Rattle.g1_replay.specs.{StepFits, Command, CrewRan, IsScriptReplayed, dialect_in};
-ghost use Rattle.g1_replay.specs.{WritesSome, is_store_command, stores_in};
+ghost use Rattle.g1_replay.specs.{PrintsSome, is_store_command, stores_in};
 ghost use Rattle.g1_replay.specs.Scripted.{Scripted};
 ghost use Rattle.g1_trace.specs.declared.mode.Mode.TheVariants.{Crew};
 
 use crate::crews::jobs::run_jobs;
 use crate::crews::output::put_crew;
-use crate::end::End;
+use crate::end::{End, put_end};
 use crate::lines::source::Source;
 use crate::lines::whole::read_scripts;
-use crate::runs::engine::put_end;
-use crate::scripts::Scripts;
 use crate::stop::Stop;
 use g1_history::Book;
 use g1_layout::Layout;
@@ -42,7 +40,7 @@ fn run_scripts<T: Threads + Wait + Sync, W: Write>(
     ensures { (commands : List Command)
         → sum_by (λ steps. stores_in steps.items) scripts.items
         ≡ count_by is_store_command commands
-        → WritesSome (CrewRan options.now.history layout commands)
+        → PrintsSome (CrewRan options.now.history layout commands)
         (W.contents output.old) (W.contents output.new) result }
 {
     let count = u64::from(options.mutators + options.refiners);
@@ -69,13 +67,12 @@ fn play_crew<T: Threads + Wait + Sync, R: BufRead, W: Write>(
     output: &mut W,
     options: &Options,
 ) -> Result<(), Stop>
-    ensures { WritesSome (Scripted (CrewRan options.now.history) (dialect_in Crew options.now)
+    ensures { PrintsSome (Scripted (CrewRan options.now.history) (dialect_in Crew options.now)
         source.old.number source.new.number (R.remaining input.old) (R.remaining input.new))
         (W.contents output.old) (W.contents output.new) result }
 {
     let (layout, scripts) = read_scripts(rt, alloc, Mode::Crew, source, input, output, options)?;
-    let Scripts { steps, .. } = scripts;
-    run_scripts(rt, alloc, layout, steps, output, options)
+    run_scripts(rt, alloc, layout, scripts.steps, output, options)
 }
 
 /// Replays a trace by a crew: reads all of it, makes the calls of each mutator in a thread of its

@@ -28,7 +28,7 @@ fn race_script(scripts: &mut Vec<Vec<Step>>, rounds: u32) -> Result<Script, NoMe
     match next_script(scripts, rounds) {
         Script::Refine(rounds) => Ok(Script::Refine(rounds)),
         Script::Mutate(mut steps) => {
-            append(&mut steps, Command::Flush { mutator: 0 })?;
+            append(&mut steps, &Command::Flush { mutator: 0 })?;
             Ok(Script::Mutate(steps))
         }
     }

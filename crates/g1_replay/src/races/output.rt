@@ -2,7 +2,7 @@
 //! race has become.
 ghost use Rattle.std.specs.Prelude.{◌≡◌};
 ghost use Rattle.g1_replay.specs.{ℕ, List, count_by, Command, Ended, table_of, core_drained_none};
-ghost use Rattle.g1_replay.specs.{core_drained_then, CoreDrained, WritesSome};
+ghost use Rattle.g1_replay.specs.{core_drained_then, CoreDrained, PrintsSome};
 ghost use Rattle.g1_replay.specs.{is_store_command, RaceRan, IsTableLeftBy};
 
 use crate::calls::put_call;
@@ -38,7 +38,7 @@ pub(crate) fn put_race<W: Write>(core: &mut Core, stores: u64, output: &mut W) -
     ensures { (mutators : ℕ) (e : Ended) (commands : List Command)
         → stores ≡ count_by is_store_command commands → core.old.state.table ≡ table_of e
         → IsTableLeftBy mutators commands e
-        → WritesSome (RaceRan mutators e.layout commands) (W.contents output.old)
+        → PrintsSome (RaceRan mutators e.layout commands) (W.contents output.old)
         (W.contents output.new) result }
 {
     let layout = core.layout();

@@ -1,17 +1,17 @@
 //! Reads a trace to its end, makes the stores of each mutator in a race, in a thread of its own,
 //! and prints the result.
-ghost use Rattle.std.specs.Prelude.{◌≡◌};
-ghost use Rattle.g1_replay.specs.{List, true, All, vec_len, slot_count, StepFits, Command};
-ghost use Rattle.g1_replay.specs.{AreScripts, RaceRan, IsScriptReplayed, WritesSome, dialect_in};
+ghost use Rattle.std.specs.Prelude.{◌≡◌, ◌<◌, ◌^◌};
+ghost use Rattle.g1_replay.specs.{List, true, All, vec_len, sum_by, slot_count, StepFits, Command};
+ghost use Rattle.g1_replay.specs.{AreScripts, RaceRan, IsScriptReplayed, PrintsSome, dialect_in};
+ghost use Rattle.g1_replay.specs.{stores_in};
 ghost use Rattle.g1_replay.specs.Scripted.{Scripted};
 ghost use Rattle.g1_trace.specs.declared.mode.Mode.TheVariants.{Race};
 
-use crate::end::End;
+use crate::end::{End, put_end};
 use crate::lines::source::Source;
 use crate::lines::whole::read_scripts;
 use crate::races::jobs::run_race;
 use crate::races::output::put_race;
-use crate::runs::engine::put_end;
 use crate::scripts::{Scripts, count_stores};
 use crate::stop::Stop;
 use g1_layout::Layout;
@@ -34,14 +34,14 @@ fn race_scripts<T: Threads + Wait + Sync, W: Write>(
     requires count { vec_len scripts.steps ≡ options.now.mutators }
     requires fits { All (λ steps.
         All (StepFits (slot_count layout) true) steps.items) scripts.steps.items }
+    requires few { sum_by (λ steps. stores_in steps.items) scripts.steps.items < 2 ^ 64 }
     ensures { (commands : List Command)
         → AreScripts (λ steps. steps.items) scripts.steps.items commands
-        → WritesSome (RaceRan options.now.mutators layout commands)
+        → PrintsSome (RaceRan options.now.mutators layout commands)
         (W.contents output.old) (W.contents output.new) result }
 {
-    let Scripts { steps } = scripts;
-    let stores = count_stores(&steps)?;
-    let closed = run_race(rt, alloc, layout, steps, options)?;
+    let stores = count_stores(&scripts.steps);
+    let closed = run_race(rt, alloc, layout, scripts.steps, options)?;
     let Ok(mut core) = closed.into_core(alloc, options.config) else {
         return Err(Stop::NoMemory);
     };
@@ -57,7 +57,7 @@ fn play_race<T: Threads + Wait + Sync, R: BufRead, W: Write>(
     output: &mut W,
     options: &Options,
 ) -> Result<(), Stop>
-    ensures { WritesSome (Scripted (RaceRan options.now.mutators) (dialect_in Race options.now)
+    ensures { PrintsSome (Scripted (RaceRan options.now.mutators) (dialect_in Race options.now)
         source.old.number source.new.number (R.remaining input.old) (R.remaining input.new))
         (W.contents output.old) (W.contents output.new) result }
 {

@@ -1,18 +1,13 @@
 //! A replay by one thread: the header of its trace, its lines, and the line of its end.
-ghost use Rattle.std.specs.Prelude.{◌≡◌};
-ghost use Rattle.g1_replay.specs.{Run, WritesSome, Told, IsRunText, IsEndWritten, IsReplayed};
-ghost use Rattle.g1_replay.specs.{dialect_in, ending_line, end_or_failed};
+ghost use Rattle.g1_replay.specs.{Run, PrintsSome, Told, IsRunText, IsReplayed, dialect_in};
 
-use crate::end::End;
+use crate::end::{End, put_end};
 use crate::lines::opening::read_layout;
 use crate::lines::source::{Commands, Source};
 use crate::runs::machinery::Machinery;
 use crate::stop::Stop;
 use g1_options::Options;
-use g1_trace::{
-    Dialect, Mode, WriteFailed, put_book_full, put_fault, put_no_memory, put_no_thread,
-    put_read_failed,
-};
+use g1_trace::{Dialect, Mode};
 use std::alloc::Global;
 use std::io::{BufRead, Write};
 use std::sync::Wait;
@@ -26,7 +21,7 @@ fn play_trace<T: Wait, R: BufRead, W: Write>(
     output: &mut W,
     options: &Options,
 ) -> Result<(), Stop>
-    ensures { WritesSome (Told (dialect_in Run options.now) options.now.config options.now.history
+    ensures { PrintsSome (Told (dialect_in Run options.now) options.now.config options.now.history
         source.old.number source.new.number (R.remaining input.old) (R.remaining input.new))
         (W.contents output.old) (W.contents output.new) result }
 {
@@ -44,32 +39,6 @@ fn play_trace<T: Wait, R: BufRead, W: Write>(
     let result = commands.play_all(rt, input, &mut machinery, output);
     let _history = machinery.book.entries();
     result
-}
-
-/// Writes the line of the end.
-pub(crate) fn put_end<W: Write>(output: &mut W, number: u64, outcome: Result<(), Stop>) -> End
-    ensures { IsEndWritten (W.contents output.old) (W.contents output.new) outcome
-        (ending_line number outcome) result }
-{
-    match outcome {
-        Ok(()) => End::Whole,
-        Err(Stop::WriteFailed) => End::WriteFailed,
-        Err(Stop::Fault(fault)) => end_unless(put_fault(output, number, fault), End::Refused),
-        Err(Stop::NoMemory) => end_unless(put_no_memory(output), End::Stopped),
-        Err(Stop::BookFull) => end_unless(put_book_full(output), End::Stopped),
-        Err(Stop::NoThread) => end_unless(put_no_thread(output), End::Stopped),
-        Err(Stop::ReadFailed) => end_unless(put_read_failed(output), End::ReadFailed),
-    }
-}
-
-// The end, unless its line could not be written.
-fn end_unless(written: Result<(), WriteFailed>, end: End) -> End
-    ensures { result ≡ end_or_failed written end }
-{
-    match written {
-        Ok(()) => end,
-        Err(_) => End::WriteFailed,
-    }
 }
 
 /// Replays a trace: reads it line by line, makes the calls of each command and writes its output
