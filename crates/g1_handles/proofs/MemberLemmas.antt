@@ -30,11 +30,6 @@ pub on_err : {A E P Q : Type 0} (r : Result A E) → (P → Q) → OnErr r P →
 on_err (Ok a) f h = h
 on_err (Err e) f h = f h
 
--- what is so is so where a call is refused
-pub if_err : {A E P : Type 0} (r : Result A E) → P → OnErr r P
-if_err (Ok a) p = tt
-if_err (Err e) p = p
-
 -- the role of a member is of its race
 pub role_is_of : {P : Type 0} {g : Ghosts P} (m : Member P g) (role : P) (race : Race) → m.role ≡ Some role → IsOf race (Some m) → g.of role ≡ race_id race
 role_is_of m role race is of = m.same role is ∙ ap race_id of

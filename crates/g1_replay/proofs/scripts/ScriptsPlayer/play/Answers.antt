@@ -1,4 +1,4 @@
-use Rattle.std.specs.Prelude.{◌≡◌, ◌<◌, ◌∷◌, ◌++◌}
+use Rattle.std.specs.Prelude.{◌<◌, ◌∷◌, ◌++◌}
 use Rattle.g1_replay.specs.{ℕ, Option, Some, None, Appends-nil, Err, NoMemory, Ok, List, [], All, length, refl, sym, subst, ap, ◌∙◌, append-nil, true, arith, All-push, All-set, err_from_is_err_and, slot_count, StepFits, Step, asked_calls}
 use Rattle.g1_replay.proofs.{Kept, kept_at, kept_none, asks_one, asked_none, asked_own, asked_other, asked_fits, stores_none, stores_one, one_done, one_undone}
 use Rattle.g1_replay.proofs.scripts.ScriptsPlayer.play.Goals as goal
