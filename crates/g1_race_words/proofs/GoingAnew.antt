@@ -1,6 +1,6 @@
 -- What is known where one seat has all the weight, and how a race begins anew.
 use Rattle.std.specs.Prelude.{◌≡◌, ◌⊎◌, ◌<◌, ◌≤◌, ◌∷◌}
-use Rattle.g1_race_words.specs.{ℕ, zero, suc, List, [], set, true, refl, sym, ap, ◌∙◌, subst, inl, inr, ⊎_elim, arith, nat_lt, some, some-ne-none, get_elem?, RaceShape, View, Start, In, Held, cleanings_of, pairs_found, held_of, slot_card, region_at, mark_word, AnswersFor, IsMarked, IsWholeShape, HasBit, IsNoted, StoredInto, BeganInto, Someone, OfSome, cases_eq, AtRest, IsBlank, MadeDirty, total, as_number, tally, numbers, front, pairs_up_to, Raced, IsBegun, Going, started, beginning, start_of}
+use Rattle.g1_race_words.specs.{ℕ, zero, suc, List, [], set, true, refl, sym, ap, ◌∙◌, subst, inl, inr, ⊎_elim, arith, some, some-ne-none, get_elem?, RaceShape, View, Start, In, Held, cleanings_of, pairs_found, held_of, slot_card, region_at, mark_word, AnswersFor, IsMarked, IsWholeShape, HasBit, IsNoted, StoredInto, BeganInto, Someone, OfSome, cases_eq, AtRest, IsBlank, MadeDirty, total, tally, numbers, front, pairs_up_to, Raced, IsBegun, Going, started, beginning, start_of}
 use Rattle.g1_race_words.proofs.Plain.{one_there, each_set, total_none, weigh_all, total_set}
 use Rattle.g1_race_words.proofs.Tallies.{below_up_to, numbers_none}
 use Rattle.g1_race_words.proofs.AtBeginning.{raced_fresh, going_fresh}
