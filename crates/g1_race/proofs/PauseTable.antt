@@ -1,6 +1,6 @@
 -- What a pause's words say as a table.
 use Rattle.std.specs.Prelude.{◌≡◌, ◌+◌, ◌<◌, ◌≤◌}
-use Rattle.g1_race.specs.{at_read, cases_lt, false, get_or, get_or-map, get_or_past, length-drop, length-map, ℕ, eqb, List, map, drop, Contains, refl, sym, ap, ◌∙◌, subst, inl, inr, ⊎_elim, arith, some, get_elem?, slot_count, nat_cmp, and_parts, not-true, true≢false, eqb-true, Option, length, eq-eqb, CardSet, set_of, Table, Holds, IsPending, IsRecorded, AreMembers, refined, IsStep, drained, pending_flag, none_of, All_by_member, same_cards, same_pairs, refined_pending, still_recorded, newly_recorded, recorded_cases, held_from_Holds, Holds_from_held, RaceShape, BeganInto, IsBegun, IsPair, HasBit, IsWholeShape, mark_word, front, started, shape_of, ended, target_of_word, refs_of, marks_of, table_of, AreRefined, MembersAreExact, is_marked, is_member, marked_cards, member_cards, AreAllRefined, IsExactAtPause, never_both, at_take, at_untake, take_same}
+use Rattle.g1_race.specs.{at_read, cases_lt, false, get_or, get_or-map, get_or_past, length-drop, length-map, ℕ, eqb, List, map, drop, Contains, refl, sym, ap, ◌∙◌, subst, inl, inr, ⊎_elim, arith, some, get_elem?, slot_count, nat_cmp, and_parts, not-true, true≢false, eqb-true, Option, length, eq-eqb, CardSet, set_of, Table, Holds, IsPending, IsRecorded, AreMembers, refined, IsStep, drained, pending_flag, none_of, All_by_member, same_cards, same_pairs, refined_pending, still_recorded, newly_recorded, recorded_cases, held_from_Holds, Holds_from_held, RaceShape, BeganInto, IsBegun, IsPair, HasBit, IsWholeShape, mark_word, front, started, shape_of, ended, target_of_word, refs_of, marks_of, table_of, AreRefined, AreMembersComplete, is_marked, is_member, marked_cards, member_cards, AreAllRefined, IsExactAtPause, never_both, at_take, at_untake, take_same}
 use Rattle.std.proofs.Math.Seq.{take-take}
 use Rattle.std.proofs.lemmas.List.{get_or-drop}
 use Rattle.g1_layout.specs.Shape as layout
@@ -11,8 +11,8 @@ use Rattle.g1_race.proofs.NextCards.{mark_is, marked_word}
 use Rattle.g1_race.proofs.Ends.{begun_covered, marked_pending, marks_here, recorded_set, set_recorded}
 use Rattle.g1_race.proofs.Draining.{began_holds, covered_held}
 
-pub members_exact : MembersAreExact
-members_exact t region cards clean cover m c h = m.all c (covered_held t c region clean cover h)
+pub members_complete : AreMembersComplete
+members_complete t region cards clean cover m c h = m.all c (covered_held t c region clean cover h)
 
 -- no more cards are members than were members or dirty
 pub members_room : (k : RaceShape) (old new : List ℕ) (region : ℕ) → AreRefined k old new k.cards → length (member_cards k new region) ≤ length (member_cards k old region) + length (marked_cards k old)
@@ -132,7 +132,7 @@ module _ (k : RaceShape) (l : layout.Shape) (laid : k ≡ shape_of l k.members) 
 -- what a drain answers
 pub exact_is : (old new : Table) (region : ℕ) (cards done : List ℕ) → AreAllRefined old done new → AreMembers new region cards → IsExactAtPause old region cards
 exact_is old new region cards done a m = record {
-  every = λ c h. members_exact new region cards (λ d p. absurd (true≢false (sym p ∙ (ap (λ (s : CardSet). fin.contains s d) a.clean ∙ fin.contains-empty nat_cmp d)))) a.covered m c
+  every = λ c h. members_complete new region cards (λ d p. absurd (true≢false (sym p ∙ (ap (λ (s : CardSet). fin.contains s d) a.clean ∙ fin.contains-empty nat_cmp d)))) a.covered m c
       (subst (λ (t : Table). Holds t c region) (sym a.table) (record { slot = h.slot; place = h.place; on_card = h.on_card; refers = h.refers; into = h.into; outside = h.outside }));
   only = λ c i. elim (recorded_cases done old c region (subst (λ (t : Table). IsRecorded t c region) a.table (m.recorded c i))) [
     | inl was ↦ inl was

@@ -1,5 +1,5 @@
 -- What the collector's calls at a pause do, each from one pause to the next.
-use Rattle.std.specs.Prelude.{◌≡◌, ◌≢◌, ◌≤◌}
+use Rattle.std.specs.Prelude.{◌≡◌, ◌≢◌, ◌<◌, ◌≤◌, ◌^◌}
 use Rattle.g1_race.specs.Prelude.{ℕ, Option, None, Kind, Null, length, region_of, card_count}
 use Rattle.g1_race.specs.Prelude.{target_of, IsStep, kind_of, stored, copied, IsStrictlyIncreasing}
 use Rattle.g1_race.specs.Prelude.{store_entry, unfilled, clear_entry, redirect_entry, drain_entry}
@@ -26,6 +26,7 @@ pub record StoresAt (old : Pause) (slot : ℕ) (target : Option ℕ) (kind : Kin
 
 -- data is stored into the slot, which is a store of null to the table
 pub record StoresDataAt (old : Pause) (slot word : ℕ) (new : Pause) : Type 0 where
+  pub high : 2 ^ 32 ≤ word
   pub race : IsSameRace old new
   pub words : SlotsBecome (one_word slot word) old new
   pub table : table_at new ≡ stored (table_at old) slot None
@@ -69,6 +70,7 @@ pub record Redirects (old : Pause) (from to slots : ℕ) (new : Pause) : Type 0 
 
 -- null is stored to each slot of the region
 pub record Wipes (old : Pause) (region : ℕ) (new : Pause) : Type 0 where
+  pub within : region < old.layout.regions
   pub race : IsSameRace old new
   pub words : SlotsBecome (wiped_word old.shape region) old new
   pub table : table_at new ≡ wiped region (table_at old)
@@ -77,6 +79,7 @@ pub record Wipes (old : Pause) (region : ℕ) (new : Pause) : Type 0 where
 
 -- the region's cards are removed from all remembered sets
 pub record Forgets (old : Pause) (region : ℕ) (new : Pause) : Type 0 where
+  pub within : region < old.layout.regions
   pub race : IsSameRace old new
   pub words : SlotsBecome same_word old new
   pub table : table_at new ≡ forgotten region (table_at old)

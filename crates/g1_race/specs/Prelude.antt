@@ -77,6 +77,7 @@ pub use Rattle.g1_core.specs.declared.entry.Entry.{Entry}
 pub use Rattle.g1_core.specs.declared.reply.ClearReply.TheVariants.{Cleared, Pending}
 pub use Rattle.g1_core.specs.declared.reply.ClearReply.TheVariants.{StillReferenced}
 pub use Rattle.g1_core.specs.declared.reply.Redirected.TheVariants.{Moved}
+pub use Rattle.g1_heap.specs.Cells.{reads_after}
 pub use Rattle.g1_layout.specs.Sets.{CardSet, pair_cmp, set_of}
 pub use Rattle.g1_layout.specs.Shape.{card_count, card_of, region_of, region_of_card, same_offset}
 pub use Rattle.g1_layout.specs.Shape.{slot_count}

@@ -54,7 +54,7 @@ AreUnflagged heap words = (c : ℕ) → c < heap.cards → HasBit heap words (fl
 
 -- where nothing is pending and each reference is covered, the members of a region are exact: every
 -- card that holds into it is one
-abbrev pub MembersAreExact : Type 0
-MembersAreExact =
+abbrev pub AreMembersComplete : Type 0
+AreMembersComplete =
     (t : Table) (region : ℕ) (cards : List ℕ) → ((card : ℕ) → IsPending t card → ⊥) → IsCovered t
     → AreMembers t region cards → (card : ℕ) → Holds t card region → Contains cards card

@@ -67,8 +67,8 @@ impl Closed {
         self.target_at(slot.number() as usize)
     }
 
-    /// Returns whether a card is dirty: stored to since it was last refined, or dirty from the
-    /// beginning. Reads one word.
+    /// Returns whether a card is dirty: dirtied by a store since it was last refined, or dirty from
+    /// the beginning and not refined since. Reads one word.
     #[tactic(auto, using(crate::proofs::of_a_flag))]
     pub fn marked(&self, card: Card) -> bool
         requires { card < card_count self.now.layout }

@@ -25,8 +25,8 @@
 //!   which reads words ([`RaceTable::see`]). They join it again before a word changes.
 //!
 //! So while mutators run, six kinds of step alone touch a slot's word or a mark: write, exchange,
-//! look, dirty, clean and read. Each of them is one atomic instruction, takes no memory and never
-//! waits.
+//! look, dirty, clean and read. Each of them is one atomic step, takes no memory and never waits
+//! for another thread.
 #![tactic(auto)]
 
 mod address;

@@ -1,5 +1,5 @@
 //! The steps of a racer.
-ghost use Rattle.std.specs.Prelude.{◌≡◌, ◌-◌, ◌<◌, ◌∷◌};
+ghost use Rattle.std.specs.Prelude.{◌≡◌, ◌-◌, ◌<◌, ◌≤◌, ◌∷◌};
 ghost use Rattle.g1_race_words.specs.Prelude.{ℕ, [], None};
 ghost use Rattle.g1_race_words.specs.Rule.{StoreHistory, IsWord, bit_index, flag};
 ghost use Rattle.g1_race_words.specs.Steps.{wrote, exchanged, looked, spotted, raised, owed_card};
@@ -37,10 +37,11 @@ impl Play<(), View> for Exchanges {
 pub(crate) struct Looks;
 
 impl Play<(), View> for Looks {
-    ghost use Rattle.std.specs.Prelude.{◌≡◌};
+    ghost use Rattle.std.specs.Prelude.{◌≡◌, ◌≤◌};
     ghost use Rattle.g1_race_words.specs.Steps.{looked};
 
-    ghost then = { λ step before found after. after ≡ (looked before.0 found, before.1) };
+    ghost then = { λ step before found after.
+        (after ≡ (looked before.0 found, before.1)) × (found ≤ 1) };
 }
 
 pub(crate) struct Spots;
@@ -64,11 +65,12 @@ impl Play<(), View> for Raises {
 pub(crate) struct Dirties;
 
 impl Play<(), View> for Dirties {
-    ghost use Rattle.std.specs.Prelude.{◌≡◌, ◌-◌};
+    ghost use Rattle.std.specs.Prelude.{◌≡◌, ◌-◌, ◌≤◌};
     ghost use Rattle.g1_race_words.specs.Steps.{dirtied};
 
     ghost then = { λ step before found after.
-        after ≡ (dirtied before.0 (step.word - before.0.shape.slots) found, before.1) };
+        (after ≡ (dirtied before.0 (step.word - before.0.shape.slots) found, before.1))
+        × (found ≤ 1) };
 }
 
 impl RaceTable {
@@ -116,6 +118,7 @@ impl RaceTable {
         requires mark { OwesMark self.now.shape seat.old.me.0 mark }
         ensures table { seat.new.table_id ≡ seat.old.table_id }
         ensures view { seat.new.me ≡ (looked seat.old.me.0 result, seat.old.me.1) }
+        ensures mark { result ≤ 1 }
     {
         self.table.shared.load::<Looks>(&mut seat.seat, mark)
     }
@@ -158,6 +161,7 @@ impl RaceTable {
         ensures table { seat.new.table_id ≡ seat.old.table_id }
         ensures view { seat.new.me
             ≡ (dirtied seat.old.me.0 (mark - seat.old.me.0.shape.slots) result, seat.old.me.1) }
+        ensures mark { result ≤ 1 }
     {
         self.table.shared.swap::<Dirties>(&mut seat.seat, mark, 1)
     }

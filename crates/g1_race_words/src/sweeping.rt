@@ -1,9 +1,9 @@
 //! The steps of a sweeper.
-ghost use Rattle.std.specs.Prelude.{◌≡◌, ◌-◌, ◌<◌};
+ghost use Rattle.std.specs.Prelude.{◌≡◌, ◌-◌, ◌<◌, ◌≤◌};
 ghost use Rattle.g1_race_words.specs.Prelude.{ℕ, []};
 ghost use Rattle.g1_race_words.specs.Rule.{IsWord, bit_index};
 ghost use Rattle.g1_race_words.specs.Steps.{cleaned, read, sought, recorded};
-ghost use Rattle.g1_race_words.specs.Seats.{Sits, IsMark, HoldsBit};
+ghost use Rattle.g1_race_words.specs.Seats.{Sits, IsFound, IsMark, HoldsBit};
 
 use crate::table::{RaceSeat, RaceTable};
 use crate::view::View;
@@ -12,11 +12,12 @@ use atomic_table::Play;
 pub(crate) struct Cleans;
 
 impl Play<(), View> for Cleans {
-    ghost use Rattle.std.specs.Prelude.{◌≡◌, ◌-◌};
+    ghost use Rattle.std.specs.Prelude.{◌≡◌, ◌-◌, ◌≤◌};
     ghost use Rattle.g1_race_words.specs.Steps.{cleaned};
 
     ghost then = { λ step before found after.
-        after ≡ (cleaned before.0 (step.word - before.0.shape.slots) found, before.1) };
+        (after ≡ (cleaned before.0 (step.word - before.0.shape.slots) found, before.1))
+        × (found ≤ 1) };
 }
 
 pub(crate) struct Reads;
@@ -25,9 +26,11 @@ impl Play<(), View> for Reads {
     ghost use Rattle.std.specs.Prelude.{◌≡◌};
     ghost use Rattle.g1_race_words.specs.Rule.{IsWord};
     ghost use Rattle.g1_race_words.specs.Steps.{read};
+    ghost use Rattle.g1_race_words.specs.Seats.{IsFound};
 
     ghost then = { λ step before found after.
-        (after ≡ (read before.0 step.word found, before.1)) × IsWord before.0.shape found };
+        (after ≡ (read before.0 step.word found, before.1)) × IsWord before.0.shape found
+        × IsFound before.0 step.word found };
 }
 
 pub(crate) struct Seeks;
@@ -59,6 +62,7 @@ impl RaceTable {
         ensures table { seat.new.table_id ≡ seat.old.table_id }
         ensures view { seat.new.me
             ≡ (cleaned seat.old.me.0 (mark - seat.old.me.0.shape.slots) result, seat.old.me.1) }
+        ensures mark { result ≤ 1 }
     {
         self.table.shared.swap::<Cleans>(&mut seat.seat, mark, 0)
     }
@@ -75,6 +79,7 @@ impl RaceTable {
         ensures table { seat.new.table_id ≡ seat.old.table_id }
         ensures view { seat.new.me ≡ (read seat.old.me.0 slot result, seat.old.me.1) }
         ensures word { IsWord self.now.shape result }
+        ensures found { IsFound seat.old.me.0 slot result }
     {
         self.table.shared.load::<Reads>(&mut seat.seat, slot)
     }

@@ -11,7 +11,7 @@ use crate::race::{Race, Racer, Sweeper};
 
 impl Race {
     /// Ends the race. All its racers and sweepers must be handed in. The words and the recorded
-    /// pairs stay, and of them holds what [`Race::pause`] says. It is such a pause and then
+    /// pairs stay, and what [`Race::pause`] says holds of them. It is such a pause and then
     /// [`Paused::close`]. Takes no memory. Logs that were not taken are dropped; the marks stay.
     pub fn close(self, racers: Vec<Racer>, sweepers: Vec<Sweeper>) -> Closed
         requires racers { (vec_len racers + vec_len sweepers ≡ (race_shape self).members)

@@ -1,8 +1,9 @@
 //! A core becomes a race at a pause: its table is placed into the words of a heap of nulls.
 ghost use Rattle.std.specs.Prelude.{◌≡◌, ◌+◌, ◌<◌, ◌≤◌};
-ghost use Rattle.g1_race.specs.{ℕ, [], IfOk, All, replicate, some, get_elem?, IsPairOf, In, IsPair};
+ghost use Rattle.g1_race.specs.{ℕ, [], IfOk, OnOk, OnErr, All, replicate, some, get_elem?};
+ghost use Rattle.g1_race.specs.{IsPairOf, In, IsPair, all_read};
 ghost use Rattle.g1_race.specs.{IsOfCrossing, mark_word, null_of, shape_of, table_at, start_at};
-ghost use Rattle.g1_race.specs.{Notes, AreCovered, AreMarked, ArePlaced, IsSame, HasWordsOf};
+ghost use Rattle.g1_race.specs.{Notes, AreCovered, AreMarked, ArePlaced, HasWordsOf};
 ghost use Rattle.g1_race.specs.{Writes, words_of, heap_of};
 ghost use Rattle.std.specs.FinSet as set;
 
@@ -20,7 +21,7 @@ impl Paused {
     ///
     /// Reads each slot of the core once. The core stays as it is, except for its count of reads.
     /// Takes the memory of [`Paused::open`] and, during the call, that of the list of pairs.
-    /// Returns `NoMemory` if memory was refused: nothing is left of the heap.
+    /// Returns `NoMemory` if memory was refused: nothing is left of the heap, and no slot was read.
     pub fn begin_from(
         alloc: Global,
         core: &mut Core,
@@ -36,7 +37,8 @@ impl Paused {
         ensures words { IfOk result (λ p. HasWordsOf core.old.state.table p.words) }
         ensures logs { IfOk result (λ p. p.logs ≡ replicate racers []) }
         ensures sweepers { IfOk result (λ p. p.sweepers ≡ sweepers) }
-        ensures same { IsSame core.old core.new }
+        ensures read { OnOk result (core.new ≡ all_read core.old) }
+        ensures err { OnErr result (core.new ≡ core.old) }
     {
         let pairs = core.pairs()?;
         let mut paused = Paused::open(alloc, core.layout(), racers, sweepers)?;
@@ -54,7 +56,7 @@ impl Paused {
         ensures table { table_at self.new ≡ core.old.state.table }
         ensures words { HasWordsOf core.old.state.table self.new.words }
         ensures rest { self.new ≡ record self.old { words = self.new.words } }
-        ensures same { IsSame core.old core.new }
+        ensures read { core.new ≡ all_read core.old }
     {
         let _layout = core.layout();
         let (race, reader) = (&self.race, &mut self.reader);
@@ -106,10 +108,11 @@ impl Writer<'_> {
         requires covered { AreCovered (heap_of self.old) core.old.state.table (words_of self.old) }
         ensures slots { Writes self.old self.new (λ heap old new.
             ArePlaced heap core.old.state.table old new heap.slots) }
-        ensures same { IsSame core.old core.new }
+        ensures read { core.new ≡ all_read core.old }
     {
         let race = self.race;
         self.reader.begun(race);
+        let _reads = core.reads();
         for number in 0..race.shape.slots {
             let Some(slot) = race.layout.slot(number as u32) else {
                 unreachable!()

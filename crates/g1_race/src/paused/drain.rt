@@ -41,9 +41,9 @@ impl<R: HoldsRace> Paused<R> {
         Ok(Drained::Cards { cards, refined })
     }
 
-    /// Refines every dirty card, in ascending order, and empties the racers' logs. The members of
-    /// each region are exact then: call it once, then `members` for each region of the collection
-    /// set. Takes no memory.
+    /// Refines every dirty card, in ascending order, and empties the racers' logs. Then every card
+    /// that holds into a region is a member of its set; a member may hold into it no more. Call it
+    /// once, then `members` for each region of the collection set. Takes no memory.
     pub fn refine_all(&mut self)
         ensures did { Refines self.old self.new }
         ensures bits { AreRefined self.old.shape self.old.words self.new.words

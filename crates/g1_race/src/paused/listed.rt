@@ -35,8 +35,9 @@ impl<R: HoldsRace> Paused<R> {
         self.reader.members(self.race.race(), alloc, region)
     }
 
-    /// Returns how many cards are dirty. Reads a word for each 64 cards of the heap, and the marks
-    /// of each eight cards of which one was dirtied since all were last refined at a pause.
+    /// Returns how many cards are dirty. Reads a word for each 64 cards of the heap, and for each
+    /// eight cards of which one was dirtied since all were last refined at a pause their marks and
+    /// one word more.
     #[tactic(auto, using(crate::proofs::of_a_pause))]
     pub fn pending_count(&mut self) -> u32
         ensures count { result ≡ set.len (table_at self.old).pending }
@@ -61,8 +62,10 @@ impl<R: HoldsRace> Paused<R> {
     }
 
     /// Returns the least dirty card from the number `from` on, or `None` if there is none. Reads a
-    /// word for each 64 cards up to it, and the marks of each eight of these of which one was
-    /// dirtied since all were last refined at a pause. Takes no memory.
+    /// word for each 64 cards up to it, and for each eight of these of which one was dirtied since
+    /// all were last refined at a pause their marks and one word more. If `from` is not the first
+    /// of its eight, the marks from there to the end of that eight are read in any case. Takes no
+    /// memory.
     ///
     /// To walk over all of them, ask again from the card's number plus 1, which may be past the
     /// last card.

@@ -1,7 +1,8 @@
 //! How a race goes on after a pause, or begins from a core.
 ghost use Rattle.std.specs.Prelude.{◌≡◌, ◌+◌, ◌-◌, ◌<◌, ◌≤◌};
-ghost use Rattle.g1_race.specs.{[], All, IfOk, IfErr, length, map, vec_len, beginning, start_of};
-ghost use Rattle.g1_race.specs.{whole_seat, shape_of, table_at, start_at, began, IsSame, race_id};
+ghost use Rattle.g1_race.specs.{[], All, IfOk, IfErr, OnOk, OnErr, length, map, vec_len, beginning, start_of};
+ghost use Rattle.g1_race.specs.{whole_seat, shape_of, table_at, start_at, began, all_read};
+ghost use Rattle.g1_race.specs.{race_id};
 ghost use Rattle.g1_race.specs.{race_layout, race_shape, race_words, racer_log, AreFreshRacers};
 ghost use Rattle.g1_race.specs.{AreFreshSweepers, HaveBegunWith, IsNewRacer, IsNewSweeper};
 ghost use Rattle.g1_race.specs.{racer_race, sweeper_race};
@@ -65,8 +66,7 @@ impl Race {
     /// and the refinement counts are dropped with the core.
     ///
     /// Reads each slot once. Takes the memory of [`Paused::open`] and, during the call, that of the
-    /// list of pairs. Returns `NoMemory` if memory was refused, with the core as it was, except for
-    /// its count of reads.
+    /// list of pairs. Returns `NoMemory` if memory was refused, with the core as it was.
     pub fn from_core(
         alloc: Global,
         mut core: Core,
@@ -85,7 +85,7 @@ impl Race {
             All (λ x. racer_race x ≡ race_id r.0) r.1.items) }
         ensures all_sweepers { IfOk result (λ r.
             All (λ x. sweeper_race x ≡ race_id r.0) r.2.items) }
-        ensures refused { IfErr result (λ e. IsSame core e.0) }
+        ensures refused { IfErr result (λ e. e.0 ≡ core) }
     {
         match Race::begin_from(alloc, &mut core, racers, sweepers) {
             Ok(members) => Ok(members),
@@ -94,7 +94,8 @@ impl Race {
     }
 
     /// Opens a race as [`Race::from_core`] does, and the core stays as it is, except for its count
-    /// of reads. Use it to keep the core until every later allocation has succeeded.
+    /// of reads, which does not change where memory is refused. Use it to keep the core until every
+    /// later allocation has succeeded.
     pub fn begin_from(
         alloc: Global,
         core: &mut Core,
@@ -113,7 +114,8 @@ impl Race {
             All (λ x. racer_race x ≡ race_id r.0) r.1.items) }
         ensures all_sweepers { IfOk result (λ r.
             All (λ x. sweeper_race x ≡ race_id r.0) r.2.items) }
-        ensures same { IsSame core.old core.new }
+        ensures read { OnOk result (core.new ≡ all_read core.old) }
+        ensures err { OnErr result (core.new ≡ core.old) }
     {
         let paused = Paused::begin_from(alloc, core, racers, sweepers)?;
         Ok(paused.resume())

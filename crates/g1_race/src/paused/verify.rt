@@ -16,8 +16,8 @@ impl<R: HoldsRace> Paused<R> {
     /// data refers to nothing.
     ///
     /// It is for the debug build of a runtime that keeps its references itself: the mistake that is
-    /// made most often is a store that was never reported. Takes time in proportion to the slots,
-    /// each of which is read, and no memory.
+    /// made most often is a store that was never reported. Reads the slots in order, up to the one
+    /// that it returns, and takes no memory.
     pub fn first_differing<M: Reference>(&mut self, first: Slot, memory: &[M]) -> Option<Slot>
         requires { first + length memory.now ≤ slot_count self.old.layout }
         ensures first { IsFirst (Differs (table_at self.old) first (map M.place memory.now)) first
@@ -41,8 +41,8 @@ impl<R: HoldsRace> Paused<R> {
     ///
     /// There is none if members alone have written to the heap's words. So it is for a debug build,
     /// which looks whether a runtime whose fields these words are has written to them itself
-    /// (HotSpot's `VerifyRememberedSets` looks for the same). Takes time in proportion to the
-    /// slots, each of which is read, and no memory.
+    /// (HotSpot's `VerifyRememberedSets` looks for the same). Reads the slots in order, up to the
+    /// one that it returns, and takes no memory.
     #[tactic(auto, using(crate::specs::below_more))]
     pub fn first_missing(&mut self, first: Slot, count: u32) -> Option<Slot>
         requires { first + count ≤ slot_count self.old.layout }

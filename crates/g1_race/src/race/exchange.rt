@@ -49,8 +49,8 @@ impl Racer {
     }
 
     /// Stores as [`Racer::store`] does if the slot has what is expected; one atomic step compares
-    /// and writes. Otherwise nothing changes, and the error is what the slot refers to: `None`
-    /// where it has data, which is not the null that may have been expected.
+    /// and writes. Otherwise nothing changes, and the error is what the slot refers to. That is
+    /// `None` also where it has data, even if null was expected.
     ///
     /// Takes no memory and never waits. The racer, the slot and both places must be of this race,
     /// and the log must have room.

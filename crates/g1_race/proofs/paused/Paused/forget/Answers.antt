@@ -18,6 +18,7 @@ returns g c =
     let race = c.race-race.result.now in
     let new = (words_of c.forget_cards.new.self) in
     record {
+      within = c.requires.region;
       race = search rules;
       words = grind (arith, front_words, lent_view);
       table = sym (held_table new c.race-race.ensures) ∙ (forgotten_is race.shape race.layout race.laid race.shaped c.number.result (lent_region c.race-race.ensures c.self.view_is c.number.ensures c.requires.region) c.self.inside.reader.start.words new

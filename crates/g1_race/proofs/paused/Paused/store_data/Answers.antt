@@ -32,6 +32,7 @@ returns g c =
     let words = c.self.inside.reader.start.words in
     let table = sym (held_table (words_of c.put.new.self) c.race-race.ensures) ∙ (both g c).1 in
     record {
+      high = c.requires.high;
       race = search rules;
       words = subst (λ (h : Pause). WordsBecome (one_word c.args.slot c.args.word) h.shape h.words (words_of c.put.new.self)) (lent_view c.race-race.ensures c.self.view_is)
           (put_words k words c.args.slot c.args.word _ (c.put.ensures.words ∙ (λ i. set words (c.number.ensures i) c.args.word)));

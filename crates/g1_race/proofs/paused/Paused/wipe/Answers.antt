@@ -12,6 +12,7 @@ returns g c =
     let low : c.number.result < k.regions = lent_region c.race-race.ensures c.self.view_is c.number.ensures c.requires in
     let span : k.span ≡ c.args.self.now.layout.cards * c.args.self.now.layout.slots = ap (λ (s : RaceShape). s.span) race.laid ∙ ap (λ (h : Pause). h.layout.cards * h.layout.slots) (lent_view c.race-race.ensures c.self.view_is) in
     record {
+      within = c.requires;
       race = search rules;
       words = grind (arith, wiped_words, lent_view);
       table = search rules;

@@ -1,6 +1,6 @@
 -- The slots before the one that is looked at refer to what they refer to in the core.
 use Rattle.std.specs.Prelude.{◌≡◌, ◌+◌, ◌≤◌}
-use Rattle.g1_race.specs.{inl, ℕ, List, sym, ap, ◌∙◌, subst, arith, slot_count, State, Machine, IsSound, target_of, RaceShape, word_of, ArePlaced, IsSame, words_of, Writes}
+use Rattle.g1_race.specs.{inl, ℕ, List, sym, ap, ◌∙◌, subst, arith, slot_count, State, Machine, IsSound, reads_after, target_of, RaceShape, word_of, ArePlaced, words_of, Writes}
 use Rattle.g1_race.proofs.{begun_placed, begun_on, writes_next}
 use Rattle.g1_race.proofs.Placing.{placed_next, placed_past, covered_on}
 use Rattle.g1_race.proofs.CopiedTable.{word_bound}
@@ -10,7 +10,7 @@ use Rattle.g1_race.proofs.paused.Writer.place_slots.Goals as goal
 
 -- the word is that of the slot's reference
 word : (c : After-word_of-word) → c.word_of-word.result ≡ word_of (target_of c.args.core.now.state.table c.loop-number.number)
-word c = c.word_of-word.ensures ∙ ap word_of (c.target.ensures.did.told.refers ∙ ((λ j. let q : State = c.loop-number.invariant.same.state j in target_of q.table c.in-Some.slot) ∙ ap (λ (p : ℕ). target_of c.args.core.now.state.table p) c.in-Some.ensures.1))
+word c = c.word_of-word.ensures ∙ ap word_of (c.target.ensures.did.told.refers ∙ ((λ j. let q : State = c.loop-number.invariant.state j in target_of q.table c.in-Some.slot) ∙ ap (λ (p : ℕ). target_of c.args.core.now.state.table p) c.in-Some.ensures.1))
 
 pub put-requires-clause-begun : goal.put-requires-clause-begun
 put-requires-clause-begun c =
@@ -21,7 +21,7 @@ put-requires-clause-begun c =
     let n = c.loop-number.number in
     let lt = c.loop-number-test.true in
     let is = word ((goal.at.put-requires-clause-begun c).After-word_of-word) in
-    let sound : IsSound s = subst IsSound (ap (λ (m : Machine). m.state) c.target.ensures.did.machine ∙ i.same.state) c.target.ensures.later.sound in
+    let sound : IsSound s = subst IsSound (ap (λ (m : Machine). m.state) c.target.ensures.did.machine ∙ i.state) c.target.ensures.later.sound in
     let slots : k.slots ≡ slot_count s.table.layout = ap (λ (x : RaceShape). x.slots) race.laid ∙ ap slot_count c.requires.layout in
     let bound : word_of (target_of s.table n) ≤ slot_count s.table.layout = word_bound s n sound (omega (arith, lt, slots)) in
     begun_on i.slots.race (begun_placed k (words_of c.loop-number.self) n c.word_of-word.result lt (inl (omega (arith, is, bound, slots)))
@@ -36,17 +36,24 @@ loop-number-preserved c =
     let old = words_of c.args.self.now in let mid = words_of c.loop-number.self in
     let n = c.loop-number.number in
     let is = word ((goal.at.loop-number-preserved c).After-word_of-word) in
-    let same : IsSame c.args.core.now c.target.new.self = record { state = ap (λ (m : Machine). m.state) c.target.ensures.did.machine ∙ i.same.state; settings = ap (λ (m : Machine). m.settings) c.target.ensures.did.machine ∙ i.same.settings } in
-    let done = λ (s : Writer). record { below : n + 1 ≤ k.slots; slots : Writes c.args.self.now s (λ heap old new. ArePlaced heap t old new (n + 1)); same : IsSame c.args.core.now c.target.new.self } in
+    let m = c.args.core.now in
+    let state : c.target.new.self.state ≡ m.state = ap (λ (m : Machine). m.state) c.target.ensures.did.machine ∙ i.state in
+    let settings : c.target.new.self.settings ≡ m.settings = ap (λ (m : Machine). m.settings) c.target.ensures.did.machine ∙ i.settings in
+    let reads : c.target.new.self.reads ≡ reads_after m.reads (n + 1) = ap (λ (m : Machine). m.reads) c.target.ensures.did.machine ∙ (ap (λ (r : ℕ). reads_after r 1) i.reads ∙ (let e : reads_after (reads_after m.reads n) 1 ≡ reads_after m.reads (n + 1) = omega arith in e)) in
+    let done = λ (s : Writer). record { below : n + 1 ≤ k.slots; slots : Writes c.args.self.now s (λ heap old new. ArePlaced heap t old new (n + 1)); state : c.target.new.self.state ≡ m.state; settings : c.target.new.self.settings ≡ m.settings; reads : c.target.new.self.reads ≡ reads_after m.reads (n + 1) } in
     elim c.if-word-ne0.branch [
       | then-word-ne0 w ↦ subst done (sym w.self-is) (record {
         below = omega (arith, c.loop-number-test.true);
         slots = writes_next i.slots.race i.slots.reader w.put.ensures (λ put. subst (λ (l : List ℕ). ArePlaced k t old l (n + 1)) (sym put) (placed_next k t old mid n c.word_of-word.result c.loop-number-test.true (omega (arith, i.slots.begun.sized)) is i.slots.words));
-        same = same;
+        state = state;
+        settings = settings;
+        reads = reads;
       })
       | else-word-ne0 w ↦ subst done (sym w.self-is) (record {
         below = omega (arith, c.loop-number-test.true);
         slots = record { race = i.slots.race; reader = i.slots.reader; begun = i.slots.begun; words = placed_past k t old mid n c.word_of-word.result c.loop-number-test.true (c.requires.null n c.loop-number-test.true) is w.if-word-ne0.false i.slots.words };
-        same = same;
+        state = state;
+        settings = settings;
+        reads = reads;
       })
     ]

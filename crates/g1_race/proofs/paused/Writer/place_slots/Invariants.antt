@@ -1,10 +1,12 @@
-use Rattle.std.specs.Prelude.{◌≤◌}
-use Rattle.g1_race.specs.{ArePlaced, IsSame, Writes, heap_of}
+use Rattle.std.specs.Prelude.{◌≡◌, ◌≤◌}
+use Rattle.g1_race.specs.{reads_after, ArePlaced, Writes, heap_of}
 use Rattle.g1_race.proofs.paused.Writer.place_slots.Given as goal
 
 abbrev pub invariant-loop-number : goal.invariant-loop-number
 invariant-loop-number l = record {
   below : l.number ≤ (heap_of l.fn.self).slots;
   slots : Writes l.fn.self l.self (λ heap old new. ArePlaced heap l.fn.core.state.table old new l.number);
-  same : IsSame l.fn.core l.core;
+  state : l.core.state ≡ l.fn.core.state;
+  settings : l.core.settings ≡ l.fn.core.settings;
+  reads : l.core.reads ≡ reads_after l.fn.core.reads l.number;
 }
