@@ -1,6 +1,6 @@
 -- The barrier.
 use Rattle.std.specs.Prelude.{◌≡◌, ◌≢◌, ◌<◌, ◌≤◌, ◌+◌, ◌↔◌}
-use Rattle.g1_core.specs.{DoesStore, unfilled, ◌∙◌, inl, inr, ℕ, Bool, false, cond, List, [], length, get_or, Option, Some, None, refl, sym, ap, subst, arith, IfSome, IsDistinct, cases_eq, true≢false, false_from_ne_true, length-set, All-set, Shape, slot_count, card_count, card_of, CardSet, PairSet, card_count_limit, Kind, SameRegion, AlreadyDirty, Logged, Mark, Clean, Dirty, Held, Cells, AreCells, with_ref, with_mark, Pairs, Ring, IsCovered, AreRefinable, refined, State, IsCore, AreParts, pending_of, table_from, state_from, machine_from, Store, IsStep, IsCallOf, kind_of, stored, pending_after, StoreReply, store_entry, stored_machine, Contains, list_set}
+use Rattle.g1_core.specs.{DoesStore, unfilled, ◌∙◌, inl, inr, ℕ, Bool, false, cond, List, [], length, get_or, Option, Some, None, refl, sym, ap, subst, arith, IfSome, IsDistinct, cases_eq, true≢false, false_from_ne_true, length-set, All-set, Shape, slot_count, card_count, card_of, CardSet, PairSet, card_count_limit, Kind, SameRegion, AlreadyDirty, Logged, Mark, Clean, Dirty, Held, Cells, AreCells, with_ref, with_mark, Pairs, Ring, IsCovered, AreRefinable, refined, State, IsCore, AreParts, pending_of, table_from, state_from, machine_from, Store, IsStep, IsCallOf, kind_of, stored, pending_after, logged_card, StoreReply, store_entry, stored_machine, Contains, list_set}
 use Rattle.g1_core.specs.Machine.{Machine, Settings, Table}
 use Rattle.std.specs.FinSet as set
 use Rattle.g1_core.proofs.TableLemmas.{stored_covered}
@@ -13,6 +13,13 @@ clean_mark marks card e = false_from_ne_true _ (λ h. from_pending marks card h 
 
 pending_plain : (kind : Kind) (pending : CardSet) (card : ℕ) → kind ≢ Logged → pending_after kind pending card ≡ pending
 pending_plain kind pending card ne = grind arith
+
+-- what a store returns that is logged, and what another one does
+pub logged_some : (kind : Kind) (card on : ℕ) → Some card ≡ logged_card kind on → (kind ≡ Logged) × (card ≡ on)
+logged_some kind card on e = grind arith
+
+pub logged_none : (kind : Kind) (on : ℕ) → None ≡ logged_card kind on → kind ≢ Logged
+logged_none kind on e = grind arith
 
 logged_if : (a b : Bool) → cond a SameRegion (cond b AlreadyDirty Logged) ≡ Logged → b ≡ false
 logged_if a b e = grind arith

@@ -7,6 +7,13 @@ use Rattle.g1_core.specs.declared.reply.StoreReply.{StoreReply}
 use Rattle.g1_core.specs.Machine.{Machine}
 use Rattle.g1_core.specs.Run.{stored}
 
+-- the card of a store of this kind, where it is logged
+abbrev pub logged_card : Kind → ℕ → Option ℕ
+logged_card Logged card = Some card
+logged_card Null card = None
+logged_card SameRegion card = None
+logged_card AlreadyDirty card = None
+
 -- A logged store pushes its card; every other store leaves the log alone.
 abbrev pub logged : Kind → Cards → ℕ → Cards
 logged Logged log card = pushed log card

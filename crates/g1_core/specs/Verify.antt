@@ -11,6 +11,11 @@ IsFirst Q first count None = (slot : ℕ) → first ≤ slot → slot < first + 
 IsFirst Q first count (Some found) = (first ≤ found) × (found < first + count) × Q found
     × ((slot : ℕ) → first ≤ slot → slot < found → Q slot → ⊥)
 
+-- how many slots are read for it
+abbrev pub looked_for : ℕ → ℕ → Option ℕ → ℕ
+looked_for first count None = count
+looked_for first count (Some found) = found + 1 - first
+
 -- The slot refers to something else than memory does, which refers to these places from the first
 -- slot on.
 abbrev pub Differs : Table → ℕ → List (Option ℕ) → ℕ → Type 0

@@ -1,7 +1,7 @@
 //! The write barrier: what a reference store does to the card table and to its mutator's log.
-ghost use Rattle.std.specs.Prelude.{◌≡◌, ◌≢◌, ◌<◌};
+ghost use Rattle.std.specs.Prelude.{◌≡◌, ◌<◌};
 ghost use Rattle.g1_core.specs.{ℕ, [], false, IfSome, IsNone, slot_count};
-ghost use Rattle.g1_core.specs.{card_count, card_of, pushed, handed, fill_of};
+ghost use Rattle.g1_core.specs.{card_count, card_of, pushed, handed, fill_of, logged_card};
 
 use crate::list::CardList;
 use crate::machinery::Core;
@@ -22,9 +22,8 @@ impl Core {
         requires target { IfSome target.now (λ place.
             place < slot_count self.now.state.table.layout) }
         ensures kind { result.0 ≡ kind_of self.now.state.table slot target.now }
-        ensures some { IfSome result.1 (λ card.
-            (result.0 ≡ Kind.Logged) × (card ≡ card_of self.now.state.table.layout slot)) }
-        ensures none { IsNone result.1 → result.0 ≢ Kind.Logged }
+        ensures dirtied { result.1
+            ≡ logged_card result.0 (card_of self.now.state.table.layout slot) }
         ensures within { IfSome result.1 (λ card. card < card_count self.now.state.table.layout) }
     {
         let Some(place) = *target else {
@@ -81,7 +80,7 @@ impl Core {
     }
 
     /// Makes the same store as `store`, and puts a completed buffer into the place that the caller
-    /// lends for it, in place of returning it (docs/rules.md, The barrier).
+    /// lends for it, instead of returning it (docs/rules.md, The barrier).
     ///
     /// The place is empty before the call, so no buffer is lost. After it, `completed` has the
     /// buffer if `fill` is `Full`, and is empty otherwise. A store that fills no log moves no
@@ -124,9 +123,8 @@ impl Core {
         requires slot { slot < slot_count self.old.state.table.layout }
         requires target { IfSome target (λ place. place < slot_count self.old.state.table.layout) }
         ensures did { DoesStore slot target (unfilled result.0) self.old self.new }
-        ensures some { IfSome result.1 (λ card.
-            (result.0 ≡ Kind.Logged) × (card ≡ card_of self.old.state.table.layout slot)) }
-        ensures none { IsNone result.1 → result.0 ≢ Kind.Logged }
+        ensures dirtied { result.1
+            ≡ logged_card result.0 (card_of self.old.state.table.layout slot) }
         ensures step { (caller : ℕ)
             → IsStep self.old.state.table (store_entry caller slot target (unfilled result.0))
             self.new.state.table }

@@ -44,9 +44,12 @@ impl Core {
     /// and the ring is empty.
     ///
     /// Takes memory for the slots (4 bytes each), the marks and counts (a byte a card each), the
-    /// rows of the recorded regions (32 bytes a card) and the ring. Later only the remembered sets
-    /// and the returned lists grow. Returns `NoMemory` if a growth was refused. What was taken is
-    /// then given back.
+    /// rows of the recorded regions (32 bytes a card) and the ring. Returns `NoMemory` if a growth
+    /// was refused. What was taken is then given back.
+    ///
+    /// Later only the remembered sets and the returned lists grow. While it runs, a redirect also
+    /// takes memory for lists of what it changes, and a call that lists a large set in a heap of
+    /// more than 65,536 cards takes a bit for each card.
     pub fn new(alloc: Global, layout: Layout, config: Config) -> Result<Core, NoMemory>
         ensures { IfOk result (λ core. core ≡ new_machine layout config) }
     {

@@ -33,7 +33,8 @@ impl Core {
 
     /// How many slots were read since the core was made, at most the greatest `u64`. Constant time.
     ///
-    /// Refinement, drains, clears, redirects and `target` read slots. The count is never reset.
+    /// Refinement, drains, clears, redirects, copies, the two checks (`first_differing`,
+    /// `first_missing`) and `target` read slots. The count is never reset.
     pub fn reads(&self) -> u64
         ensures value { result ≡ self.now.reads }
         ensures bound { self.now.reads < 2 ^ 64 }
@@ -67,7 +68,8 @@ impl Core {
     /// Cards that are pending may be missing from it. (`drain` returns the set once nothing is
     /// pending.)
     ///
-    /// Returns `NoMemory` if the room for the list was refused.
+    /// Returns `NoMemory` if the room for the list was refused, or, for a large set in a heap of
+    /// more than 65,536 cards, the room for a bit for each card.
     pub fn members(&self, region: Region) -> Result<CardList, NoMemory>
         requires { region < self.now.state.table.layout.regions }
         ensures did { IfOk result (λ cards. DoesMembers region cards self.now self.now) }

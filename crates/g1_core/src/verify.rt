@@ -1,7 +1,7 @@
 //! Checks for a debug build: of the table against what a runtime's memory has, and of the cards.
 ghost use Rattle.std.specs.Prelude.{◌≡◌, ◌+◌, ◌<◌, ◌≤◌, ◌↔◌};
 ghost use Rattle.g1_core.specs.Prelude.{IsTrue, IfSome, length, map};
-ghost use Rattle.g1_core.specs.Prelude.{slot_count};
+ghost use Rattle.g1_core.specs.Prelude.{slot_count, reads_after};
 ghost use Rattle.std.specs.FinSet as set;
 
 use crate::machinery::Core;
@@ -43,13 +43,14 @@ impl Reference for u32 {
 }
 
 impl Core {
-    ghost use Rattle.g1_core.specs.{IsOnlyRead, IsFirst, IsMissing, Differs};
+    ghost use Rattle.g1_core.specs.{IsOnlyRead, IsFirst, IsMissing, Differs, looked_for};
 
     /// Returns the least slot that refers to something else than a runtime's memory does, or `None`
     /// if there is none. `memory` is what that has in as many slots from `first` on.
     ///
     /// It is for a runtime's debug build: the mistake that is made most often is a store that was
-    /// never reported. Takes time in proportion to the slots, each of which is read, and no memory.
+    /// never reported. Reads the slots in order, up to the one that it returns, and takes no
+    /// memory.
     #[tactic(auto, using(crate::proofs::of_a_slot))]
     pub fn first_differing<M: Reference>(&mut self, first: Slot, memory: &[M]) -> Option<Slot>
         requires { first + length memory.now ≤ slot_count self.old.state.table.layout }
@@ -57,8 +58,11 @@ impl Core {
             first (length memory.now) result }
         ensures within { IfSome result (λ slot. slot < slot_count self.old.state.table.layout) }
         ensures read { IsOnlyRead self.old self.new }
+        ensures reads { self.new.reads
+            ≡ reads_after self.old.reads (looked_for first (length memory.now) result) }
     {
         let layout = self.layout();
+        let _reads = self.reads();
         for i in 0..memory.len() {
             let slot = slot_behind(layout, first, i as u32);
             if !memory[i].refers_to(self.target(slot)) {
@@ -74,15 +78,18 @@ impl Core {
     ///
     /// No core has one: the clause `later` of each call that changes a core says so (`cover` of
     /// `IsSound`). So it is for a debug build that looks whether something else wrote to the core's
-    /// memory (HotSpot's `VerifyRememberedSets` looks for the same). Takes no memory, and time in
-    /// proportion to the slots, each of which is read.
+    /// memory (HotSpot's `VerifyRememberedSets` looks for the same). Reads the slots in order, up
+    /// to the one that it returns, and takes no memory.
     pub fn first_missing(&mut self, first: Slot, count: u32) -> Option<Slot>
         requires { first + count ≤ slot_count self.old.state.table.layout }
         ensures first { IsFirst (IsMissing self.old.state.table) first count result }
         ensures within { IfSome result (λ slot. slot < slot_count self.old.state.table.layout) }
         ensures read { IsOnlyRead self.old self.new }
+        ensures reads { self.new.reads
+            ≡ reads_after self.old.reads (looked_for first count result) }
     {
         let layout = self.layout();
+        let _reads = self.reads();
         for i in 0..count {
             let slot = slot_behind(layout, first, i);
             if self.is_missing(slot) {
@@ -97,6 +104,7 @@ impl Core {
         requires { slot < slot_count self.old.state.table.layout }
         ensures missing { IsTrue result ↔ IsMissing self.old.state.table slot }
         ensures read { IsOnlyRead self.old self.new }
+        ensures reads { self.new.reads ≡ reads_after self.old.reads 1 }
     {
         let Some(place) = self.target(slot) else {
             return false;

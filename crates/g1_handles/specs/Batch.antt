@@ -1,8 +1,8 @@
 -- Several stores one after the other.
 use Rattle.std.specs.Prelude.{◌<◌, ◌∷◌, ◌++◌}
 use Rattle.g1_handles.specs.Prelude.{ℕ, List, [], length, slice_index_or, Option}
-use Rattle.g1_handles.specs.Prelude.{Some, None, fold, Kind, Null, SameRegion, AlreadyDirty, Logged}
-use Rattle.g1_handles.specs.Prelude.{card_of, Machine, kind_of, stored_machine}
+use Rattle.g1_handles.specs.Prelude.{Some, None, fold, card_of, Machine, kind_of, logged_card}
+use Rattle.g1_handles.specs.Prelude.{stored_machine}
 use Rattle.g1_layout.specs.Shape as layout
 use Rattle.g1_handles.specs.declared.one_core.batch.Store.{Store}
 use Rattle.g1_handles.specs.Codes.{reference_of, IsStoreOf}
@@ -11,13 +11,6 @@ use Rattle.g1_handles.specs.Codes.{reference_of, IsStoreOf}
 pub record AfterStores : Type 0 where
   pub machine : Machine
   pub cards : List ℕ
-
--- the card of a store of this kind, where it is logged
-abbrev pub logged_card : Kind → ℕ → Option ℕ
-logged_card Logged card = Some card
-logged_card Null card = None
-logged_card SameRegion card = None
-logged_card AlreadyDirty card = None
 
 abbrev pub cards_of : List ℕ → Option ℕ → List ℕ
 cards_of cards None = cards

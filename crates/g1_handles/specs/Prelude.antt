@@ -39,7 +39,7 @@ pub use prog.Wp.{Calls, Loops, WpFn}
 pub use seplogic.Ra.Ura.{Ura}
 pub use Rattle.arrayvec.specs.ArrayVec.{array_vec_len}
 pub use Rattle.atomic_table.specs.Seated.{TableId}
-pub use Rattle.g1_core.specs.Barrier.{stored_machine, unfilled}
+pub use Rattle.g1_core.specs.Barrier.{logged_card, stored_machine, unfilled}
 pub use Rattle.g1_core.specs.Calls.{clear_entry, DoesClear, DoesCopy, DoesDrain, DoesRefine}
 pub use Rattle.g1_core.specs.Calls.{DoesStore, DoesTarget, drain_cards, drain_entry, drain_refined}
 pub use Rattle.g1_core.specs.Calls.{redirect_entry, redirect_refined, refine_entry, store_entry}
