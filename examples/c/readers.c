@@ -1,8 +1,8 @@
 // Several threads read one pause at once: `readers [ROUNDS]`.
 //
-// In each round mutators' stores race, and the heap pauses. Then as many threads as it may have
-// readers read the whole pause at once, each by a reader of its own, beside a table of the program's.
-// Before and after that the heap itself answers the same.
+// In each round racers store, all in one thread, and the heap pauses. Then one thread or several,
+// at most as many as the heap may have readers, read the whole pause at once, each by a reader of
+// its own, beside a table of the program's. Before and after that the heap answers the same.
 #define _POSIX_C_SOURCE 200809L
 #include "g1.h"
 
@@ -154,7 +154,7 @@ static void *read_pause(void *data) {
     return NULL;
 }
 
-// As many threads read the pause at once.
+// This many threads read the pause at once.
 static void read_at_once(struct heap *heap, uint32_t count) {
     struct g1_reader readers[READERS];
     struct thread threads[READERS];

@@ -94,7 +94,7 @@ static void *refine_buffers(void *unused) {
     return NULL;
 }
 
-// How many cards refer into the region from outside and were not listed.
+// How many slots outside the region refer into it from cards that were not listed.
 static unsigned missed_in(uint32_t region, const uint32_t *cards, uint32_t count) {
     static unsigned char is_member[ALL_CARDS];
     unsigned missed = 0;
