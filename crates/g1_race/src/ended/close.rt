@@ -1,8 +1,7 @@
 //! How a race ends, and what holds then.
-ghost use Rattle.std.specs.Prelude.{◌≡◌, ◌+◌, ◌↔◌};
-ghost use Rattle.g1_race.specs.{IsCovered, IsPairOf, ℕ, All, Contains, map, vec_len, ended_of};
-ghost use Rattle.g1_race.specs.{table_of, IsOver, IsKnown, race_id, race_layout, race_shape};
-ghost use Rattle.g1_race.specs.{race_begun, racer_race, sweeper_race, racer_view, sweeper_view};
+ghost use Rattle.std.specs.Prelude.{◌≡◌, ◌+◌};
+ghost use Rattle.g1_race.specs.{All, map, vec_len, ended_of, race_id, race_shape, racer_race};
+ghost use Rattle.g1_race.specs.{sweeper_race, racer_view, sweeper_view, HasEnded};
 
 use crate::ended::Closed;
 use crate::paused::Paused;
@@ -17,15 +16,8 @@ impl Race {
         requires racers { (vec_len racers + vec_len sweepers ≡ (race_shape self).members)
             × All (λ r. racer_race r ≡ race_id self) racers.items }
         requires sweepers { All (λ w. sweeper_race w ≡ race_id self) sweepers.items }
-        ensures layout { result.layout ≡ race_layout self }
-        ensures within { (x : ℕ × ℕ) → Contains result.pairs x → IsPairOf (race_layout self) x }
-        ensures cover { IsCovered (table_of result) }
-        ensures pairs { let rs = map racer_view racers.items in
-            let ws = map sweeper_view sweepers.items in
-            (x : ℕ × ℕ) → Contains result.pairs x ↔ IsKnown (race_begun self rs ws) ws x }
-        ensures over { let rs = map racer_view racers.items in
-            let ws = map sweeper_view sweepers.items in
-            IsOver (race_begun self rs ws) result.words rs ws }
+        ensures { HasEnded self (map racer_view racers.items) (map sweeper_view sweepers.items)
+            result }
     {
         self.pause(racers, sweepers).close()
     }

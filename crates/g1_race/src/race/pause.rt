@@ -1,9 +1,8 @@
 //! How a race comes to a pause, and what holds then.
-ghost use Rattle.std.specs.Prelude.{◌≡◌, ◌+◌, ◌<◌, ◌↔◌};
-ghost use Rattle.g1_race.specs.{IsCovered, IsPairOf, ℕ, All, Contains, map, vec_len, table_at};
-ghost use Rattle.g1_race.specs.{ended_of, IsOver, IsKnown, collected, race_id, race_layout};
-ghost use Rattle.g1_race.specs.{race_shape, race_words, race_begun, racer_race, sweeper_race};
-ghost use Rattle.g1_race.specs.{racer_view, sweeper_view, racer_log, RacerOf, SweeperOf};
+ghost use Rattle.std.specs.Prelude.{◌≡◌, ◌+◌, ◌<◌};
+ghost use Rattle.g1_race.specs.{All, map, vec_len, collected, race_id, race_shape, racer_race};
+ghost use Rattle.g1_race.specs.{sweeper_race, racer_view, sweeper_view, racer_log, RacerOf};
+ghost use Rattle.g1_race.specs.{SweeperOf, IsPauseOf};
 
 use crate::paused::Paused;
 use crate::paused::holds::HoldsRace;
@@ -35,22 +34,8 @@ impl Race {
         requires racers { (vec_len racers + vec_len sweepers ≡ (race_shape self).members)
             × All (λ r. racer_race r ≡ race_id self) racers.items }
         requires sweepers { All (λ w. sweeper_race w ≡ race_id self) sweepers.items }
-        ensures layout { result.layout ≡ race_layout self }
-        ensures shape { result.shape ≡ race_shape self }
-        ensures words { result.address ≡ race_words self }
-        ensures table { result.table_id ≡ (race_id self).0 }
-        ensures within { (x : ℕ × ℕ) → Contains (ended_of result).pairs x →
-            IsPairOf (race_layout self) x }
-        ensures cover { IsCovered (table_at result) }
-        ensures pairs { let rs = map racer_view racers.items in
-            let ws = map sweeper_view sweepers.items in
-            (x : ℕ × ℕ) →
-            Contains (ended_of result).pairs x ↔ IsKnown (race_begun self rs ws) ws x }
-        ensures over { let rs = map racer_view racers.items in
-            let ws = map sweeper_view sweepers.items in
-            IsOver (race_begun self rs ws) (ended_of result).words rs ws }
-        ensures logs { result.logs ≡ map racer_log racers.items }
-        ensures sweepers { result.sweepers ≡ vec_len sweepers }
+        ensures { IsPauseOf self (map racer_view racers.items) (map sweeper_view sweepers.items)
+            (map racer_log racers.items) result }
     {
         Paused::of(self, racers, sweepers)
     }
@@ -65,22 +50,8 @@ impl<R: HoldsRace> Paused<R> {
         requires racers { (vec_len racers + vec_len sweepers ≡ (race_shape (R.held race)).members)
             × All (λ r. racer_race r ≡ race_id (R.held race)) racers.items }
         requires sweepers { All (λ w. sweeper_race w ≡ race_id (R.held race)) sweepers.items }
-        ensures layout { result.layout ≡ race_layout (R.held race) }
-        ensures shape { result.shape ≡ race_shape (R.held race) }
-        ensures words { result.address ≡ race_words (R.held race) }
-        ensures table { result.table_id ≡ (race_id (R.held race)).0 }
-        ensures within { (x : ℕ × ℕ) → Contains (ended_of result).pairs x →
-            IsPairOf (race_layout (R.held race)) x }
-        ensures cover { IsCovered (table_at result) }
-        ensures pairs { let rs = map racer_view racers.items in
-            let ws = map sweeper_view sweepers.items in
-            (x : ℕ × ℕ) →
-            Contains (ended_of result).pairs x ↔ IsKnown (race_begun (R.held race) rs ws) ws x }
-        ensures over { let rs = map racer_view racers.items in
-            let ws = map sweeper_view sweepers.items in
-            IsOver (race_begun (R.held race) rs ws) (ended_of result).words rs ws }
-        ensures logs { result.logs ≡ map racer_log racers.items }
-        ensures sweepers { result.sweepers ≡ vec_len sweepers }
+        ensures { IsPauseOf (R.held race) (map racer_view racers.items)
+            (map sweeper_view sweepers.items) (map racer_log racers.items) result }
     {
         let table = &race.race().table;
         let mut seat = table.enter();

@@ -1,6 +1,6 @@
 use Rattle.std.proofs.Common.{rules}
 use Rattle.std.specs.Prelude.{◌≡◌, ◌+◌}
-use Rattle.g1_race.specs.{length, [], map, sym, ap, ◌∙◌, arith, RaceShape, IsBegun, IsPaused, started, null_of, frozen_seat, blank, collected, racer_view, sweeper_view}
+use Rattle.g1_race.specs.{length, length-map, refl, [], map, sym, ap, ◌∙◌, arith, RaceShape, IsBegun, IsPaused, started, null_of, frozen_seat, blank, collected, racer_view, sweeper_view}
 use Rattle.g1_race.specs.declared.race.Race.{Race}
 use Rattle.g1_race.proofs.{begun_covered, pair_listed}
 use Rattle.g1_race.proofs.Pausing.{all_joined, at_rest, weight_is, is_paused, is_pause_reader, is_reader, is_over, same_pairs}
@@ -52,20 +52,22 @@ invariant_of-result-2 g c = (is_pause_reader (g.R.HoldsRace.held c.args.race) c.
 begun_is : (g : _) (c : goal.After-freeze g) → IsBegun (started (g.R.HoldsRace.held c.args.race).shape c.freeze.new.seat.me.0.began_words)
 begun_is g c = (paused g c).here.begun
 
-pub returns-clause-over : goal.returns-clause-over
-returns-clause-over g c =
+pub returns : goal.returns
+returns g c =
     let race = g.R.HoldsRace.held c.args.race in
     let told = c.freeze.ensures.told in
-    is_over race.table.table_id race.shape c.args.sweepers.items c.args.racers.items c.requires.sweepers c.requires.racers.1 c.join_sweepers.new.pause_seat.me.0 (view_is g c) (count_is g c) race.some race.shaped c.freeze.new.seat told.words (me_is g c) told.views told.id told.raced told.mine
-
-pub returns-clause-pairs : goal.returns-clause-pairs
-returns-clause-pairs g c x =
-    let race = g.R.HoldsRace.held c.args.race in
-    let told = c.freeze.ensures.told in
-    same_pairs race.table.table_id race.shape c.args.sweepers.items c.args.racers.items c.requires.sweepers c.requires.racers.1 c.join_sweepers.new.pause_seat.me.0 (view_is g c) (count_is g c) race.some race.shaped c.freeze.new.seat told.words (me_is g c) told.views told.id told.raced told.mine x
-
-pub returns-clause-within : goal.returns-clause-within
-returns-clause-within g c x k = pair_listed (g.R.HoldsRace.held c.args.race).shape (g.R.HoldsRace.held c.args.race).layout c.freeze.new.seat.me.0.began_words (g.R.HoldsRace.held c.args.race).laid (begun_is g c) x k
-
-pub returns-clause-cover : goal.returns-clause-cover
-returns-clause-cover g c = begun_covered (g.R.HoldsRace.held c.args.race).shape (g.R.HoldsRace.held c.args.race).layout c.freeze.new.seat.me.0.began_words (g.R.HoldsRace.held c.args.race).laid (begun_is g c)
+    record {
+      left = record {
+        layout = refl;
+        within = λ x k. pair_listed race.shape race.layout c.freeze.new.seat.me.0.began_words race.laid (begun_is g c) x k;
+        cover = begun_covered race.shape race.layout c.freeze.new.seat.me.0.began_words race.laid (begun_is g c);
+        pairs = λ x. same_pairs race.table.table_id race.shape c.args.sweepers.items c.args.racers.items c.requires.sweepers c.requires.racers.1 c.join_sweepers.new.pause_seat.me.0 (view_is g c) (count_is g c) race.some race.shaped c.freeze.new.seat told.words (me_is g c) told.views told.id told.raced told.mine x;
+        over = is_over race.table.table_id race.shape c.args.sweepers.items c.args.racers.items c.requires.sweepers c.requires.racers.1 c.join_sweepers.new.pause_seat.me.0 (view_is g c) (count_is g c) race.some race.shaped c.freeze.new.seat told.words (me_is g c) told.views told.id told.raced told.mine;
+      };
+      layout = refl;
+      shape = refl;
+      address = refl;
+      table_id = refl;
+      logs = c.join_racers.ensures.logs;
+      count = let len = length-map c.args.sweepers.items sweeper_view in omega (arith, c.join_sweepers.ensures.len, c.args.sweepers.ok.0, len);
+    }
