@@ -10,8 +10,8 @@ use g1_core::{Call, CardList, Reply, Status};
 use g1_layout::{Card, Region, Slot};
 
 impl<H: Keeps> Book<H> {
-    ghost use Rattle.g1_history.specs.{target_entry, pending_entry, members_entry, status_entry};
-    ghost use Rattle.g1_history.specs.{DoesTarget, DoesPending, DoesMembers, DoesStatus};
+    ghost use Rattle.g1_core.specs.Calls.{target_entry, pending_entry, members_entry, status_entry};
+    ghost use Rattle.g1_core.specs.Calls.{DoesTarget, DoesPending, DoesMembers, DoesStatus};
     ghost use Rattle.g1_history.specs.{MakesCall, RefusesBy, layout_in, IsAsked, MadeAsked};
 
     /// Returns the place that a slot refers to, or `None` if it is null, and enters the call. One

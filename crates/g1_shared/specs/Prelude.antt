@@ -10,11 +10,8 @@ pub use Rattle.std.specs.Prelude.{Option, option_map, Result, slice_index_or, su
 pub use Rattle.std.specs.Prelude.{vec_capacity, ℕ}
 pub use Rattle.std.specs.Vec.Iter.{into_iter_items, into_iter_len}
 pub use Rattle.g1_core.specs.Barrier.{buffer_of, logged}
-pub use Rattle.g1_core.specs.Calls.{clear_entry, DoesClear, DoesDrain, DoesMembers, DoesPending}
-pub use Rattle.g1_core.specs.Calls.{DoesRefine, DoesStatus, DoesStore, DoesTarget}
-pub use Rattle.g1_core.specs.Calls.{drain_entry, IsLent, members_entry, pending_entry}
-pub use Rattle.g1_core.specs.Calls.{redirect_entry, refine_entry, status_entry, store_entry}
-pub use Rattle.g1_core.specs.Calls.{target_entry}
+pub use Rattle.g1_core.specs.Calls.{clear_entry, DoesClear, DoesDrain, DoesRefine, DoesStore}
+pub use Rattle.g1_core.specs.Calls.{drain_entry, IsLent, redirect_entry, refine_entry, store_entry}
 pub use Rattle.g1_core.specs.Machine.{IsSound, Machine, State}
 pub use Rattle.g1_core.specs.Redirect.{DoesRedirect}
 pub use Rattle.g1_core.specs.Run.{IsAllowed, IsPermitted, IsStep, kind_of, table_after}
