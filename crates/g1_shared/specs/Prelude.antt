@@ -20,11 +20,11 @@ pub use Rattle.g1_core.specs.declared.entry.Entry.{Entry}
 pub use Rattle.g1_core.specs.declared.reply.Fill.TheVariants.{Full, Helped, No}
 pub use Rattle.g1_core.specs.declared.reply.RefineReply.{RefineReply}
 pub use Rattle.g1_core.specs.declared.reply.StoreReply.{StoreReply}
-pub use Rattle.g1_history.specs.Asked.{IsAsked, MadeAsked}
+pub use Rattle.g1_history.specs.Asked.{IsAsked, MakesAsked}
 pub use Rattle.g1_history.specs.History.{AnswersBy, History, history_code, IsEnteredBy, IsFull}
-pub use Rattle.g1_history.specs.History.{IsKept, layout_in, made_of, MakesCall, opened, RefusesBy}
-pub use Rattle.g1_history.specs.History.{stored_of, stores_by, table_in, BookTerms, terms_of}
-pub use Rattle.g1_history.specs.History.{CallTotals, is_store}
+pub use Rattle.g1_history.specs.History.{IsKept, layout_in, made_of, MakesCall, opened, stored_of}
+pub use Rattle.g1_history.specs.History.{stores_by, table_in, BookTerms, terms_of, CallTotals}
+pub use Rattle.g1_history.specs.History.{is_store}
 pub use Rattle.g1_history.specs.declared.refusal.Refusal.{Refusal}
 pub use Rattle.g1_layout.specs.Shape.{card_count, card_of, Shape, slot_count}
 pub use Rattle.g1_layout.specs.declared.kind.Kind.{Kind}
