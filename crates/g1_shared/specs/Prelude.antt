@@ -36,6 +36,6 @@ pub use Rattle.g1_steps.specs.Ask.{Ask, AskFlush, AskStore, AskWork, is_store_as
 pub use Rattle.g1_steps.specs.Made.{CallMade, Refined, Refused, Stored}
 pub use Rattle.g1_steps.specs.Opening.{AreNewMutators, IsNewMutator}
 pub use Rattle.g1_steps.specs.Rounds.{IsRound, round_calls, round_size, Turn, turn_call}
-pub use Rattle.g1_steps.specs.Steps.{Empties, GainsAtMost, Help, help_calls, IsRefinement, IsStored}
-pub use Rattle.g1_steps.specs.Steps.{IsOfCalls, IsTake, MayRefuse, store_answer}
+pub use Rattle.g1_steps.specs.Steps.{Empties, GainsAtMost, Help, help_calls, IsStored, MayRefuse}
+pub use Rattle.g1_steps.specs.Steps.{store_answer}
 pub use Rattle.g1_steps.specs.declared.steps.mutator.Mutator.{Mutator}
