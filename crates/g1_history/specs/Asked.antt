@@ -1,7 +1,8 @@
 -- The calls that a book can be asked by their values alone, and what comes of one.
 use Rattle.g1_history.specs.Prelude.{ℕ, Bool, List, Shape, Call, Store, Refine, Reply, Entry}
-use Rattle.g1_history.specs.Prelude.{IsCallOf, DoesAsked}
-use Rattle.g1_history.specs.History.{History, Made}
+use Rattle.g1_history.specs.Prelude.{IsCallOf, DoesAsked, IfOk, Result}
+use Rattle.g1_history.specs.History.{History, Made, RefusesBy}
+use Rattle.g1_history.specs.declared.refusal.Refusal.{Refusal}
 
 -- The call is neither a store nor a refinement, and its numbers are of the layout.
 abbrev pub IsAsked : Shape → Call → Type 0
@@ -19,3 +20,9 @@ abbrev pub MadeAsked : Bool → History → ℕ → Call → Reply → History �
 MadeAsked keeps old caller call reply new =
     (cards : List ℕ)
     × Made keeps old (asked_entry caller call reply cards) (DoesAsked call reply cards) new
+
+-- Such a call was entered with its reply and did its work, or it was refused.
+pub record MakesAsked (keeps : Bool) (old : History) (caller : ℕ) (call : Call)
+    (result : Result Reply Refusal) (new : History) : Type 0 where
+  pub made : IfOk result (λ reply. MadeAsked keeps old caller call reply new)
+  pub err : RefusesBy keeps old result new

@@ -8,12 +8,10 @@ pub use Rattle.std.specs.Prelude.{Some, true, vec_capacity, vec_len}
 pub use Rattle.g1_core.proofs.LengthLemmas.{refined_few, turned_few}
 pub use Rattle.g1_core.proofs.RunLemmas.{has_slots, permitted_step, run_covered, run_layout}
 pub use Rattle.g1_core.proofs.TableLemmas.{opening_covered}
-pub use Rattle.g1_core.specs.Calls.{clear_entry, DoesAsked, DoesClear, DoesDrain, DoesMembers}
-pub use Rattle.g1_core.specs.Calls.{DoesPending, DoesRefine, DoesStatus, DoesStore}
-pub use Rattle.g1_core.specs.Calls.{DoesTarget, drain_cards, drain_entry, drain_refined}
-pub use Rattle.g1_core.specs.Calls.{drain_reply, IsLent, members_entry, pending_entry}
-pub use Rattle.g1_core.specs.Calls.{redirect_entry, redirect_refined, redirect_reply, refine_entry}
-pub use Rattle.g1_core.specs.Calls.{status_entry, store_entry, target_entry}
+pub use Rattle.g1_core.specs.Calls.{clear_entry, DoesAsked, DoesClear, DoesDrain, DoesRefine}
+pub use Rattle.g1_core.specs.Calls.{DoesStore, drain_cards, drain_entry, drain_refined, drain_reply}
+pub use Rattle.g1_core.specs.Calls.{IsLent, redirect_entry, redirect_refined, redirect_reply}
+pub use Rattle.g1_core.specs.Calls.{refine_entry, store_entry}
 pub use Rattle.g1_core.specs.Machine.{IsLater, IsSound, Machine, machine_code, new_machine, State}
 pub use Rattle.g1_core.specs.Redirect.{DoesRedirect}
 pub use Rattle.g1_core.specs.Run.{drained, IsAllowed, IsCallOf, IsExact, IsPermitted, IsStep}

@@ -1,6 +1,6 @@
 //! Questions to the core that are entered in the history.
 ghost use Rattle.std.specs.Prelude.{◌<◌};
-ghost use Rattle.g1_history.specs.{IfOk, slot_count, card_count};
+ghost use Rattle.g1_history.specs.{slot_count, card_count};
 
 use crate::book::{Book, again};
 use crate::keeps::Keeps;
@@ -10,9 +10,9 @@ use g1_core::{Call, CardList, Reply, Status};
 use g1_layout::{Card, Region, Slot};
 
 impl<H: Keeps> Book<H> {
-    ghost use Rattle.g1_history.specs.{target_entry, pending_entry, members_entry, status_entry};
-    ghost use Rattle.g1_history.specs.{DoesTarget, DoesPending, DoesMembers, DoesStatus};
-    ghost use Rattle.g1_history.specs.{MakesCall, RefusesBy, layout_in, IsAsked, MadeAsked};
+    ghost use Rattle.g1_core.specs.Calls.{target_entry, pending_entry, members_entry, status_entry};
+    ghost use Rattle.g1_core.specs.Calls.{DoesTarget, DoesPending, DoesMembers, DoesStatus};
+    ghost use Rattle.g1_history.specs.{MakesCall, layout_in, IsAsked, MakesAsked};
 
     /// Returns the place that a slot refers to, or `None` if it is null, and enters the call. One
     /// slot is read.
@@ -103,9 +103,7 @@ impl<H: Keeps> Book<H> {
     #[tactic(auto, using(crate::proofs::HistoryLemmas::drain_asked, crate::proofs::HistoryLemmas::redirect_asked))]
     pub fn ask(&mut self, caller: u32, call: Call) -> Result<Reply, Refusal>
         requires { IsAsked (layout_in self.old) call }
-        ensures made { IfOk result (λ reply.
-            MadeAsked H.KEEPS self.old caller call reply self.new) }
-        ensures err { RefusesBy H.KEEPS self.old result self.new }
+        ensures { MakesAsked H.KEEPS self.old caller call result self.new }
     {
         match call {
             Call::Target(slot) => Ok(Reply::Target(self.target(caller, slot)?)),

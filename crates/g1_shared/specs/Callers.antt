@@ -4,9 +4,10 @@ use Rattle.g1_shared.specs.Prelude.{ℕ, Bool, true, false, List, [], length, Op
 use Rattle.g1_shared.specs.Prelude.{IfSome, IsSome, IsNone, Result, OnOk, OnErr, Shape, Line, Taker}
 use Rattle.g1_shared.specs.Prelude.{Parcel, line_home, capacity_of, put_of, taken_of, StoreReply}
 use Rattle.g1_shared.specs.Prelude.{IsLent, logged, buffer_of, MayRefuse, RefineReply, No, Full}
-use Rattle.g1_shared.specs.Prelude.{Helped, Mutator, Refusal, IsRefinement}
-use Rattle.g1_steps.specs.Rounds.{IsRoundFrom}
+use Rattle.g1_shared.specs.Prelude.{Helped, Mutator, Refusal, GainsAtMost}
 use Rattle.g1_shared.specs.Prelude.{IsNewMutator}
+use Rattle.g1_steps.specs.Rounds.{IsWorkStep}
+use Rattle.g1_steps.specs.Steps.{IsRefineStep}
 use Rattle.g1_log.specs.declared.buffer.Buffer.{Buffer}
 use Rattle.g1_log.specs.Log.{Cards}
 use Rattle.g1_core.specs.declared.reply.Fill.{Fill}
@@ -124,17 +125,26 @@ pub record FlushesBy (layout : Shape) (line : Line) (c : CallerState) (reply : F
   pub helped : reply.fill ≡ Helped → IfSome c.mutator (λ m. MayRefuse line m.sender)
   pub made : IsFlushAt layout c reply.fill reply.refined reply.short d
 
--- A refinement of a caller: its counts tell of the call, and the reply is one of that buffer.
-abbrev pub IsRefinementAt : Shape → CallerState → RefineReply → CallerState → Type 0
-IsRefinementAt layout c reply d =
-    IsRefinement (CountsDid layout) c.counts c.taker reply d.taker d.counts
+-- A refinement of a caller, with its answer: its counts tell of the call, and the reply is one of
+-- that buffer.
+pub record RefinesBy (layout : Shape) (line : Line) (c : CallerState)
+    (result : Result RefineReply Refusal) (d : CallerState) : Type 0 where
+  pub mark : caller_mark d ≡ caller_mark c
+  pub mutator : d.mutator ≡ c.mutator
+  pub step : IsRefineStep (CountsDid layout) line c.counts c.taker result d.taker d.counts
 
--- A round of a caller at a line, on these terms: its counts tell of the calls, and the replies are
--- those of the buffers.
-abbrev pub IsRoundAt : SharedTerms → Line → CallerState → RefineReply → CallerState → Type 0
-IsRoundAt terms line c reply d =
-    IsRoundFrom (CountsDid terms.layout) line terms.settings.start c.counts c.taker reply d.taker
-    d.counts
+-- A round of a caller on these terms, with its answer: its counts tell of the calls, and the
+-- replies are those of the buffers. None is a store, there are at most as many as the line holds,
+-- and there is none where the round is refused.
+pub record WorksBy (terms : SharedTerms) (line : Line) (c : CallerState)
+    (result : Result RefineReply Refusal) (d : CallerState) : Type 0 where
+  pub mark : caller_mark d ≡ caller_mark c
+  pub mutator : d.mutator ≡ c.mutator
+  pub stored : d.counts.stored ≡ c.counts.stored
+  pub made : (c.counts.made ≤ d.counts.made) × (d.counts.made ≤ c.counts.made + capacity_of line)
+  pub step : IsWorkStep (CountsDid terms.layout) line terms.settings.start c.counts c.taker result
+      d.taker d.counts
+  pub err : OnErr result ((d.counts ≡ c.counts) × GainsAtMost (taken_list c) 1 (taken_list d))
 
 -- The list has grown by parcels, and no more entries were made than these.
 pub record MakesFor (made : ℕ) (old : List Parcel) (made' : ℕ) (new : List Parcel) : Type 0 where

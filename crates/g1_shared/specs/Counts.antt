@@ -52,6 +52,11 @@ pub record AreCounted (keeps : Bool) (terms : SharedTerms) (made stored : ℕ)
   pub kept : terms_of h ≡ kept_terms terms
   pub run : LeadsTo terms.began.state.table made stored (table_in h)
 
+-- What is known of such a book without its ledgers.
+abbrev pub IsCounted : Bool → SharedTerms → History → Type 0
+IsCounted keeps terms h =
+    AreCounted keeps terms (made_of keeps h.entries h.totals) (stored_of keeps h.entries h.totals) h
+
 -- no call was made
 abbrev pub AreNone : Bool → History → Type 0
 AreNone true h = h.entries ≡ []

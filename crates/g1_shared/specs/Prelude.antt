@@ -10,11 +10,8 @@ pub use Rattle.std.specs.Prelude.{Option, option_map, Result, slice_index_or, su
 pub use Rattle.std.specs.Prelude.{vec_capacity, ℕ}
 pub use Rattle.std.specs.Vec.Iter.{into_iter_items, into_iter_len}
 pub use Rattle.g1_core.specs.Barrier.{buffer_of, logged}
-pub use Rattle.g1_core.specs.Calls.{clear_entry, DoesClear, DoesDrain, DoesMembers, DoesPending}
-pub use Rattle.g1_core.specs.Calls.{DoesRefine, DoesStatus, DoesStore, DoesTarget}
-pub use Rattle.g1_core.specs.Calls.{drain_entry, IsLent, members_entry, pending_entry}
-pub use Rattle.g1_core.specs.Calls.{redirect_entry, refine_entry, status_entry, store_entry}
-pub use Rattle.g1_core.specs.Calls.{target_entry}
+pub use Rattle.g1_core.specs.Calls.{clear_entry, DoesClear, DoesDrain, DoesRefine, DoesStore}
+pub use Rattle.g1_core.specs.Calls.{drain_entry, IsLent, redirect_entry, refine_entry, store_entry}
 pub use Rattle.g1_core.specs.Machine.{IsSound, Machine, State}
 pub use Rattle.g1_core.specs.Redirect.{DoesRedirect}
 pub use Rattle.g1_core.specs.Run.{IsAllowed, IsPermitted, IsStep, kind_of, table_after}
@@ -23,11 +20,11 @@ pub use Rattle.g1_core.specs.declared.entry.Entry.{Entry}
 pub use Rattle.g1_core.specs.declared.reply.Fill.TheVariants.{Full, Helped, No}
 pub use Rattle.g1_core.specs.declared.reply.RefineReply.{RefineReply}
 pub use Rattle.g1_core.specs.declared.reply.StoreReply.{StoreReply}
-pub use Rattle.g1_history.specs.Asked.{IsAsked, MadeAsked}
+pub use Rattle.g1_history.specs.Asked.{IsAsked, MakesAsked}
 pub use Rattle.g1_history.specs.History.{AnswersBy, History, history_code, IsEnteredBy, IsFull}
-pub use Rattle.g1_history.specs.History.{IsKept, layout_in, made_of, MakesCall, opened, RefusesBy}
-pub use Rattle.g1_history.specs.History.{stored_of, stores_by, table_in, BookTerms, terms_of}
-pub use Rattle.g1_history.specs.History.{CallTotals, is_store}
+pub use Rattle.g1_history.specs.History.{IsKept, layout_in, made_of, MakesCall, opened, stored_of}
+pub use Rattle.g1_history.specs.History.{stores_by, table_in, BookTerms, terms_of, CallTotals}
+pub use Rattle.g1_history.specs.History.{is_store}
 pub use Rattle.g1_history.specs.declared.refusal.Refusal.{Refusal}
 pub use Rattle.g1_layout.specs.Shape.{card_count, card_of, Shape, slot_count}
 pub use Rattle.g1_layout.specs.declared.kind.Kind.{Kind}
@@ -39,6 +36,6 @@ pub use Rattle.g1_steps.specs.Ask.{Ask, AskFlush, AskStore, AskWork, is_store_as
 pub use Rattle.g1_steps.specs.Made.{CallMade, Refined, Refused, Stored}
 pub use Rattle.g1_steps.specs.Opening.{AreNewMutators, IsNewMutator}
 pub use Rattle.g1_steps.specs.Rounds.{IsRound, round_calls, round_size, Turn, turn_call}
-pub use Rattle.g1_steps.specs.Steps.{Empties, GainsAtMost, Help, help_calls, IsRefinement, IsStored}
-pub use Rattle.g1_steps.specs.Steps.{IsOfCalls, IsTake, MayRefuse, store_answer}
+pub use Rattle.g1_steps.specs.Steps.{Empties, GainsAtMost, Help, help_calls, IsStored, MayRefuse}
+pub use Rattle.g1_steps.specs.Steps.{store_answer}
 pub use Rattle.g1_steps.specs.declared.steps.mutator.Mutator.{Mutator}

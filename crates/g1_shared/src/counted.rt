@@ -1,8 +1,6 @@
 //! A book with the ledgers of its calls and of its stores: what a shared book keeps under its lock.
 //! Its calls are in [`calls`](crate::calls).
 ghost use Rattle.std.specs.Prelude.{◌≡◌};
-ghost use Rattle.g1_shared.specs.Prelude.{made_of, stored_of, terms_of, table_in};
-ghost use Rattle.g1_shared.specs.Counts.{LeadsTo, kept_terms};
 
 use crate::ledgers::Terms;
 use g1_history::{Book, Keeps, Kept};
@@ -37,14 +35,13 @@ impl<M: Terms, S: Ledger, H: Keeps> Model for Counted<M, S, H> {
 }
 
 impl<M: Terms, S: Ledger, H: Keeps> Counted<M, S, H> {
+    ghost use Rattle.g1_shared.specs.Counts.{AreCounted, IsCounted};
+
     /// The book, on the terms that the callers know. As many calls as it has made, with as many
     /// stores, led from the machine that it was shared with to its own. Constant time.
     pub fn book(&self) -> &Book<H>
         ensures book { result.now ≡ self.now }
-        ensures terms { terms_of self.now ≡ kept_terms M.terms }
-        ensures run { LeadsTo M.terms.began.state.table
-            (made_of H.KEEPS self.now.entries self.now.totals)
-            (stored_of H.KEEPS self.now.entries self.now.totals) (table_in self.now) }
+        ensures counted { IsCounted H.KEEPS M.terms self.now }
     {
         &self.book
     }
@@ -54,11 +51,7 @@ impl<M: Terms, S: Ledger, H: Keeps> Counted<M, S, H> {
         requires made { made.old.parts ≡ M.parts }
         requires stored { stored.old.parts ≡ S.parts }
         ensures book { result ≡ self }
-        ensures made { made_of H.KEEPS result.entries result.totals ≡ made.old.amount }
-        ensures stored { stored_of H.KEEPS result.entries result.totals ≡ stored.old.amount }
-        ensures terms { terms_of result ≡ kept_terms M.terms }
-        ensures run { LeadsTo M.terms.began.state.table made.old.amount stored.old.amount
-            (table_in result) }
+        ensures counted { AreCounted H.KEEPS M.terms made.old.amount stored.old.amount result }
     {
         let Counted {
             book,

@@ -49,9 +49,8 @@ impl<M: Terms, S: Ledger, H: Keeps> Model for Shared<M, S, H> {
 
 impl<M: Terms, S: Ledger, H: Keeps> Shared<M, S, H> {
     ghost use Rattle.std.specs.Sync.Mutex.{mutex_guard_value};
-    ghost use Rattle.g1_shared.specs.Prelude.{IsSound, IsKept, made_of, stored_of, table_in};
-    ghost use Rattle.g1_shared.specs.Prelude.{terms_of};
-    ghost use Rattle.g1_shared.specs.Counts.{LeadsTo, kept_terms};
+    ghost use Rattle.g1_shared.specs.Prelude.{IsSound, IsKept};
+    ghost use Rattle.g1_shared.specs.Counts.{IsCounted};
 
     /// Waits for the lock, and returns the counted book until the guard is dropped.
     ///
@@ -60,10 +59,7 @@ impl<M: Terms, S: Ledger, H: Keeps> Shared<M, S, H> {
     /// keeps its entries, these are such a run.
     pub fn lock<R: Wait>(&self, rt: &R) -> MutexGuard<'_, Counted<M, S, H>>
         ensures history { IsKept H.KEEPS (mutex_guard_value result) }
-        ensures terms { terms_of (mutex_guard_value result) ≡ kept_terms M.terms }
-        ensures run { let h = mutex_guard_value result in LeadsTo M.terms.began.state.table
-            (made_of H.KEEPS h.entries h.totals) (stored_of H.KEEPS h.entries h.totals)
-            (table_in h) }
+        ensures counted { IsCounted H.KEEPS M.terms (mutex_guard_value result) }
         ensures sound { let h = mutex_guard_value result in IsSound h.machine.state }
     {
         let guard = self.counted.lock(rt);

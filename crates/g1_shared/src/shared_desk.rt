@@ -1,9 +1,8 @@
 //! A desk at a shared book.
 ghost use Rattle.std.specs.Prelude.{◌≡◌, ◌≤◌};
-ghost use Rattle.g1_shared.specs.Prelude.{refl, nat_lt, slot_count, card_of, capacity_of};
-ghost use Rattle.g1_shared.specs.Prelude.{IsOfCalls};
+ghost use Rattle.g1_shared.specs.Prelude.{refl, nat_lt, slot_count, card_of, capacity_of, Ok};
 ghost use Rattle.std.proofs.Props.{props};
-ghost use Rattle.g1_shared.specs.Callers.{IsCallerOf, StoresBy, FlushesBy, IsRoundAt};
+ghost use Rattle.g1_shared.specs.Callers.{IsCallerOf, StoresBy, FlushesBy, WorksBy};
 ghost use Rattle.g1_shared.specs.Did.{IsRefusedAt};
 ghost use Rattle.g1_shared.specs.Answers.{IsKindAt};
 ghost use Rattle.g1_shared.specs.Did.{DeskDid, caller_did_none, desk_did_then};
@@ -70,10 +69,8 @@ impl<'a, R: Wait, M: Terms, S: Ledger, H: Keeps> Desk for SharedDesk<'a, R, M, S
     ghost flushed = { λ s reply t.
         FlushesBy M.terms.layout s.shared.now s.caller reply t.caller };
 
-    ghost worked = { λ s reply t. IsRoundAt M.terms s.shared.now s.caller reply t.caller
-        × (t.caller.mutator ≡ s.caller.mutator)
-        × IsOfCalls (capacity_of s.shared.now) reply
-        × (reply.left ≤ capacity_of s.shared.now) };
+    ghost worked = { λ s reply t.
+        WorksBy M.terms s.shared.now s.caller (Ok reply) t.caller };
 
     ghost refused = { λ s ask why t. IsRefusedAt s.caller ask t.caller };
 

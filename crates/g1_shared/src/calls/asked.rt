@@ -1,10 +1,10 @@
 //! Queries, drains, clears and redirects under the lock, and any of these calls by its value.
 ghost use Rattle.std.specs.Prelude.{◌≢◌, ◌<◌};
-ghost use Rattle.g1_shared.specs.{IfOk, slot_count, card_count, target_entry, pending_entry};
-ghost use Rattle.g1_shared.specs.{members_entry, status_entry, drain_entry, clear_entry};
-ghost use Rattle.g1_shared.specs.{redirect_entry, DoesTarget, DoesPending, DoesMembers, DoesStatus};
-ghost use Rattle.g1_shared.specs.{DoesDrain, DoesClear, DoesRedirect, IsAsked, MakesCall};
-ghost use Rattle.g1_shared.specs.{MadeAsked, AnswersBy, RefusesBy, CallsOnce};
+ghost use Rattle.g1_core.specs.Calls.{target_entry, pending_entry, members_entry, status_entry};
+ghost use Rattle.g1_core.specs.Calls.{DoesTarget, DoesPending, DoesMembers, DoesStatus};
+ghost use Rattle.g1_shared.specs.{IfOk, slot_count, card_count, drain_entry, clear_entry};
+ghost use Rattle.g1_shared.specs.{redirect_entry, DoesDrain, DoesClear, DoesRedirect, IsAsked};
+ghost use Rattle.g1_shared.specs.{MakesCall, MakesAsked, AnswersBy, CallsOnce};
 
 use crate::caller::Caller;
 use crate::calls::stores::raise_made;
@@ -122,10 +122,8 @@ impl<M: Terms, S: Ledger, H: Keeps> Counted<M, S, H> {
     /// As the book's `ask`, for this caller.
     pub fn ask(&mut self, caller: &mut Caller<M, S>, call: Call) -> Result<Reply, Refusal>
         requires { IsAsked M.terms.layout call }
-        ensures made { IfOk result (λ reply.
-            MadeAsked H.KEEPS self.old caller.old.counts.number call reply self.new) }
+        ensures call { MakesAsked H.KEEPS self.old caller.old.counts.number call result self.new }
         ensures counts { CallsOnce caller.old result caller.new }
-        ensures kept { RefusesBy H.KEEPS self.old result self.new }
     {
         let reply = self.book.ask(caller.counts.number(), call)?;
         raise_made(&self.book, &mut self.made, &mut caller.counts);

@@ -1,11 +1,9 @@
 //! The steps of a caller over the locked book, and the pause.
-ghost use Rattle.std.specs.Prelude.{◌≡◌, ◌+◌, ◌*◌, ◌<◌, ◌≤◌, ◌++◌, ◌∷◌};
-ghost use Rattle.g1_shared.specs.{ℕ, [], length, IfOk, OnErr, OnOk, IfSome, All};
-ghost use Rattle.g1_shared.specs.{slice_index_or, true, false, slot_count, card_of, capacity_of};
-ghost use Rattle.g1_shared.specs.{GainsAtMost, Empties, StoresBy, FlushesBy, IsKindAt};
-ghost use Rattle.g1_shared.specs.{CallerState, caller_mark, IsCallerOf, taken_list};
-ghost use Rattle.g1_shared.specs.{IsRefinementAt, IsRoundAt, IsCallerAtPause};
-ghost use Rattle.g1_log.specs.declared.parcel.Parcel.{Parcel as P};
+ghost use Rattle.std.specs.Prelude.{◌≡◌, ◌<◌, ◌≤◌};
+ghost use Rattle.g1_shared.specs.{ℕ, length, IfOk, OnErr, IfSome, All, slice_index_or, true, false};
+ghost use Rattle.g1_shared.specs.{slot_count, card_of, capacity_of, Empties, IsKindAt};
+ghost use Rattle.g1_shared.specs.{CallerState, caller_mark, IsCallerOf, taken_list, StoresBy};
+ghost use Rattle.g1_shared.specs.{FlushesBy, RefinesBy, WorksBy, IsCallerAtPause};
 
 use crate::caller::Caller;
 use crate::ledgers::Terms;
@@ -76,22 +74,10 @@ impl<M: Terms, S: Ledger, H: Keeps> Shared<M, S, H> {
     ///
     /// If the call is refused, a buffer that was taken is given up. Each of its cards is then
     /// pending by its mark, unless it was refined meanwhile.
-    #[tactic(auto, using(crate::proofs::refinement_gains))]
+    #[tactic(auto, using(crate::proofs::refines))]
     pub fn refine<R: Wait>(&self, rt: &R, caller: &mut Caller<M, S>) -> Result<RefineReply, Refusal>
         requires mine { IsCallerOf self.now caller.old }
-        ensures mark { caller_mark caller.new ≡ caller_mark caller.old }
-        ensures kept { (caller.new.counts.stored ≡ caller.old.counts.stored)
-            × (caller.new.mutator ≡ caller.old.mutator) }
-        ensures made { OnOk result (caller.new.counts.made ≡ caller.old.counts.made + 1)
-            × OnErr result (caller.new.counts ≡ caller.old.counts) }
-        ensures numbers { IfOk result (λ reply.
-            (reply.taken ≤ 1) × (length reply.refined + reply.skipped ≤ 256) × (reply.hot ≤ 256)
-            × (reply.left ≤ capacity_of self.now)) }
-        ensures taken { IfOk result (λ reply.
-            reply.taken ≡ 1 → (x : P) × (taken_list caller.new ≡ taken_list caller.old ++ x ∷ [])) }
-        ensures refined { IfOk result (λ reply.
-            IsRefinementAt M.terms.layout caller.old reply caller.new) }
-        ensures gained { GainsAtMost (taken_list caller.old) 1 (taken_list caller.new) }
+        ensures { RefinesBy M.terms.layout self.now caller.old result caller.new }
     {
         let mut calls = LockedCalls {
             rt,
@@ -106,23 +92,9 @@ impl<M: Terms, S: Ledger, H: Keeps> Shared<M, S, H> {
     ///
     /// A refusal at the first take or call is returned. At a later one, or after a short call, the
     /// round ends with `short` true.
-    #[tactic(auto, using(crate::proofs::round_counted, crate::proofs::size_within))]
     pub fn work<R: Wait>(&self, rt: &R, caller: &mut Caller<M, S>) -> Result<RefineReply, Refusal>
         requires mine { IsCallerOf self.now caller.old }
-        ensures mark { caller_mark caller.new ≡ caller_mark caller.old }
-        ensures kept { (caller.new.counts.stored ≡ caller.old.counts.stored)
-            × (caller.new.mutator ≡ caller.old.mutator) }
-        ensures round { IfOk result (λ reply.
-            IsRoundAt M.terms self.now caller.old reply caller.new) }
-        ensures given_up { OnErr result
-            (GainsAtMost (taken_list caller.old) 1 (taken_list caller.new)) }
-        ensures made { (caller.old.counts.made ≤ caller.new.counts.made)
-            × (caller.new.counts.made ≤ caller.old.counts.made + capacity_of self.now) }
-        ensures err { OnErr result (caller.new.counts ≡ caller.old.counts) }
-        ensures numbers { IfOk result (λ reply.
-            (reply.taken ≤ capacity_of self.now)
-            × (length reply.refined + reply.skipped ≤ 256 * capacity_of self.now)
-            × (reply.hot ≤ 256 * capacity_of self.now) × (reply.left ≤ capacity_of self.now)) }
+        ensures { WorksBy M.terms self.now caller.old result caller.new }
     {
         let mut calls = LockedCalls {
             rt,
@@ -130,8 +102,7 @@ impl<M: Terms, S: Ledger, H: Keeps> Shared<M, S, H> {
             counts: &mut caller.counts,
             alloc: self.alloc,
         };
-        let reply = work(rt, &self.line, &mut caller.taker, &mut calls, self.start)?;
-        Ok(reply)
+        work(rt, &self.line, &mut caller.taker, &mut calls, self.start)
     }
 
     /// Makes a pause, once the mutators are stopped. It empties the logs of the given callers, and

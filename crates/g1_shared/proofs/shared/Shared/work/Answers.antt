@@ -1,14 +1,18 @@
-use Rattle.std.specs.Prelude.{◌≤◌}
-use Rattle.g1_shared.specs.{ap, subst, capacity_of, round_size, CountsDid, CallerState, IsRoundAt}
-use Rattle.g1_shared.proofs.CountLemmas.{round_as}
+use Rattle.std.specs.Prelude.{◌<◌}
+use Rattle.g1_shared.specs.{subst, Line, CallerState, WorksBy}
+use Rattle.g1_shared.proofs.{works, work_number}
 use Rattle.g1_shared.proofs.shared.Shared.work.Goals as goal
 
-pub returns-clause-round : goal.returns-clause-round
-returns-clause-round g c =
-    let round = c.in_ok-reply.ensures.round in
-    let P : CallerState → Type 0 = λ s. IsRoundAt g.M.Terms.terms c.args.self.now s c.in_ok-reply.reply (record { counts = c.work.new.calls.counts.now; mutator = c.caller.inside.mutator; taker = c.work.new.taker }) in
-    subst P c.caller.view_is (
-      round.0,
-      subst (λ l. round.0 ≤ capacity_of l) c.self.view_is round.1,
-      round_as _ (CountsDid g.M.Terms.terms.layout) _ _ _ _ _ _ _ _ _ (ap (λ n. round_size n round.0) c.self.invariant) (λ calls h. (h.1, h.2)) round.2,
-    )
+pub invariant_of-caller : goal.invariant_of-caller
+invariant_of-caller g c =
+    let number = work_number _ g.M.Terms.terms c.self.inside.line c.self.inside.start _ _ c.caller.inside.counts c.work.new.calls.counts.now c.caller.inside.taker c.work.new.taker c.work.result c.self.invariant (λ calls h. (h.1, h.2)) (λ e i. (e i).counts.now) c.work.ensures in
+    λ below. c.caller.invariant (subst (λ n. n < g.M.Terms.terms.mutators) number below)
+
+pub returns : goal.returns
+returns g c =
+    let terms = g.M.Terms.terms in
+    let caller = c.caller.inside in
+    let now = c.work.new.calls.counts.now in
+    let P : Line → CallerState → Type 0 = λ l s. WorksBy terms l s c.work.result (record { counts = now; mutator = caller.mutator; taker = c.work.new.taker }) in
+    subst (λ l. P l c.args.caller.now) c.self.view_is (subst (P c.self.inside.line) c.caller.view_is
+    (works _ terms c.self.inside.line c.self.inside.start _ _ caller.counts now caller.mutator caller.taker c.work.new.taker c.work.result c.self.invariant (λ calls h. (h.1, h.2)) (λ e i. (e i).counts.now) c.work.ensures))
