@@ -50,7 +50,7 @@ impl<H: Keeps> Book<H> {
     }
 
     /// Stores and enters as `store` does, and puts a completed buffer into the place that the
-    /// caller lends for it, in place of returning it (docs/rules.md, The barrier).
+    /// caller lends for it, instead of returning it (docs/rules.md, The barrier).
     ///
     /// The place is empty before the call, so no buffer is lost. After it, `completed` has the
     /// buffer if `fill` is `Full`, and is empty otherwise. `BookFull` and `NoMemory` are returned
