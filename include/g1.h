@@ -135,10 +135,14 @@ struct g1 {
 
 /* The kind of a store. Only a logged store has a card for the caller's dirty card queue. */
 enum g1_kind {
-    G1_STORED_NULL = 0,        /* the target is null */
-    G1_STORED_SAME_REGION = 1, /* the slot and its target are in one region */
-    G1_STORED_DIRTY = 2,       /* the slot's card was pending already */
-    G1_STORED_LOGGED = 3       /* the slot's card was clean, and is pending now */
+    /* the target is null, or the word is data */
+    G1_STORED_NULL = 0,
+    /* the slot and its target are in one region */
+    G1_STORED_SAME_REGION = 1,
+    /* a reference into another region, from a card that was pending already */
+    G1_STORED_DIRTY = 2,
+    /* a reference into another region, from a card that was clean, and is pending now */
+    G1_STORED_LOGGED = 3
 };
 
 /*
@@ -367,7 +371,7 @@ uint32_t g1_is_pending(struct g1 *handle, uint32_t card, uint32_t *pending);
 
 /*
  * Sets `totals` to how many cards are pending and how many pairs of a card and a region are
- * recorded. It takes time in the number of regions, and no memory.
+ * recorded. It takes time proportional to the number of regions, and no memory.
  *
  * Returns:
  *   - G1_DONE.
@@ -437,9 +441,9 @@ uint32_t g1_redirect(struct g1 *handle, uint32_t from, uint32_t to, uint32_t *mo
 /*
  * Copies what `count` slots refer to, from the slot `from` on to the slots from `to` on, as if all
  * were read before any is written: the ranges may overlap. Cards become pending as by g1_store, but
- * the caller gets none for a queue: the next drain finds them. The call takes time in `count`, and
- * no memory. A copy of no slots is done if both ranges begin at a slot of the heap or just behind
- * its last one, and refused if one begins farther behind.
+ * the caller gets none for a queue: the next drain finds them. The call takes time proportional to
+ * `count`, and no memory. A copy of no slots is done if both ranges begin at a slot of the heap or
+ * just behind its last one, and refused if one begins farther behind.
  *
  * Returns G1_DONE, or G1_NOT_OPEN, or G1_NO_SLOT if either range ends behind the last slot: nothing
  * has changed.
@@ -454,7 +458,8 @@ uint32_t g1_copy(struct g1 *handle, uint32_t from, uint32_t to, uint32_t count);
  *   - `missing` is the least of the `count` slots from `first` on that refers into another region
  *     while its card is neither pending nor recorded for that region, so that no drain would
  *     return the card. The library's calls leave no such slot: something else wrote to its memory.
- * Each is G1_NULL if there is no such slot. The call takes time in the slots, and no memory.
+ * Each is G1_NULL if there is no such slot. The call takes time proportional to the slots that it
+ * looks at, and no memory.
  *
  * Returns:
  *   - G1_DONE.
@@ -556,7 +561,9 @@ struct g1_racer {
     void *racer;
 };
 
-/* A handle of a sweeper, by which a refinement thread refines. It is closed if it is null. */
+/*
+ * A handle of a sweeper, by which a refinement thread refines. It is closed if the pointer is null.
+ */
 struct g1_sweeper {
     void *sweeper;
 };
@@ -594,8 +601,8 @@ uint32_t g1_heap_open(struct g1_heap *heap, const struct g1_counts *counts, uint
  * recorded. Each racer has the log of the racer that was at its place in the row of the last pause,
  * or an empty one if there was none or the pause has refined. A card that is dirty from the
  * beginning and in no log is refined if a sweeper is given it, or at the next pause. The call takes
- * time in the number of members, and no memory. It is never refused to a caller that passes a
- * closed handle for each member.
+ * time proportional to the number of members, and no memory. It is never refused to a caller that
+ * passes a closed handle for each member.
  *
  * Returns:
  *   - G1_DONE: each member's handle is open.
@@ -609,8 +616,8 @@ uint32_t g1_heap_resume(struct g1_heap *heap, struct g1_racer *racers, size_t ra
  * Begins a pause. All racers and sweepers of the heap are handed in, in any order. Before the call
  * you see to it that no thread is inside a call of a member, or between a store of its own and the
  * call that reports it: this call stops no thread and waits for none. The members' logs stay with
- * the heap. The call takes time in the number of members, and no memory. It is never refused to a
- * caller that passes each member once.
+ * the heap. The call takes time proportional to the number of members, and no memory. It is never
+ * refused to a caller that passes each member once.
  *
  * Returns:
  *   - G1_DONE: the members' handles are closed, and the collector's calls may be made.
@@ -925,9 +932,9 @@ uint32_t g1_heap_store_data(struct g1_heap *heap, uint32_t slot, uint64_t word);
 /*
  * The collector copies the words of `count` slots, references and data, from the slot `from` on to
  * the slots from `to` on, as if all were read before any is written: the ranges may overlap. Cards
- * become dirty as by g1_heap_store, and no log has them. The call takes time in `count`, and no
- * memory. A copy of no slots is done if both ranges begin at a slot of the heap or just behind its
- * last one, and refused if one begins farther behind.
+ * become dirty as by g1_heap_store, and no log has them. The call takes time proportional to
+ * `count`, and no memory. A copy of no slots is done if both ranges begin at a slot of the heap or
+ * just behind its last one, and refused if one begins farther behind.
  *
  * Returns G1_DONE, or G1_NOT_OPEN, G1_NOT_PAUSED, or G1_NO_SLOT if either range ends behind the
  * last slot: nothing has changed.
@@ -967,8 +974,8 @@ uint32_t g1_heap_redirect(struct g1_heap *heap, uint32_t from, uint32_t to, uint
 
 /*
  * Stores null into each slot of a region that is freed, also where it has data. Cards that are
- * dirty stay dirty, and what is recorded stays recorded. It takes time in the slots of a region,
- * and no memory.
+ * dirty stay dirty, and what is recorded stays recorded. It takes time proportional to the slots of
+ * a region, and no memory.
  *
  * Returns G1_DONE, or G1_NOT_OPEN, G1_NOT_PAUSED or G1_NO_REGION: nothing has changed.
  */
@@ -993,8 +1000,8 @@ uint32_t g1_heap_forget(struct g1_heap *heap, uint32_t region);
 /*
  * Looks for a runtime's own mistakes, in a debug build, as g1_verify does. A runtime whose fields
  * are the library's words passes no references (a references_length of 0): then `missing` shows
- * where it wrote to one itself. A slot that has data refers to nothing. The call takes time in the
- * slots, and no memory.
+ * where it wrote to one itself. A slot that has data refers to nothing. The call takes time
+ * proportional to the slots that it looks at, and no memory.
  *
  * Returns:
  *   - G1_DONE.
@@ -1016,8 +1023,8 @@ uint32_t g1_heap_verify(struct g1_heap *heap, uint32_t first, uint32_t count,
 /*
  * Begins a reading of a heap at a pause. It opens as many closed handles of readers as the array
  * has, at most as many as the heap has racers and sweepers together. Each reader belongs to one
- * thread at a time, and any number of them read at once. The call takes time in the number of the
- * heap's members, and no memory.
+ * thread at a time, and any number of them read at once. The call takes time proportional to the
+ * number of the heap's members, and no memory.
  *
  * Returns:
  *   - G1_DONE: each reader's handle is open.
@@ -1030,8 +1037,8 @@ uint32_t g1_heap_read(struct g1_heap *heap, struct g1_reader *readers, size_t re
 /*
  * Ends the reading. All readers of the heap are handed in, in any order. Before the call you see to
  * it that no thread is inside a call of a reader. The heap is then at its pause as it was before
- * g1_heap_read. The call takes time in the number of the heap's members, and no memory. It is never
- * refused to a caller that passes each reader once.
+ * g1_heap_read. The call takes time proportional to the number of the heap's members, and no
+ * memory. It is never refused to a caller that passes each reader once.
  *
  * Returns:
  *   - G1_DONE: the readers' handles are closed.

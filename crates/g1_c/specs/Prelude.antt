@@ -10,8 +10,8 @@ pub use Rattle.g1_core.specs.Calls.{TellsMembers, TellsPending, TellsStatus, Tel
 pub use Rattle.g1_handles.proofs.CalledLemmas.{called_ok, called_same, called_why}
 pub use Rattle.g1_handles.proofs.VisitLemmas.{role_if, role_of, role_ok, role_why, visit_same}
 pub use Rattle.g1_handles.proofs.VisitLemmas.{visit_so}
-pub use Rattle.g1_handles.specs.AtPause.{DrainsRegion, HasWord, RefersOut, StoresAllAt}
-pub use Rattle.g1_handles.specs.Batch.{IsFaultAt, made_all}
+pub use Rattle.g1_handles.specs.AtPause.{DrainsRegion, RefersOut, StoresAllAt}
+pub use Rattle.g1_handles.specs.Batch.{AreStoresOf, IsFaultAt, made_all}
 pub use Rattle.g1_handles.specs.Codes.{Between, IsRefusal, IsStoreOf, IsVisit, kind_word, layout_of}
 pub use Rattle.g1_handles.specs.Codes.{OfKind, OfOpen, reference_of, refusal_word, settings_of}
 pub use Rattle.g1_handles.specs.Counting.{stored_as}
@@ -23,7 +23,7 @@ pub use Rattle.g1_handles.specs.Life.{IsFor, IsHeapOpenRefused, IsNewHeap, IsPau
 pub use Rattle.g1_handles.specs.Life.{IsResumeRefused, IsSameHeap, OfHeap, OfPaused, SaysNoHeap}
 pub use Rattle.g1_handles.specs.Life.{SaysNotPaused}
 pub use Rattle.g1_handles.specs.Phases.{BeginsReading, ComesToPause, EndsReading, Resumes}
-pub use Rattle.g1_handles.specs.Queries.{Finds, Overflows}
+pub use Rattle.g1_handles.specs.Queries.{Finds, Overflows, TellsNextMember, TellsWord}
 pub use Rattle.g1_handles.specs.RaceStores.{CanStoreAll, Exchanges, FindsOther, StoresAll, Swaps}
 pub use Rattle.g1_handles.specs.RaceWords.{CanStoreWord, FindsOtherWord, IsExchangeWordRefused}
 pub use Rattle.g1_handles.specs.RaceWords.{IsSwapWordRefused, MayHave, SwapsWord}
@@ -32,7 +32,7 @@ pub use Rattle.g1_handles.specs.Racing.{IfSweeper, OfRacer, OfRole, OfSweeper, r
 pub use Rattle.g1_handles.specs.Racing.{StoresData, sweeping_in, Sweeps, TakesLog}
 pub use Rattle.g1_handles.specs.Readers.{AreReadersLike, AreReadersOf, IsReadBy, IsReadEndRefused}
 pub use Rattle.g1_handles.specs.Readers.{IsReaderRefused, IsReadRefused, OfReader, reader_layout}
-pub use Rattle.g1_handles.specs.Readers.{reading_in, ReadsPair, ReadsWord, table_of_reader}
+pub use Rattle.g1_handles.specs.Readers.{reading_in, ReadsPair, table_of_reader}
 pub use Rattle.g1_handles.specs.Refusals.{AreMembersRefused, AreStoresRefused, IsCallRefused}
 pub use Rattle.g1_handles.specs.Refusals.{IsDrainRefused, IsOpenRefused, IsRaceDataRefused}
 pub use Rattle.g1_handles.specs.Refusals.{IsRaceExchangeRefused, IsRaceStoreRefused}
@@ -51,5 +51,4 @@ pub use Rattle.g1_race.specs.Calls.{ClearsAt, Copies, Forgets, Redirects, Refine
 pub use Rattle.g1_race.specs.Calls.{StoresDataAt, Wipes}
 pub use Rattle.g1_race.specs.Evacuating.{IsRaceWith}
 pub use Rattle.g1_race.specs.Members.{race_layout, race_words}
-pub use Rattle.g1_race.specs.Over.{Pause, table_at}
-pub use Rattle.g1_race.specs.Reading.{IsNextMember}
+pub use Rattle.g1_race.specs.Over.{Pause, start_at, table_at}

@@ -14,8 +14,10 @@
 //! - [`member`] has the calls of a racer, a sweeper or a reader.
 //!
 //! A call returns a word below 8 if it was made, and else the word of a
-//! [`Reason`](g1_handles::code::Reason). What it leaves then is said once, by the record
-//! `TellsRefusal` of `specs/Calls.antt`.
+//! [`Reason`](g1_handles::code::Reason). Only `g1_heap_drain` has done something where it returns
+//! 16, and only `g1_clear` may have counted reads where it returns 19 or 20. What most calls leave
+//! then is said by the record `TellsRefusal` of `specs/Calls.antt`, and the others have clauses of
+//! their own.
 //!
 //! What only the caller can know is left to the caller: that a handle is zeros or was opened here,
 //! that one call at a time uses it, and that arrays have the lengths that are passed and overlap

@@ -1,12 +1,12 @@
 -- What else the collector's calls on a heap at a pause do, and why they are refused.
 use Rattle.std.specs.Prelude.{◌≡◌}
-use Rattle.g1_handles.specs.Prelude.{ℕ, List, fold, get_elem?, region_of, Table}
+use Rattle.g1_handles.specs.Prelude.{ℕ, List, fold, region_of, Table}
 use Rattle.g1_handles.specs.Prelude.{Crosses, IsStep, drained, stored}
-use Rattle.g1_handles.specs.Prelude.{IsWord, word_of, Pause, table_at, IsSameRace, Refines}
+use Rattle.g1_handles.specs.Prelude.{word_of, Pause, table_at, IsSameRace, Refines}
 use Rattle.g1_handles.specs.Prelude.{SlotsBecome, one_word, IsExactAtPause}
-use mathlib.Core.Option.{some}
 use Rattle.g1_handles.specs.declared.one_core.batch.Store.{Store}
 use Rattle.g1_handles.specs.Codes.{reference_of}
+use Rattle.g1_handles.specs.Batch.{AreStoresOf}
 
 -- all is refined, and these cards are every one that holds into the region, and only such or
 -- recorded ones
@@ -26,8 +26,9 @@ abbrev pub word_stored : List Store → ℕ → ℕ → ℕ
 word_stored stores slot word =
     fold (λ w s. one_word s.slot (word_of (reference_of s.target)) slot w) word stores
 
--- these stores are made in order
+-- these stores, of slots and targets that the heap has, are made in order
 pub record StoresAllAt (old : Pause) (stores : List Store) (new : Pause) : Type 0 where
+  pub within : AreStoresOf old.layout stores
   pub race : IsSameRace old new
   pub words : SlotsBecome (word_stored stores) old new
   pub table : table_at new ≡ stored_all (table_at old) stores
@@ -38,8 +39,3 @@ pub record RefersOut (heap : Pause) (region : ℕ) : Type 0 where
   pub place : ℕ
   pub crosses : Crosses (table_at heap) slot place
   pub inside : region_of heap.layout slot ≡ region
-
--- the slot has this word
-pub record HasWord (heap : Pause) (slot word : ℕ) : Type 0 where
-  pub found : get_elem? heap.words slot ≡ some word
-  pub fits : IsWord heap.shape word

@@ -1,6 +1,6 @@
 -- Several stores one after the other.
 use Rattle.std.specs.Prelude.{◌<◌, ◌∷◌, ◌++◌}
-use Rattle.g1_handles.specs.Prelude.{ℕ, List, [], length, slice_index_or, Option}
+use Rattle.g1_handles.specs.Prelude.{ℕ, List, [], All, length, slice_index_or, Option}
 use Rattle.g1_handles.specs.Prelude.{Some, None, fold, card_of, Machine, kind_of, logged_card}
 use Rattle.g1_handles.specs.Prelude.{stored_machine}
 use Rattle.g1_layout.specs.Shape as layout
@@ -28,6 +28,10 @@ made m store = record {
 -- these stores, each after the one before
 abbrev pub made_all : Machine → List Store → AfterStores
 made_all m stores = fold made (record { machine = m; cards = [] }) stores
+
+-- The heap has each slot and each target of these stores.
+abbrev pub AreStoresOf : layout.Shape → List Store → Type 0
+AreStoresOf l stores = All (λ s. IsStoreOf l s.slot s.target) stores
 
 -- The store at this index names a slot or a target that the heap does not have.
 abbrev pub IsFaultAt : layout.Shape → List Store → ℕ → Type 0

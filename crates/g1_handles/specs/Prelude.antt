@@ -6,12 +6,13 @@ pub use Rattle.std.proofs.Math.ListN.{get_or-map}
 pub use Rattle.std.proofs.Math.Seq.{map-set_same, take-suc}
 pub use Rattle.std.proofs.Props.{props}
 pub use Rattle.std.proofs.lemmas.Bool.{cases_lt, eqb-false, eqb-true, not-true}
+pub use Rattle.std.proofs.lemmas.Grind.{common_steps}
 pub use Rattle.std.proofs.lemmas.List.{drop-set-lt, get_or-set_other, get_or-set_same, get_or-take}
 pub use Rattle.std.proofs.lemmas.List.{get_or_default, length-map, length-set, length-take}
 pub use Rattle.std.proofs.lemmas.List.{length_push, map-append, take_more_set}
-pub use Rattle.std.proofs.lemmas.List.Elements.{All-contains, All-from_all_within, All-map, All-nil}
-pub use Rattle.std.proofs.lemmas.List.Elements.{All-push, All-take, AllWithin-more_set}
-pub use Rattle.std.proofs.lemmas.List.Elements.{AllWithin-upto}
+pub use Rattle.std.proofs.lemmas.List.Elements.{All-contains, All-from_all_within, All-map}
+pub use Rattle.std.proofs.lemmas.List.Elements.{All-more, All-nil, All-push, All-take}
+pub use Rattle.std.proofs.lemmas.List.Elements.{AllWithin-more_set, AllWithin-upto}
 pub use Rattle.std.specs.Arc.{arc_value}
 pub use Rattle.std.specs.Coded.{coded_option}
 pub use Rattle.std.specs.Fn.{FnOnceReturnsAtMut}
@@ -81,6 +82,7 @@ pub use Rattle.g1_race.specs.Telling.{marked_cards}
 pub use Rattle.g1_race.specs.declared.race.Race.{Race}
 pub use Rattle.g1_race.specs.declared.race.Racer.{Racer}
 pub use Rattle.g1_race.specs.declared.race.Sweeper.{Sweeper}
+pub use Rattle.g1_race_words.specs.Begin.{Start}
 pub use Rattle.g1_race_words.specs.Rule.{beginning, IsWord, null_of, slot_card}
 pub use Rattle.g1_race_words.specs.Seats.{IsFound}
 pub use Rattle.g1_race_words.specs.declared.view.View.{View}

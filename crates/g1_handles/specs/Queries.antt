@@ -1,6 +1,9 @@
 -- What the answers to questions stand for.
-use Rattle.std.specs.Prelude.{◌≡◌, ◌<◌}
+use Rattle.std.specs.Prelude.{◌≡◌, ◌+◌, ◌<◌, ◌≤◌}
 use Rattle.g1_handles.specs.Prelude.{ℕ, List, length, Table, map, IsFirst, IsMissing, Differs}
+use Rattle.g1_handles.specs.Prelude.{get_elem?, IsNextMember, IsWord, Option, Shape, slot_count}
+use Rattle.g1_handles.specs.Prelude.{Start}
+use mathlib.Core.Option.{some}
 use Rattle.g1_handles.specs.Codes.{reference_of}
 use Rattle.g1_handles.specs.Replies.{FitIn}
 use Rattle.g1_handles.specs.declared.one_core.members.Listed.{Listed}
@@ -21,11 +24,24 @@ Lists AreSo room (NoRoom count) = Overflows AreSo room count
 abbrev pub IsListOf : List ℕ → ℕ → Listed → Type 0
 IsListOf cards = Lists (λ list. list ≡ cards)
 
+-- the slot has this word, in a heap of this layout that has these words
+pub record TellsWord (l : Shape) (heap : Start) (slot word : ℕ) : Type 0 where
+  pub within : slot < slot_count l
+  pub found : get_elem? heap.words slot ≡ some word
+  pub fits : IsWord heap.shape word
+
+-- the least card at or after `from` that is recorded for a region of the heap, or none
+pub record TellsNextMember (t : Table) (region from : ℕ) (card : Option ℕ) : Type 0 where
+  pub within : region < t.layout.regions
+  pub next : IsNextMember t region from card
+
 -- the words are of the least slot that refers to something else than memory does, which has these
 -- references from the first slot on, and of the least of `count` slots that refers into another
 -- region from a card that is neither pending nor recorded for it
 pub record Finds (t : Table) (first count : ℕ) (memory : List ℕ) (differing missing : ℕ)
     : Type 0 where
+  pub within : first + count ≤ slot_count t.layout
+  pub reaches : first + length memory ≤ slot_count t.layout
   pub differs : IsFirst (Differs t first (map reference_of memory)) first (length memory)
       (reference_of differing)
   pub misses : IsFirst (IsMissing t) first count (reference_of missing)

@@ -1,6 +1,6 @@
 -- What a racer's stores do that return what was there, depend on it, or are several.
 use Rattle.std.specs.Prelude.{◌≡◌, ◌+◌, ◌<◌, ◌≤◌, ◌∷◌, ◌++◌, if◌then◌else◌}
-use Rattle.g1_handles.specs.Prelude.{ℕ, List, [], All}
+use Rattle.g1_handles.specs.Prelude.{ℕ, List, []}
 use Rattle.g1_handles.specs.Prelude.{length, take, Option, array_vec_len, Kind, IsFound, slot_card}
 use Rattle.g1_handles.specs.Prelude.{HasOverwritten, HasStored, HasDiffered, HasNotStored, IsKind}
 use Rattle.g1_handles.specs.Prelude.{is_logged, race_layout, race_shape, racer_view, word_of}
@@ -12,8 +12,8 @@ use Rattle.g1_handles.specs.declared.member.batch.BatchEnd.TheVariants.{Whole, S
 use Rattle.g1_handles.specs.declared.member.batch.RaceBatch.{RaceBatch}
 use Rattle.g1_handles.specs.declared.member.exchange.Exchange.{Exchange}
 use Rattle.g1_handles.specs.declared.member.exchange.Exchange.TheVariants as exchange
-use Rattle.g1_handles.specs.Batch.{IsFaultAt}
-use Rattle.g1_handles.specs.Codes.{IsStoreOf, reference_of}
+use Rattle.g1_handles.specs.Batch.{AreStoresOf, IsFaultAt}
+use Rattle.g1_handles.specs.Codes.{reference_of}
 
 -- a racer before and after a store of the place t to slot p, whose overwritten word referred to the
 -- old one
@@ -68,5 +68,5 @@ pub record StoresFirst (a : Racing) (stores : List Store) (answer : RaceBatch) (
 
 -- the heap has each slot and each target, and the racer's log has room for all the slots' cards
 pub record CanStoreAll (a : Racing) (stores : List Store) : Type 0 where
-  pub within : All (λ s. IsStoreOf (race_layout a.race) s.slot s.target) stores
+  pub within : AreStoresOf (race_layout a.race) stores
   pub room : array_vec_len a.racer.log + length stores ≤ 256

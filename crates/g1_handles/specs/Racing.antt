@@ -1,5 +1,5 @@
 -- What the calls on the members of a race do.
-use Rattle.std.specs.Prelude.{◌≡◌, ◌∷◌, ◌++◌, if◌then◌else◌, ◌+◌}
+use Rattle.std.specs.Prelude.{◌≡◌, ◌≤◌, ◌^◌, ◌∷◌, ◌++◌, if◌then◌else◌, ◌+◌}
 use Rattle.g1_handles.specs.Prelude.{ℕ, List, [], map, All}
 use Rattle.g1_handles.specs.Prelude.{Option, Some, None, IsSome, IsSomeAnd, IfSome, false, Bool}
 use Rattle.g1_handles.specs.Prelude.{length, arc_value, Kind, Null, Race, Racer, Sweeper, View}
@@ -80,6 +80,7 @@ pub record Stores (a : Racing) (p : ℕ) (t : Option ℕ) (k : Kind) (b : Racing
 -- a racer before and after it stored this word of data to slot p, which had the old word
 pub record StoresData (a : Racing) (p word old : ℕ) (b : Racing) : Type 0 where
   pub race : b.race ≡ a.race
+  pub high : 2 ^ 32 ≤ word
   pub view : racer_view b.racer ≡ stored_view (race_shape a.race) (racer_view a.racer) p
       word old false
   pub log : b.racer.log.items ≡ a.racer.log.items

@@ -1,10 +1,9 @@
 -- Several threads that read one pause, each by a reader.
 use Rattle.std.specs.Prelude.{◌≡◌, ◌⊎◌, ◌<◌, ◌↔◌}
 use Rattle.g1_handles.specs.Prelude.{ℕ, Bool, List, length, All, Any, Option}
-use Rattle.g1_handles.specs.Prelude.{IsTrue, arc_value, get_elem?, Shape, Table}
-use Rattle.g1_handles.specs.Prelude.{IsRecorded, IsWord, Race, race_layout, race_shape, Pause}
+use Rattle.g1_handles.specs.Prelude.{IsTrue, arc_value, card_count, Shape, Table}
+use Rattle.g1_handles.specs.Prelude.{IsRecorded, Race, race_layout, race_shape, Pause}
 use Rattle.g1_handles.specs.Prelude.{table_at, start_at, Known, known, table_read, IsReaderOf}
-use mathlib.Core.Option.{some}
 use Rattle.g1_handles.specs.declared.code.Reason.{Reason}
 use Rattle.g1_handles.specs.declared.code.Reason.TheVariants as refusal
 use Rattle.g1_handles.specs.declared.heap.racing_heap.AtPause.{AtPause}
@@ -93,14 +92,11 @@ IsReadEndRefused h readers r =
     ⊎ (IsReadBy h (length readers)
     × (Any (λ m. SaysNoMember m r) readers ⊎ (r ≡ refusal.OtherRace)))
 
--- the slot has this word
-abbrev pub ReadsWord : ReaderAt → ℕ → ℕ → Type 0
-ReadsWord a slot word =
-    (get_elem? a.reader.start.words slot ≡ some word) × IsWord a.reader.start.shape word
-
--- the answer is whether the card is recorded for the region
-abbrev pub ReadsPair : ReaderAt → ℕ → ℕ → Bool → Type 0
-ReadsPair a card region answer = IsTrue answer ↔ IsRecorded (table_of_reader a) card region
+-- the answer is whether the card is recorded for the region, both of the heap
+pub record ReadsPair (a : ReaderAt) (card region : ℕ) (answer : Bool) : Type 0 where
+  pub card_within : card < card_count (reader_layout a)
+  pub region_within : region < (reader_layout a).regions
+  pub has : IsTrue answer ↔ IsRecorded (table_of_reader a) card region
 
 -- a call by the reader of a handle, which is refused of the reader for this
 abbrev pub IsReaderRefused : Option ReaderMember → (ReaderAt → Reason → Type 0) → Reason → Type 0

@@ -1,6 +1,6 @@
 -- What the words that C gets stand for.
-use Rattle.std.specs.Prelude.{◌≡◌, ◌≤◌, ◌==◌, if◌then◌else◌}
-use Rattle.g1_handles.specs.Prelude.{drop, ℕ}
+use Rattle.std.specs.Prelude.{◌≡◌, ◌<◌, ◌≤◌, ◌==◌, if◌then◌else◌}
+use Rattle.g1_handles.specs.Prelude.{All, card_count, drop, ℕ}
 use Rattle.g1_handles.specs.Prelude.{Option, Some, None, List, length, not, ⊤, Machine, IsLater}
 use Rattle.g1_handles.specs.Prelude.{IsOnlyRead, IsStep, clear_entry, drain_entry, target_entry}
 use Rattle.g1_handles.specs.Prelude.{redirect_entry, refine_entry, store_entry, unfilled}
@@ -28,10 +28,12 @@ abbrev pub RefersTo : Machine → ℕ → Option ℕ → Machine → Type 0
 RefersTo old slot target new =
     MakesStep (λ caller. target_entry caller slot target) (DoesTarget slot target) old new
 
--- A refinement of these cards got the reply.
-abbrev pub RefinesTo : Machine → List ℕ → RefineReply → Machine → Type 0
-RefinesTo old cards reply new =
-    MakesStep (λ caller. refine_entry caller reply) (DoesRefine (Some cards) reply) old new
+-- A refinement of these cards, which the heap has, got the reply.
+pub record RefinesTo (old : Machine) (cards : List ℕ) (reply : RefineReply)
+    (new : Machine) : Type 0 where
+  pub within : All (λ card. card < card_count old.state.table.layout) cards
+  pub made : MakesStep (λ caller. refine_entry caller reply)
+      (DoesRefine (Some cards) reply) old new
 
 -- the reply of a refinement that C is told by a word (0 where it is not short), the refined cards
 -- and two counts

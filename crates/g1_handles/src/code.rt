@@ -57,7 +57,8 @@ pub enum Reason {
     StillReferenced,
     /// A racer's log is full.
     LogFull,
-    /// Not as many racers, sweepers or readers as the heap has, or as a heap may have.
+    /// The number of racers or sweepers is not the heap's, or more readers were given than it has
+    /// members, or another number than read it; or a heap may not have so many.
     BadMembers,
     /// The handles are not those of all members, or of all readers, of the heap, each given once.
     OtherRace,

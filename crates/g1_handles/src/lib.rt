@@ -18,9 +18,10 @@
 //! the handle back. A call over several handles is one function. The crate `g1_c` exports each, in
 //! the file of the same room and name, and writes the results where C asks for them.
 //!
-//! Before anything changes, a call checks each word and each array's length, and is refused if one
-//! of them is wrong or if a handle is closed. (The stores of a batch are checked one by one, each
-//! before it is made.) There is no text, no callback, no thread and no lock inside.
+//! Before anything changes, a call checks each word and the length of each array that must have
+//! room, and is refused if one of them is wrong or if a handle is closed. (The stores of a batch
+//! are checked one by one, each before it is made. A set at a pause may be asked for with an array
+//! of any length.) There is no text, no callback, no thread and no lock inside.
 #![tactic(auto)]
 
 pub mod any_handle;

@@ -22,6 +22,8 @@ pub extern "C" fn g1_heap_copy(
         Copies old from to count new) }
     ensures answered { OfPaused heap.old.value (λ old. (from + count ≤ slot_count old.layout)
         × (to + count ≤ slot_count old.layout)) → result ≡ 0 }
+    ensures within { result ≡ 0 → OfPaused heap.old.value (λ old.
+        (from + count ≤ slot_count old.layout) × (to + count ≤ slot_count old.layout)) }
     ensures told { TellsRefusal 0 result heap.old.value heap.new.value (Unit {0})
         (IsHeapRefused heap.old.value (λ old. LacksRanges old.layout from count to count)) }
 {

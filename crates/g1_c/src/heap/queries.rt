@@ -4,7 +4,7 @@ ghost use Rattle.std.specs.Prelude.{◌≡◌, ◌≢◌, ◌<◌, ◌≤◌, �
 ghost use Rattle.g1_c.specs.{take, table_at, TellsTarget, TellsPending};
 ghost use Rattle.g1_c.specs.{TellsStatus, TellsMembers, IsWritten, IsRefusal, reference_of};
 ghost use Rattle.g1_c.specs.{IsHeapRefused, IsSameHeap, HasFirst, LacksCard, LacksRegion};
-ghost use Rattle.g1_c.specs.{LacksSlot, IsNextMember, IsRaceWith, IsTold};
+ghost use Rattle.g1_c.specs.{LacksSlot, TellsNextMember, IsRaceWith, IsTold};
 
 use crate::calling::on_heap;
 use crate::one_core::queries::Totals;
@@ -127,7 +127,7 @@ pub extern "C" fn g1_heap_next_member(
 ) -> u32
     ensures told { IsTold result card.new (card.new ≡ 4294967295) heap.old.value heap.new.value
         (λ card. IsSameHeap heap.old.value heap.new.value (λ old new.
-        IsNextMember (table_at old) region from (reference_of card)))
+        TellsNextMember (table_at old) region from (reference_of card)))
         (IsHeapRefused heap.old.value (λ old. LacksRegion old.layout region)) }
 {
     let answer = on_heap!(alloc, heap, next_member_at(region, from));

@@ -1,6 +1,6 @@
 //! The words of a heap: where they lie, and, at a pause, what a slot's is and a store of data.
 ghost use Rattle.std.specs.Prelude.{◌≡◌};
-ghost use Rattle.g1_c.specs.{race_words, HasWord, StoresDataAt, IsHeapRefused};
+ghost use Rattle.g1_c.specs.{race_words, start_at, TellsWord, StoresDataAt, IsHeapRefused};
 ghost use Rattle.g1_c.specs.{IsSameHeap, OfHeap, SaysNoHeap, LacksSlot, SaysNoData, TellsRefusal};
 ghost use Rattle.g1_c.specs.{IsTold};
 ghost use denote.RawPtr.{null_ptr};
@@ -33,7 +33,8 @@ pub extern "C" fn g1_heap_word(
     word: &mut u64,
 ) -> u32
     ensures told { IsTold result word.new (word.new ≡ 0) heap.old.value heap.new.value
-        (λ word. IsSameHeap heap.old.value heap.new.value (λ old new. HasWord old slot word))
+        (λ word. IsSameHeap heap.old.value heap.new.value (λ old new.
+        TellsWord old.layout (start_at old) slot word))
         (IsHeapRefused heap.old.value (λ old. LacksSlot old.layout slot)) }
 {
     let answer = on_heap!(alloc, heap, word_at(slot));

@@ -60,6 +60,9 @@ pub extern "C" fn g1_race_compare_exchange(
     ensures differs { result ≡ 2 → OfRacer racer.old.value (λ a.
         OfRacer racer.new.value (λ b.
         FindsOther a slot (reference_of expected) (reference_of found.new) b)) }
+    ensures within { result ≤ 2 → OfRacer racer.old.value (λ a.
+        IsStoreOf (race_layout a.race) slot expected
+        × IsStoreOf (race_layout a.race) slot target) }
     ensures done { result ≤ 2 → (result ≡ 0) ⊎ (result ≡ 2) }
     ensures taken { IfRacer racer.old.value (λ a. array_vec_len a.racer.log < 256
         → IsStoreOf (race_layout a.race) slot expected

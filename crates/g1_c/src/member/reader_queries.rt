@@ -2,7 +2,7 @@
 //! recorded for a region.
 ghost use Rattle.std.specs.Prelude.{◌≡◌, ◌≤◌, ◌==◌};
 ghost use Rattle.g1_c.specs.{reference_of, OfReader, reader_layout, table_of_reader};
-ghost use Rattle.g1_c.specs.{TellsTarget, TellsPending, IsNextMember, ReadsWord, ReadsPair};
+ghost use Rattle.g1_c.specs.{TellsTarget, TellsPending, TellsNextMember, TellsWord, ReadsPair};
 ghost use Rattle.g1_c.specs.{IsReaderRefused};
 ghost use Rattle.g1_c.specs.{LacksCard, LacksPair, LacksRegion, LacksSlot, IsTold};
 
@@ -42,7 +42,8 @@ pub extern "C" fn g1_reader_word(
     word: &mut u64,
 ) -> u32
     ensures told { IsTold result word.new (word.new ≡ 0) reader.old.value reader.new.value
-        (λ word. OfReader reader.old.value (λ a. ReadsWord a slot word))
+        (λ word. OfReader reader.old.value (λ a.
+        TellsWord (reader_layout a) a.reader.start slot word))
         (IsReaderRefused reader.old.value (λ a. LacksSlot (reader_layout a) slot)) }
 {
     let answer = on_reader!(alloc, reader, word_by(slot));
@@ -96,7 +97,7 @@ pub extern "C" fn g1_reader_next_member(
 ) -> u32
     ensures told { IsTold result card.new (card.new ≡ 4294967295) reader.old.value reader.new.value
         (λ card. OfReader reader.old.value (λ a.
-        IsNextMember (table_of_reader a) region from (reference_of card)))
+        TellsNextMember (table_of_reader a) region from (reference_of card)))
         (IsReaderRefused reader.old.value (λ a. LacksRegion (reader_layout a) region)) }
 {
     let answer = on_reader!(alloc, reader, next_member_by(region, from));

@@ -58,6 +58,8 @@ pub extern "C" fn g1_race_compare_exchange_word(
     ensures found { result ≡ 0 → found.new ≡ expected }
     ensures differs { result ≡ 2 → OfRacer racer.old.value (λ a.
         OfRacer racer.new.value (λ b. FindsOtherWord a slot expected found.new b)) }
+    ensures can { result ≤ 2 → OfRacer racer.old.value (λ a.
+        CanStoreWord a.race a.racer slot word × MayHave a.race expected) }
     ensures done { result ≤ 2 → (result ≡ 0) ⊎ (result ≡ 2) }
     ensures taken { IfRacer racer.old.value (λ a. CanStoreWord a.race a.racer slot word
         → MayHave a.race expected → result ≤ 2) }

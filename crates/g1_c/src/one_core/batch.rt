@@ -1,7 +1,7 @@
 //! Several stores by one call.
 ghost use Rattle.std.specs.Prelude.{◌≡◌, ◌⊎◌, ◌≤◌};
-ghost use Rattle.g1_c.specs.Prelude.{length, take, IfSome, IsWritten, Between};
-ghost use Rattle.g1_c.specs.Prelude.{made_all, IsFaultAt, AreStoresRefused, IsCallRefused};
+ghost use Rattle.g1_c.specs.Prelude.{length, take, IfSome, IsWritten, Between, IsCallRefused};
+ghost use Rattle.g1_c.specs.Prelude.{made_all, AreStoresOf, IsFaultAt, AreStoresRefused};
 ghost use Rattle.g1_c.specs.Calls.{TellsRefusal};
 
 use crate::calling::on_core;
@@ -33,6 +33,8 @@ pub extern "C" fn g1_store_all(
     ensures made { result ≤ 3 → Between handle.old.value handle.new.value (λ old new.
         record { machine = new; cards = take batch.new.logged cards.new }
         ≡ made_all old (take batch.new.stored stores.now)) }
+    ensures within { result ≤ 3 → IfSome handle.old.value (λ old.
+        AreStoresOf old.state.table.layout (take batch.new.stored stores.now)) }
     ensures whole { result ≡ 0 → batch.new.stored ≡ length stores.now }
     ensures stopped { result ≡ 3 → IfSome handle.old.value (λ old.
         IsFaultAt old.state.table.layout stores.now batch.new.stored) }

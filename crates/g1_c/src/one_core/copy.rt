@@ -17,6 +17,9 @@ pub extern "C" fn g1_copy(alloc: Global, handle: &mut Handle, from: u32, to: u32
     ensures answered { IfSome handle.old.value (λ old.
         from + count ≤ slot_count old.state.table.layout
         → to + count ≤ slot_count old.state.table.layout → result ≡ 0) }
+    ensures within { result ≡ 0 → IfSome handle.old.value (λ old.
+        (from + count ≤ slot_count old.state.table.layout)
+        × (to + count ≤ slot_count old.state.table.layout)) }
     ensures told { TellsRefusal 0 result handle.old.value handle.new.value (Unit {0})
         (IsCallRefused handle.old.value
         (λ old. LacksRanges old.state.table.layout from count to count)) }

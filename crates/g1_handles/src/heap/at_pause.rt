@@ -10,7 +10,7 @@ use g1_race::{Paused, Race};
 use std::alloc::Global;
 use std::sync::Arc;
 
-/// A heap at a pause. It holds a share of its race, so its members keep theirs.
+/// A heap at a pause. It holds a share of its race, so the waiting members can keep theirs.
 pub type PausedHeap = Paused<Arc<Race, Global>>;
 
 /// Makes a call on the heap of a handle, which is at a pause, and puts the heap back. `words` has

@@ -1,6 +1,7 @@
 //! A range of slots is copied to another one at a pause.
-ghost use Rattle.std.specs.Prelude.{◌≡◌};
-ghost use Rattle.g1_handles.specs.{OnOk, IfErr, OnErr, IsRaceWith, LacksRanges, Copies};
+ghost use Rattle.std.specs.Prelude.{◌≡◌, ◌+◌, ◌≤◌};
+ghost use Rattle.g1_handles.specs.{IsOk, OnOk, IfErr, OnErr, slot_count, IsRaceWith};
+ghost use Rattle.g1_handles.specs.{LacksRanges, Copies};
 
 use crate::code::Reason;
 use crate::heap::at_pause::PausedHeap;
@@ -10,6 +11,8 @@ use crate::one_core::copy::has_slots;
 /// Returns `NoSlot` if one of the two ranges leaves the heap: nothing has changed.
 pub fn copy_at(heap: &mut PausedHeap, from: u32, to: u32, count: u32) -> Result<(), Reason>
     ensures copied { OnOk result (Copies heap.old from to count heap.new) }
+    ensures within { IsOk result → (from + count ≤ slot_count heap.old.layout)
+        × (to + count ≤ slot_count heap.old.layout) }
     ensures why { IfErr result (LacksRanges heap.old.layout from count to count) }
     ensures refused { OnErr result (heap.new ≡ heap.old) }
     ensures kept { IsRaceWith heap.new.logs heap.old heap.new }

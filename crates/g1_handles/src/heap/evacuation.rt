@@ -19,7 +19,6 @@ pub fn clear_at(heap: &mut PausedHeap, region: u32) -> Result<(u32, u32), Reason
     ensures cleared { IfOk result (λ answer.
         ClearsAt heap.old region (cleared_of answer.0 answer.1) heap.new) }
     ensures words { IfOk result (λ answer. IsClearWord answer.0 answer.1) }
-    ensures left { IfOk result (λ answer. 0 < answer.0 → heap.new ≡ heap.old) }
     ensures why { IfErr result (LacksRegion heap.old.layout region) }
     ensures refused { OnErr result (heap.new ≡ heap.old) }
     ensures kept { IsRaceWith heap.new.logs heap.old heap.new }

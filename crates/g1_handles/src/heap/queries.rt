@@ -2,8 +2,8 @@
 //! recorded, and what is recorded for a region, card by card.
 ghost use Rattle.std.specs.Prelude.{◌≡◌};
 ghost use Rattle.g1_handles.specs.{IfOk, IfErr, reference_of, IsRaceWith, TellsTarget};
-ghost use Rattle.g1_handles.specs.{TellsPending, TellsStatus, table_at, IsNextMember, LacksCard};
-ghost use Rattle.g1_handles.specs.{LacksRegion, LacksSlot};
+ghost use Rattle.g1_handles.specs.{TellsPending, TellsStatus, table_at, TellsNextMember};
+ghost use Rattle.g1_handles.specs.{LacksCard, LacksRegion, LacksSlot};
 
 use crate::code::{NULL, Reason};
 use crate::heap::at_pause::PausedHeap;
@@ -51,7 +51,7 @@ pub fn status_at(heap: &mut PausedHeap) -> Status
 /// of null if there is none. Returns `NoRegion` if the call was refused.
 pub fn next_member_at(heap: &mut PausedHeap, region: u32, from: u32) -> Result<u32, Reason>
     ensures next { IfOk result (λ word.
-        IsNextMember (table_at heap.old) region from (reference_of word)) }
+        TellsNextMember (table_at heap.old) region from (reference_of word)) }
     ensures why { IfErr result (LacksRegion heap.old.layout region) }
     ensures same { heap.new ≡ heap.old }
     ensures kept { IsRaceWith heap.new.logs heap.old heap.new }

@@ -32,8 +32,8 @@ pub enum SetTold {
     First(u32),
 }
 
-/// Writes the set of a region of a heap to the front of an array, ascending, as far as it reaches.
-/// Takes no memory.
+/// Writes the set of a region of a heap to the front of an array, ascending, as far as the array
+/// reaches. Takes no memory.
 ///
 /// Returns `NotOpen`, `NotPaused` or `NoRegion` if the call was refused: nothing has changed.
 pub fn set_of_heap(

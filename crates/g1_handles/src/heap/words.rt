@@ -2,8 +2,8 @@
 //! which refers to nothing.
 ghost use Rattle.std.specs.Prelude.{◌≡◌};
 ghost use Rattle.g1_handles.specs.{Some, IfOk, OnOk, IfErr, OnErr, race_words};
-ghost use Rattle.g1_handles.specs.{IsRaceWith, HasWord, StoresDataAt, OfHeap, SaysNoHeap};
-ghost use Rattle.g1_handles.specs.{LacksSlot, SaysNoData};
+ghost use Rattle.g1_handles.specs.{IsRaceWith, TellsWord, StoresDataAt, OfHeap, SaysNoHeap};
+ghost use Rattle.g1_handles.specs.{LacksSlot, SaysNoData, start_at};
 
 use crate::any_handle::{closed, into_box, opened};
 use crate::code::Reason;
@@ -36,7 +36,7 @@ pub fn words_of_heap(handle: HeapHandle, alloc: Global) -> (HeapHandle, Result<*
 /// Returns a slot's word: 0 for null, the number of the slot that it refers to plus 1, or data from
 /// 2^32 on. Returns `NoSlot` if the call was refused.
 pub fn word_at(heap: &mut PausedHeap, slot: u32) -> Result<u64, Reason>
-    ensures word { IfOk result (HasWord heap.old slot) }
+    ensures word { IfOk result (TellsWord heap.old.layout (start_at heap.old) slot) }
     ensures why { IfErr result (LacksSlot heap.old.layout slot) }
     ensures same { heap.new ≡ heap.old }
     ensures kept { IsRaceWith heap.new.logs heap.old heap.new }

@@ -29,8 +29,8 @@ pub struct Swapped {
 pub enum Exchange {
     /// The slot had what was expected, and has the target by a store of this kind.
     Stored(Kind),
-    /// The slot has something else, and nothing was stored. This is the word of what it refers to,
-    /// that for null also where it has data.
+    /// The slot has something else, and nothing was stored. This is the word of what it refers to;
+    /// if it has data, that is the word for null.
     Differs(u32),
 }
 
@@ -70,6 +70,9 @@ pub fn compare_exchange_by(
     ensures exchange { IfOk result (λ exchange. OfRacer (Some member.old) (λ a.
         OfRacer (Some member.new) (λ b. IsExchange a slot (reference_of expected)
         (reference_of target) exchange b))) }
+    ensures within { IsOk result → OfRacer (Some member.old) (λ a.
+        IsStoreOf (race_layout a.race) slot expected
+        × IsStoreOf (race_layout a.race) slot target) }
     ensures taken { IfRacer (Some member.old) (λ a. array_vec_len a.racer.log < 256
         → IsStoreOf (race_layout a.race) slot expected
         → IsStoreOf (race_layout a.race) slot target → IsOk result) }

@@ -1,8 +1,8 @@
 //! What a reader answers, as the heap does at its pause.
 ghost use Rattle.std.specs.Prelude.{◌≡◌};
 ghost use Rattle.g1_handles.specs.{Some, IfOk, IfErr, reference_of, OfReader, reader_layout};
-ghost use Rattle.g1_handles.specs.{table_of_reader, TellsTarget, TellsPending, IsNextMember};
-ghost use Rattle.g1_handles.specs.{ReadsWord, ReadsPair};
+ghost use Rattle.g1_handles.specs.{table_of_reader, TellsTarget, TellsPending, TellsNextMember};
+ghost use Rattle.g1_handles.specs.{TellsWord, ReadsPair};
 ghost use Rattle.g1_handles.specs.{IsReaderRefused, LacksCard, LacksPair, LacksRegion, LacksSlot};
 
 use crate::code::{NULL, Reason};
@@ -33,7 +33,8 @@ pub fn target_by(member: &mut Member<Reader>, slot: u32) -> Result<u32, Reason>
 /// it is.
 pub fn word_by(member: &mut Member<Reader>, slot: u32) -> Result<u64, Reason>
     ensures word { IfOk result (λ word.
-        OfReader (Some member.old) (λ a. ReadsWord a slot word)) }
+        OfReader (Some member.old) (λ a.
+        TellsWord (reader_layout a) a.reader.start slot word)) }
     ensures why { IfErr result (IsReaderRefused (Some member.old)
         (λ a. LacksSlot (reader_layout a) slot)) }
     ensures same { member.new ≡ member.old }
@@ -86,7 +87,7 @@ pub fn has_by(member: &mut Member<Reader>, card: u32, region: u32) -> Result<boo
 pub fn next_member_by(member: &mut Member<Reader>, region: u32, from: u32) -> Result<u32, Reason>
     ensures next { IfOk result (λ word.
         OfReader (Some member.old) (λ a.
-        IsNextMember (table_of_reader a) region from (reference_of word))) }
+        TellsNextMember (table_of_reader a) region from (reference_of word))) }
     ensures why { IfErr result (IsReaderRefused (Some member.old)
         (λ a. LacksRegion (reader_layout a) region)) }
     ensures same { member.new ≡ member.old }

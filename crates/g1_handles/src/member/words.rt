@@ -44,6 +44,8 @@ pub fn compare_exchange_word_by(
 ) -> Result<Result<Kind, u64>, Reason>
     ensures exchange { IfOk result (λ exchange. OfRacer (Some member.old) (λ a.
         OfRacer (Some member.new) (λ b. IsWordExchange a slot expected word exchange b))) }
+    ensures can { IsOk result → OfRacer (Some member.old) (λ a.
+        CanStoreWord a.race a.racer slot word × MayHave a.race expected) }
     ensures taken { IfRacer (Some member.old) (λ a.
         CanStoreWord a.race a.racer slot word
         → MayHave a.race expected → IsOk result) }

@@ -1,13 +1,13 @@
 //! Several stores by one call.
 ghost use Rattle.std.specs.Prelude.{◌≡◌, ◌≤◌};
 ghost use Rattle.g1_handles.specs.Prelude.{true, false, length, take, IfOk, OnErr, IfErr};
-ghost use Rattle.g1_handles.specs.Prelude.{IfNone, MatchOption};
+ghost use Rattle.g1_handles.specs.Prelude.{IfNone, IsSome, MatchOption};
 ghost use Rattle.g1_handles.specs.Codes.{IsStoreOf};
 ghost use Rattle.g1_handles.specs.Refusals.{AreStoresRefused};
-ghost use Rattle.g1_handles.specs.Batch.{made, made_all, cards_of, IsFaultAt};
+ghost use Rattle.g1_handles.specs.Batch.{made, made_all, cards_of, AreStoresOf, IsFaultAt};
 
 use crate::code::Reason;
-use crate::one_core::store::reference;
+use crate::one_core::store::store_of;
 use arrayvec::ArrayVec;
 use g1_core::Core;
 use g1_layout::Card;
@@ -43,6 +43,8 @@ pub fn store_all_in(core: &mut Core, stores: &[Store], room: usize) -> Result<St
       machine = core.new;
       cards = answer.cards.items;
     } ≡ made_all core.old (take answer.count stores.now)) }
+    ensures within { IfOk result (λ answer.
+        AreStoresOf core.old.state.table.layout (take answer.count stores.now)) }
     ensures whole { IfOk result (λ answer. answer.is_whole ≡ true
         → answer.count ≡ length stores.now) }
     ensures stopped { IfOk result (λ answer. answer.is_whole ≡ false
@@ -83,6 +85,8 @@ pub fn store_all_in(core: &mut Core, stores: &[Store], room: usize) -> Result<St
 /// slot or target.
 fn store_next(core: &mut Core, store: Store) -> Option<Option<Card>>
     ensures layout { core.new.state.table.layout ≡ core.old.state.table.layout }
+    ensures within { IsSome result → IsStoreOf core.old.state.table.layout store.slot
+        store.target }
     ensures none { IfNone result (IsStoreOf core.old.state.table.layout store.slot store.target
         → ⊥) }
     ensures made { MatchOption result (core.new ≡ core.old) (λ card. (cards : _)
@@ -91,9 +95,7 @@ fn store_next(core: &mut Core, store: Store) -> Option<Option<Card>>
           cards = cards_of cards card;
         } ≡ made (record { machine = core.old; cards = cards }) store) }
 {
-    let layout = core.layout();
-    let slot = layout.slot(store.slot)?;
-    let target = reference(layout, store.target)?;
+    let (slot, target) = store_of(core.layout(), store.slot, store.target).ok()?;
     let (_kind, dirtied) = core.store_unlogged(slot, target);
     Some(dirtied)
 }

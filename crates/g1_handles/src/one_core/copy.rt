@@ -13,6 +13,8 @@ pub fn copy_in(core: &mut Core, from: u32, to: u32, count: u32) -> Result<(), Re
     ensures copied { OnOk result (DoesCopy from to count core.old core.new) }
     ensures answered { from + count ≤ slot_count core.old.state.table.layout
         → to + count ≤ slot_count core.old.state.table.layout → IsOk result }
+    ensures within { IsOk result → (from + count ≤ slot_count core.old.state.table.layout)
+        × (to + count ≤ slot_count core.old.state.table.layout) }
     ensures why { IfErr result
         (LacksRanges core.old.state.table.layout from count to count) }
     ensures refused { OnErr result (core.new ≡ core.old) }

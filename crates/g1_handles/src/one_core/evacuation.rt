@@ -1,6 +1,6 @@
 //! The clear and the redirect, which may follow an evacuation.
 ghost use Rattle.std.specs.Prelude.{◌≡◌, ◌≢◌, ◌<◌};
-ghost use Rattle.g1_handles.specs.{IfOk, IfErr, OnErr, IsOnlyRead, cleared_of};
+ghost use Rattle.g1_handles.specs.{IfOk, IfErr, OnErr, cleared_of};
 ghost use Rattle.g1_handles.specs.{IsClearWord, ClearsTo, LacksRegion, redirect_refined};
 ghost use Rattle.g1_handles.specs.{IsRedirectRefused, RedirectsTo, FitIn, IsOk, SaysNoMove};
 
@@ -20,7 +20,6 @@ pub fn clear_in(core: &mut Core, region: u32) -> Result<(u32, u32), Reason>
     ensures cleared { IfOk result (λ answer.
         ClearsTo core.old region (cleared_of answer.0 answer.1) core.new) }
     ensures words { IfOk result (λ answer. IsClearWord answer.0 answer.1) }
-    ensures left { IfOk result (λ answer. 0 < answer.0 → IsOnlyRead core.old core.new) }
     ensures why { IfErr result (LacksRegion core.old.state.table.layout region) }
     ensures refused { OnErr result (core.new ≡ core.old) }
 {

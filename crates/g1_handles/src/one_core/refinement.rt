@@ -1,6 +1,6 @@
 //! Refinement.
 ghost use Rattle.std.specs.Prelude.{◌≡◌, ◌<◌, ◌≤◌, if◌then◌else◌};
-ghost use Rattle.g1_handles.specs.{length, All, IfSome, IfNone, IfOk};
+ghost use Rattle.g1_handles.specs.{length, All, IfSome, IfNone, IfOk, IsSome};
 ghost use Rattle.g1_handles.specs.{IfErr, OnErr, card_count, IsRefinementRefused, RefinesTo};
 ghost use Rattle.g1_handles.specs.{reply_of};
 
@@ -27,8 +27,6 @@ pub fn reply_word(reply: &RefineReply) -> u32
 /// 256 cards, `NoCard`, or `NoMemory`: nothing has changed.
 pub fn refine_in(core: &mut Core, cards: &[u32], room: usize) -> Result<RefineReply, Reason>
     ensures refined { IfOk result (λ reply. RefinesTo core.old cards.now reply core.new) }
-    ensures taken { IfOk result (λ reply. (reply.taken ≡ (if reply.short then 0 else 1))
-        × (reply.left ≡ 0)) }
     ensures few { IfOk result (λ reply.
         (length reply.refined ≤ room) × (length reply.refined ≤ 256)) }
     ensures why { IfErr result
@@ -54,6 +52,7 @@ pub fn refine_in(core: &mut Core, cards: &[u32], room: usize) -> Result<RefineRe
 fn buffer_of(layout: Layout, cards: &[u32]) -> Option<Buffer>
     requires { length cards.now ≤ 256 }
     ensures cards { IfSome result (λ buffer. buffer ≡ cards.now) }
+    ensures within { IsSome result → All (λ card. card < card_count layout) cards.now }
     ensures none { IfNone result (All (λ card. card < card_count layout) cards.now → ⊥) }
 {
     let mut list: ArrayVec<Card, 256> = ArrayVec::new();
