@@ -28,7 +28,7 @@ one_more xs ys card false e = omega (arith, ap length e)
 pub stores_logged : (a b : Racing) (ss : List Store) → StoresAll a ss b → array_vec_len b.racer.log ≤ array_vec_len a.racer.log + length ss
 stores_logged a b [] e = let same : array_vec_len b.racer.log ≡ array_vec_len a.racer.log = ap (λ (x : Racing). array_vec_len x.racer.log) e in omega (arith, same)
 stores_logged a b (s ∷ ss) (c, k, h, rest) =
-    omega (arith, one_more a.racer.log.items c.racer.log.items (slot_card (race_shape a.race) s.slot) (is_logged k) h.log, stores_logged c b ss rest)
+    omega (arith, one_more a.racer.log.items c.racer.log.items (slot_card (race_shape a.race) s.slot) (is_logged k) h.stored.1.log, stores_logged c b ss rest)
 
 -- why there is no next store
 pub stores_end : (a b : Racing) (ss : List Store) (i : ℕ) (d : Store) (r : Reason) (end : BatchEnd) → i < length ss → StoresAll a (take i ss) b

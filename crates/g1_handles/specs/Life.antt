@@ -5,7 +5,7 @@ use Rattle.g1_handles.specs.Prelude.{IsSome, IsSomeAnd, Box, Vec, length, map, r
 use Rattle.g1_handles.specs.Prelude.{arc_value, Global, IsShape, opening, IsCovered, beginning}
 use Rattle.g1_handles.specs.Prelude.{View, Race, Racer, race_id, race_layout, racer_log, IsNewRacer}
 use Rattle.g1_handles.specs.Prelude.{Contains, IsNewSweeper, race_shape, Pause, table_at, start_at}
-use Rattle.g1_handles.specs.Prelude.{ended_of, IsKnown, IsOver, null_of, race_begun}
+use Rattle.g1_handles.specs.Prelude.{ended_of, null_of}
 use Rattle.g1_layout.specs.Shape as layout
 use Rattle.g1_core.specs.Adoption.{IsPairOf}
 use Rattle.g1_race.specs.Drain.{began}
@@ -221,17 +221,6 @@ abbrev pub AreOfHeap : Option RacingHeap → List (Option RacerMember)
     → List (Option SweeperMember) → Type 0
 AreOfHeap h racers sweepers = OfRacing h (λ b.
     All (IsOf (arc_value b.race)) racers × All (IsOf (arc_value b.race)) sweepers)
-
--- a pause of the race, whose racers and sweepers know this, and whose racers have these logs
-pub record IsPauseOf (race : Race) (racers sweepers : List View) (logs : List (List ℕ))
-    (p : Pause) : Type 0 where
-  pub layout : (ended_of p).layout ≡ race_layout race
-  pub pairs : (x : ℕ × ℕ) → Contains (ended_of p).pairs x
-      ↔ IsKnown (race_begun race racers sweepers) sweepers x
-  pub over : IsOver (race_begun race racers sweepers) (ended_of p).words racers sweepers
-  pub within : (x : ℕ × ℕ) → Contains (ended_of p).pairs x → IsPairOf (race_layout race) x
-  pub cover : IsCovered (table_at p)
-  pub kept : p.logs ≡ logs
 
 -- a pause of the heap of the first handle; whether the members are of its race, each given once, is
 -- found out by counts, of which no proof knows, once they are as many as the heap's

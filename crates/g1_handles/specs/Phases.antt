@@ -1,10 +1,10 @@
 -- How a heap goes from its race to a pause and back, and from a pause to a reading and back. Of the
 -- lists of handles the first is before the call, and the second after it.
 use Rattle.std.specs.Prelude.{◌≡◌}
-use Rattle.g1_handles.specs.Prelude.{ℕ, List, Option, arc_value, map}
+use Rattle.g1_handles.specs.Prelude.{ℕ, List, Option, arc_value, map, IsPauseOf}
 use Rattle.g1_handles.specs.declared.heap.racing_heap.RacingHeap.{RacingHeap}
 use Rattle.g1_handles.specs.Own.{RacerMember, SweeperMember, ReaderMember}
-use Rattle.g1_handles.specs.Life.{OfHeap, OfPaused, OfRacing, IsFor, AreLikeOf, IsPauseOf, log_in}
+use Rattle.g1_handles.specs.Life.{OfHeap, OfPaused, OfRacing, IsFor, AreLikeOf, log_in}
 use Rattle.g1_handles.specs.Life.{GoesOn, heap_race, heap_counts, held_counts}
 use Rattle.g1_handles.specs.Racing.{AreClosed, racer_knows, sweeper_knows}
 use Rattle.g1_handles.specs.Readers.{AreReadersAt, AreReadersLike, IsLentHeap, IsReadBy}

@@ -70,12 +70,12 @@ pub use Rattle.g1_race.specs.Calls.{StoresDataAt, Wipes}
 pub use Rattle.g1_race.specs.Evacuating.{forgotten, IsExactAtPause, IsRaceWith, IsSameRace}
 pub use Rattle.g1_race.specs.Evacuating.{one_word, SlotsBecome, wiped}
 pub use Rattle.g1_race.specs.Members.{HasDiffered, HasNotStored, HasOverwritten, HasStored}
-pub use Rattle.g1_race.specs.Members.{is_logged, IsKind, IsNewRacer, IsNewSweeper, race_begun}
+pub use Rattle.g1_race.specs.Members.{is_logged, IsKind, IsNewRacer, IsNewSweeper, IsPauseOf}
 pub use Rattle.g1_race.specs.Members.{race_id, race_layout, race_shape, race_words, racer_log}
 pub use Rattle.g1_race.specs.Members.{racer_race, racer_view, sweeper_race, sweeper_start}
 pub use Rattle.g1_race.specs.Members.{sweeper_view}
 pub use Rattle.g1_race.specs.Over.{ended, ended_of, Pause, start_at, table_at, table_of}
-pub use Rattle.g1_race.specs.Race.{IsKnown, IsOver, stored_view, word_of}
+pub use Rattle.g1_race.specs.Race.{stored_view, word_of}
 pub use Rattle.g1_race.specs.Reading.{IsNextMember, IsReaderOf, Known, known, reader_race}
 pub use Rattle.g1_race.specs.Reading.{table_read}
 pub use Rattle.g1_race.specs.Telling.{marked_cards}

@@ -3,8 +3,8 @@ use Rattle.std.specs.Prelude.{◌≡◌, ◌≤◌, ◌^◌, ◌∷◌, ◌++◌
 use Rattle.g1_handles.specs.Prelude.{ℕ, List, [], map, All}
 use Rattle.g1_handles.specs.Prelude.{Option, Some, None, IsSome, IsSomeAnd, IfSome, false, Bool}
 use Rattle.g1_handles.specs.Prelude.{length, arc_value, Kind, Null, Race, Racer, Sweeper, View}
-use Rattle.g1_handles.specs.Prelude.{IsWord, slot_card, IsFound, word_of, stored_view, race_shape}
-use Rattle.g1_handles.specs.Prelude.{racer_view, sweeper_start, sweeper_view, IsKind, is_logged}
+use Rattle.g1_handles.specs.Prelude.{IsWord, IsFound, HasStored, stored_view, race_shape}
+use Rattle.g1_handles.specs.Prelude.{racer_view, sweeper_start, sweeper_view}
 use Rattle.g1_race_words.specs.Steps.{no_seat}
 use Rattle.g1_handles.specs.declared.member.Role.{Ghosts}
 use Rattle.g1_handles.specs.declared.member.Member.{Member}
@@ -69,12 +69,7 @@ IfSweeper m Q = IfRole sweeping_in m Q
 -- a racer before and after a store of the place t to slot p
 pub record Stores (a : Racing) (p : ℕ) (t : Option ℕ) (k : Kind) (b : Racing) : Type 0 where
   pub race : b.race ≡ a.race
-  pub kind : IsKind (race_shape a.race) p t k
-  pub view : (old : ℕ) × (racer_view b.racer ≡ stored_view (race_shape a.race)
-      (racer_view a.racer) p (word_of t) old (is_logged k))
-  pub log : b.racer.log.items ≡ (if is_logged k
-      then a.racer.log.items ++ slot_card (race_shape a.race) p ∷ []
-      else a.racer.log.items)
+  pub stored : (old : ℕ) × HasStored (race_shape a.race) p t old k a.racer b.racer
   pub counts : b.counts ≡ with_store a.counts k
 
 -- a racer before and after it stored this word of data to slot p, which had the old word

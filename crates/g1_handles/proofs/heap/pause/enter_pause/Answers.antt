@@ -4,14 +4,6 @@ use Rattle.g1_handles.proofs.heap.pause.enter_pause.Goals as goal
 
 pub returns-clause-paused : goal.returns-clause-paused
 returns-clause-paused c =
-    let e = c.of-pause.ensures in
     let b = c.in-Racing.under_way in
     let asked = rw c.in-Racing.is at c.requires in
-    rw c.in-Racing.is (subst (λ (race : Race). IsPauseOf race (map racer_view b.racers.roles.items) (map sweeper_view b.sweepers.roles.items) (map racer_log b.racers.roles.items) c.of-pause.result) asked.0 (record {
-      layout = e.layout;
-      pairs = e.pairs;
-      over = e.over;
-      within = e.within;
-      cover = e.cover;
-      kept = e.logs;
-    }))
+    rw c.in-Racing.is (subst (λ (race : Race). IsPauseOf race (map racer_view b.racers.roles.items) (map sweeper_view b.sweepers.roles.items) (map racer_log b.racers.roles.items) c.of-pause.result) asked.0 c.of-pause.ensures)
