@@ -1,13 +1,12 @@
 -- The life of a heap whose stores race.
-use Rattle.std.specs.Prelude.{◌≡◌, ◌⊎◌, ◌≤◌, ◌↔◌}
+use Rattle.std.specs.Prelude.{◌≡◌, ◌⊎◌, ◌≤◌}
 use Rattle.g1_handles.specs.Prelude.{ℕ, List, [], All, Any, Option, Some, None}
 use Rattle.g1_handles.specs.Prelude.{IsSome, IsSomeAnd, Box, Vec, length, map, replicate, vec_len}
-use Rattle.g1_handles.specs.Prelude.{arc_value, Global, IsShape, opening, IsCovered, beginning}
-use Rattle.g1_handles.specs.Prelude.{View, Race, Racer, race_id, race_layout, racer_log, IsNewRacer}
-use Rattle.g1_handles.specs.Prelude.{Contains, IsNewSweeper, race_shape, Pause, table_at, start_at}
-use Rattle.g1_handles.specs.Prelude.{ended_of, null_of}
+use Rattle.g1_handles.specs.Prelude.{arc_value, Global, IsShape, opening, beginning}
+use Rattle.g1_handles.specs.Prelude.{Race, Racer, race_id, race_layout, racer_log, IsNewRacer}
+use Rattle.g1_handles.specs.Prelude.{IsNewSweeper, race_shape, Pause, table_at, start_at}
+use Rattle.g1_handles.specs.Prelude.{null_of}
 use Rattle.g1_layout.specs.Shape as layout
-use Rattle.g1_core.specs.Adoption.{IsPairOf}
 use Rattle.g1_race.specs.Drain.{began}
 use Rattle.g1_handles.specs.declared.code.Reason.{Reason}
 use Rattle.g1_handles.specs.declared.code.Reason.TheVariants as refusal

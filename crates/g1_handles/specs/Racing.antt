@@ -1,5 +1,5 @@
 -- What the calls on the members of a race do.
-use Rattle.std.specs.Prelude.{◌≡◌, ◌≤◌, ◌^◌, ◌∷◌, ◌++◌, if◌then◌else◌, ◌+◌}
+use Rattle.std.specs.Prelude.{◌≡◌, ◌≤◌, ◌^◌, ◌∷◌, if◌then◌else◌, ◌+◌}
 use Rattle.g1_handles.specs.Prelude.{ℕ, List, [], map, All}
 use Rattle.g1_handles.specs.Prelude.{Option, Some, None, IsSome, IsSomeAnd, IfSome, false, Bool}
 use Rattle.g1_handles.specs.Prelude.{length, arc_value, Kind, Null, Race, Racer, Sweeper, View}
