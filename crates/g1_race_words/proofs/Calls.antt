@@ -1,12 +1,13 @@
 -- What the calls of a step ask, of the table and the seat inside.
 use Rattle.std.specs.Prelude.{◌≡◌, ◌-◌, ◌*◌, ◌%◌, ◌^◌, ◌<◌, ◌≤◌, ◌==◌, ◌∷◌}
-use Rattle.g1_race_words.specs.{ℕ, bit_or, cond, List, [], set, get_or, Bool, true, false, None, refl, sym, ap, ◌∙◌, subst, ⊎_elim, arith, some, some-injective, get_elem?, either, Me, keeps, Allows, Splits, Joins, TableId, Seat, set_again, set-get_or, RaceShape, View, Start, AtRest, Going, StoreHistory, IsBegun, IsBlank, IsWholeShape, IsWord, Raced, beginning, mark_word, bit_word, bit_index, flag, started, word_count, both, whole_seat, cleaned, dirtied, exchanged, frozen_seat, after_split, looked, new_racer, new_sweeper, new_reader, no_seat, owed_card, changed_at, raised, read, recorded, sought, spotted, thawed, wrote, Freezes, HoldsBit, IsWholeSeat, IsFound, IsMark, IsAtPause, IsPaused, OwesFlag, OwesMark, Sits}
+use Rattle.g1_race_words.specs.{ℕ, bit_or, cond, List, [], set, get_or, Bool, true, false, None, refl, sym, ap, ◌∙◌, subst, arith, some, get_elem?, either, Me, keeps, Allows, Splits, Joins, TableId, Seat, set_again, set-get_or, RaceShape, View, AtRest, Going, StoreHistory, IsBegun, IsBlank, IsWholeShape, IsWord, Raced, mark_word, bit_word, bit_index, flag, started, word_count, both, whole_seat, cleaned, dirtied, exchanged, frozen_seat, after_split, looked, new_racer, new_sweeper, new_reader, no_seat, owed_card, changed_at, raised, read, recorded, sought, spotted, thawed, wrote, Freezes, HoldsBit, IsWholeSeat, IsFound, IsMark, IsAtPause, IsPaused, OwesFlag, OwesMark, Sits}
 use Rattle.g1_race_words.proofs.PairBits.{word_below}
 use Rattle.g1_race_words.proofs.Flags.{flag_below}
 use Rattle.g1_race_words.proofs.Plain.{read_at}
 use Rattle.g1_race_words.proofs.Tallies.{number_given, number_dropped}
 use Rattle.g1_race_words.proofs.Writing.{raced_wrote}
 use Rattle.g1_race_words.proofs.Marking.{raced_looked, raced_dirtied, raced_cleaned}
+use Rattle.g1_race_words.proofs.Finding.{found_word, found_mark}
 use Rattle.g1_race_words.proofs.Reading.{raced_read}
 use Rattle.g1_race_words.proofs.Recording.{raced_sought, raced_recorded}
 use Rattle.g1_race_words.proofs.Raising.{raced_spotted, raced_raised}
@@ -45,26 +46,15 @@ module _ (z : TableId) (k : RaceShape) (fits : z.words ≡ word_count k) (shaped
       → Owed i (λ n. n) then
   loads i w then lt sits stays goes = swaps i (λ n. n) w then lt sits stays (λ words views h at. rw (set-get_or words i 0) (goes words views h at))
 
-  -- what a step finds at a slot
-  found : (p : ℕ) (words : List ℕ) (views : List View) (h : Going k words views) → get_elem? views s.id ≡ some v → v.weight ≡ 1 → p < k.slots → IsFound v p (get_or words p 0)
-  found p words views h at one lt = record {
-    words = words;
-    views = views;
-    id = s.id;
-    raced = subst (λ (b : Start). Raced (beginning b) words views) (sym (h.agreed s.id v at (omega (arith, one))).0) h.raced;
-    mine = at;
-    there = read_at words p (omega (arith, h.raced.sized));
-  }
-
   pub write_owed : (p n : ℕ) → Sits k v × ((h : StoreHistory) × (v.histories ≡ h ∷ [])) → v.owed ≡ None → p < k.slots → IsWord k n
       → Owed p (λ _. n) (λ m after. Is (wrote v p n) m after × IsFound v p m)
   write_owed p n racer free lt bound = swaps p (λ _. n) (wrote v p n) (λ m after. Is (wrote v p n) m after × IsFound v p m) (omega (arith, fits, lt)) racer.0 (λ m. (refl, refl, refl, refl))
-      (λ words views h at. (raced_wrote (begun k words views h) words views s.id v p n racer.1.0 racer.0 free racer.1.1 lt bound at h.raced, (refl, found p words views h at racer.0.weight lt)))
+      (λ words views h at. (raced_wrote (begun k words views h) words views s.id v p n racer.1.0 racer.0 free racer.1.1 lt bound at h.raced, (refl, found_word k s.id v p words views h at racer.0.weight lt)))
 
   pub exchange_owed : (p old n : ℕ) → Sits k v × ((h : StoreHistory) × (v.histories ≡ h ∷ [])) → v.owed ≡ None → p < k.slots → IsWord k n
       → Owed p (λ m. either (m == old) n m) (λ m after. Is (exchanged v p old n) m after × IsFound v p m)
   exchange_owed p old n racer free lt bound = swaps p (λ m. either (m == old) n m) (exchanged v p old n) (λ m after. Is (exchanged v p old n) m after × IsFound v p m) (omega (arith, fits, lt)) racer.0 (λ m. stays (m == old) m)
-      (λ words views h at. (goes words views h at (get_or words p 0 == old), (refl, found p words views h at racer.0.weight lt)))
+      (λ words views h at. (goes words views h at (get_or words p 0 == old), (refl, found_word k s.id v p words views h at racer.0.weight lt)))
     where
       stays : (b : Bool) (m : ℕ) → Stays v (cond b (wrote v p n m) v)
       stays true m = (refl, refl, refl, refl)
@@ -74,18 +64,13 @@ module _ (z : TableId) (k : RaceShape) (fits : z.words ≡ word_count k) (shaped
       goes words views h at true = raced_wrote (begun k words views h) words views s.id v p n racer.1.0 racer.0 free racer.1.1 lt bound at h.raced
       goes words views h at false = rw (set-get_or words p 0, set_again views s.id v at) h.raced
 
-  -- what a step finds at a mark
-  mark : (c : ℕ) (words : List ℕ) (views : List View) (h : Going k words views) → c < k.cards → get_or words (mark_word k c) 0 ≤ 1
-  mark c words views h lt = let is = read_at words (mark_word k c) (omega (arith, h.raced.sized, lt)) in
-      ⊎_elim (λ x. omega (arith, some-injective _ _ (sym is ∙ x.0))) (λ x. omega (arith, some-injective _ _ (sym is ∙ x.0))) (h.raced.claimed c lt)
-
   -- a step after which the view is this, at a mark
   abbrev OfMark : (ℕ → View) → ℕ → Me (Unit {0}) View → Type 0
   OfMark w n after = Is w n after × (n ≤ 1)
 
   pub look_owed : (word : ℕ) → Sits k v → OwesMark k v word → Owed word (λ n. n) (OfMark (looked v))
   look_owed word sits (c, owes, lt, is) = rw is (loads (mark_word k c) (looked v) (OfMark (looked v)) (omega (arith, fits, lt)) sits (λ n. (refl, refl, refl, refl))
-      (λ words views h at. (raced_looked (begun k words views h) words views s.id v c sits owes lt at h.raced, (refl, mark c words views h lt))))
+      (λ words views h at. (raced_looked (begun k words views h) words views s.id v c sits owes lt at h.raced, (refl, found_mark k c words views h lt))))
 
   pub spot_owed : (word : ℕ) → Sits k v → (c : ℕ) → OwesFlag k v c word → Owed word (λ n. n) (Is (spotted v))
   spot_owed word sits c (owes, lt, is) = rw is (loads (bit_word k (flag k c)) (spotted v) (Is (spotted v)) (omega (arith, fits, flag_below k c shaped lt)) sits (λ n. (refl, refl, refl, refl))
@@ -98,16 +83,16 @@ module _ (z : TableId) (k : RaceShape) (fits : z.words ≡ word_count k) (shaped
 
   pub dirty_owed : (word : ℕ) → Sits k v → OwesMark k v word → v.flagged ≡ owed_card v.owed → Owed word (λ _. 1) (OfMark (dirtied v (word - v.shape.slots)))
   dirty_owed word sits (c, owes, lt, is) flagged = rw (is, card_back k v c sits.shape) (swaps (mark_word k c) (λ _. 1) (dirtied v c) (OfMark (dirtied v c)) (omega (arith, fits, lt)) sits (λ n. (refl, refl, refl, refl))
-      (λ words views h at. (raced_dirtied (begun k words views h) words views s.id v c sits owes flagged lt at h.raced, (refl, mark c words views h lt))))
+      (λ words views h at. (raced_dirtied (begun k words views h) words views s.id v c sits owes flagged lt at h.raced, (refl, found_mark k c words views h lt))))
 
   pub clean_owed : (word : ℕ) → Sits k v → v.next ≡ v.end → IsMark k word → Owed word (λ _. 0) (OfMark (cleaned v (word - v.shape.slots)))
   clean_owed word sits done (c, lt, is) = rw (is, card_back k v c sits.shape) (swaps (mark_word k c) (λ _. 0) (cleaned v c) (OfMark (cleaned v c)) (omega (arith, fits, lt)) sits (λ n. (refl, refl, refl, refl))
-      (λ words views h at. (raced_cleaned (begun k words views h) words views s.id v c sits shaped.1 done lt at h.raced, (refl, mark c words views h lt))))
+      (λ words views h at. (raced_cleaned (begun k words views h) words views s.id v c sits shaped.1 done lt at h.raced, (refl, found_mark k c words views h lt))))
 
   pub read_owed : (p : ℕ) → Sits k v → v.held ≡ [] → v.next ≡ p → p < k.slots
       → Owed p (λ n. n) (λ n after. Is (read v p) n after × IsWord v.shape n × IsFound v p n)
   read_owed p sits free next lt = loads p (read v p) (λ n after. Is (read v p) n after × IsWord v.shape n × IsFound v p n) (omega (arith, fits, lt)) sits (λ n. (refl, refl, refl, refl))
-      (λ words views h at. (raced_read (begun k words views h) words views s.id v p sits free next lt at h.raced, (refl, subst (λ (x : RaceShape). IsWord x (get_or words p 0)) (sym sits.shape) (h.raced.bounded p _ lt (read_at words p (omega (arith, h.raced.sized)))), found p words views h at sits.weight lt)))
+      (λ words views h at. (raced_read (begun k words views h) words views s.id v p sits free next lt at h.raced, (refl, subst (λ (x : RaceShape). IsWord x (get_or words p 0)) (sym sits.shape) (h.raced.bounded p _ lt (read_at words p (omega (arith, h.raced.sized)))), found_word k s.id v p words views h at sits.weight lt)))
 
   pub seek_owed : (word : ℕ) → Sits k v → (x : ℕ × ℕ) → HoldsBit k v x word → Owed word (λ n. n) (Is (sought v))
   seek_owed word sits x (held, pair, is) = rw is (loads (bit_word k x) (sought v) (Is (sought v)) (omega (arith, fits, word_below k x shaped pair)) sits (λ n. (refl, refl, refl, refl))

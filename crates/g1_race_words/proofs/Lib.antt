@@ -21,6 +21,7 @@ pub mod AtBeginning
 pub mod Going
 pub mod GoingAnew
 pub mod Blanks
+pub mod Finding
 pub mod Calls
 pub mod StepKinds
 pub mod Together
