@@ -268,7 +268,8 @@ struct g1_totals {
 /*
  * Opens a closed handle on a new core: each slot is null, no card is pending, and nothing is
  * recorded. From `hot` refinements on (0 to G1_MAX_HOT), a card is hot. The hot ring holds `ring`
- * cards (1 to G1_MAX_RING). The core takes 4 bytes a slot, 34 bytes a card and the ring.
+ * cards (1 to G1_MAX_RING). The core takes 4 bytes a slot, 34 bytes a card and the ring, and later
+ * 19 to 38 bytes for each pair of a card and a region that it records.
  *
  * Returns:
  *   - G1_DONE.
@@ -515,9 +516,9 @@ uint32_t g1_verify(struct g1 *handle, uint32_t first, uint32_t count, const uint
  *     the call, or makes each by the loop below. If two of them race, the library may keep a
  *     different value than memory does, and then a drain can miss what memory holds. Stores to
  *     different slots need no order.
- *   - You never make two calls of g1_heap_pause or g1_heap_read_end at once that are given members
- *     or readers of one heap. (One that is given those of several heaps is refused: it counts the
- *     owners of what they share, and the other would disturb the count.)
+ *   - You never call g1_heap_pause or g1_heap_read_end twice at once with members or readers of one
+ *     heap. (Either counts the owners of what they share, to refuse those of another heap, and a
+ *     second call would disturb the count.)
  *
  * The loop, for a runtime that keeps its references in atomic words of its own and has no lock for
  * the stores to one slot:
@@ -999,9 +1000,9 @@ uint32_t g1_heap_forget(struct g1_heap *heap, uint32_t region);
 
 /*
  * Looks for a runtime's own mistakes, in a debug build, as g1_verify does. A runtime whose fields
- * are the library's words passes no references (a references_length of 0): then `missing` shows
- * where it wrote to one itself. A slot that has data refers to nothing. The call takes time
- * proportional to the slots that it looks at, and no memory.
+ * are the library's words passes no references (a references_length of 0): then `missing` is the
+ * first that it wrote itself and that no drain would find. A slot that has data refers to nothing.
+ * The call takes time proportional to the slots that it looks at, and no memory.
  *
  * Returns:
  *   - G1_DONE.

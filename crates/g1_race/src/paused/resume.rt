@@ -1,11 +1,10 @@
 //! How a race goes on after a pause, or begins from a core.
 ghost use Rattle.std.specs.Prelude.{◌≡◌, ◌+◌, ◌-◌, ◌<◌, ◌≤◌};
-ghost use Rattle.g1_race.specs.{[], All, IfOk, IfErr, OnOk, OnErr, length, map, vec_len, beginning, start_of};
-ghost use Rattle.g1_race.specs.{whole_seat, shape_of, table_at, start_at, began, all_read};
-ghost use Rattle.g1_race.specs.{race_id};
-ghost use Rattle.g1_race.specs.{race_layout, race_shape, race_words, racer_log, AreFreshRacers};
-ghost use Rattle.g1_race.specs.{AreFreshSweepers, HaveBegunWith, IsNewRacer, IsNewSweeper};
-ghost use Rattle.g1_race.specs.{racer_race, sweeper_race};
+ghost use Rattle.g1_race.specs.{[], All, IfOk, IfErr, OnOk, OnErr, length, map, vec_len, beginning};
+ghost use Rattle.g1_race.specs.{start_of, whole_seat, shape_of, table_at, start_at, began};
+ghost use Rattle.g1_race.specs.{all_read, race_id, race_layout, race_shape, race_words, racer_log};
+ghost use Rattle.g1_race.specs.{AreFreshRacers, AreFreshSweepers, HaveBegunWith, IsNewRacer};
+ghost use Rattle.g1_race.specs.{IsNewSweeper, racer_race, sweeper_race};
 
 use crate::paused::Paused;
 use crate::paused::holds::HoldsRace;

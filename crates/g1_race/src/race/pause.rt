@@ -18,8 +18,8 @@ impl Race {
     ///
     /// - Each slot has the last target that some racer stored into it. If no racer stored into it,
     ///   it refers to what it referred to when the race began.
-    /// - The words that were stored to a slot, with the one that it had when the race began, are the
-    ///   words that stores overwrote there, with the one that it has now, each as often.
+    /// - The words that were stored to a slot, with the one that it had when the race began, are
+    ///   the words that stores overwrote there, with the one that it has now, each as often.
     /// - A dirty card was dirtied by a racer, or was dirty at the beginning. A card of which either
     ///   is so and which is clean now was cleaned by a sweeper.
     /// - Take the number of a card's claims, plus 1 if it was dirty at the beginning. That is the
