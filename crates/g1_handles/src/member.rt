@@ -77,6 +77,7 @@ impl<P: Role> Member<P> {
     /// Takes its role, and leaves it waiting.
     pub(crate) fn park(&mut self) -> Option<P>
         ensures role { result ≡ self.old.role }
+        ensures number { self.new.number ≡ self.old.number }
         ensures counts { self.new.counts ≡ self.old.counts }
         ensures race { arc_value self.new.race ≡ arc_value self.old.race }
     {
@@ -87,6 +88,7 @@ impl<P: Role> Member<P> {
     pub(crate) fn seat(&mut self, role: P)
         requires { P.of role ≡ race_id (arc_value self.old.race) }
         ensures role { self.new.role ≡ Some role }
+        ensures number { self.new.number ≡ self.old.number }
         ensures counts { self.new.counts ≡ self.old.counts }
         ensures race { arc_value self.new.race ≡ arc_value self.old.race }
     {
