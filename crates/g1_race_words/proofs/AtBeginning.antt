@@ -8,6 +8,7 @@ use Rattle.g1_race_words.proofs.Reading.{null_stays}
 use Rattle.g1_race_words.proofs.Plain.{total_none}
 use Rattle.g1_race_words.proofs.Balance.{sum_in}
 use Rattle.g1_race_words.proofs.Tallies.{none_below}
+use Rattle.g1_race_words.proofs.FlagsKept.{flags_fresh}
 
 abbrev pub zeros : ℕ → List ℕ
 zeros n = replicate n 0
@@ -74,8 +75,8 @@ raced_fresh k words views h blank all numbered = record {
 
 -- and its rule holds, where the seats agree on the beginning
 pub going_fresh : (k : RaceShape) (words : List ℕ) (views : List View) (frozen : Bool) → IsBegun (started k words) → Raced (beginning (started k words)) words views
-    → ((seat : ℕ) (v : View) → get_elem? views seat ≡ some v → 0 < v.weight → (start_of v ≡ started k words) × (v.frozen ≡ frozen)) → ((seat : ℕ) (v : View) → get_elem? views seat ≡ some v → v.spare ≤ v.weight) → Going k words views
-going_fresh k words views frozen begun raced agreed spared = record { first = words; frozen = frozen; raced = raced; proper = λ x i. let s = in_set k words x i in begun.proper x s.0 s.1; agreed = agreed; spared = spared; still = λ e. refl }
+    → ((seat : ℕ) (v : View) → get_elem? views seat ≡ some v → 0 < v.weight → (start_of v ≡ started k words) × (v.frozen ≡ frozen)) → ((seat : ℕ) (v : View) → get_elem? views seat ≡ some v → v.spare ≤ v.weight) → ((seat : ℕ) (u : View) → get_elem? views seat ≡ some u → IsBlank u) → Going k words views
+going_fresh k words views frozen begun raced agreed spared blank = record { first = words; frozen = frozen; raced = raced; proper = λ x i. let s = in_set k words x i in begun.proper x s.0 s.1; agreed = agreed; spared = spared; still = λ e. refl; flags = flags_fresh k words views (λ seat u at. (blank seat u at).0.0) }
 
 -- words that begin with all null and all clean, and no bit set
 
@@ -99,3 +100,4 @@ going_first k shaped = let all = word_count k in let start = frozen_seat (null_o
     (raced_fresh k (zeros all) (start ∷ []) (null_begun k shaped) (λ seat u at. subst IsBlank (only start u seat at) ((refl, refl, refl, refl), refl, refl, refl, refl, refl)) (omega arith) (λ m. let e = none_below m in omega arith))
     (λ seat v at heavy. subst (λ (u : View). (start_of u ≡ null_of k) × (u.frozen ≡ true)) (only start v seat at) (refl, refl))
     (λ seat v at. subst (λ (u : View). u.spare ≤ u.weight) (only start v seat at) (omega arith))
+    (λ seat u at. subst IsBlank (only start u seat at) ((refl, refl, refl, refl), refl, refl, refl, refl, refl))

@@ -48,6 +48,7 @@ module _ (k : RaceShape) (words : List ℕ) (views : List View) (id : ℕ) (v : 
       let c = below_up_to m w.spare k.members spare in omega (arith, a, t, c)))
       (each_set views id w (λ (u : View). Agrees (started k new) w.frozen u) (λ seat u there ne lt. let z = light seat u there ne in absurd (omega (arith, z, lt))) (λ lt. (is, refl)))
       (each_set views id w (λ (u : View). u.spare ≤ u.weight) (λ seat u there ne. h.spared seat u there) (omega (arith, weight, spare)))
+      (each_set views id w IsBlank others still)
 
   -- at rest, the words are what a race can start with
   pub begun_here : IsWholeShape k → AtRest v → IsBegun (started k words)

@@ -16,6 +16,7 @@ pub mod Writing
 pub mod Marking
 pub mod Reading
 pub mod Splitting
+pub mod FlagsKept
 pub mod Listing
 pub mod AtBeginning
 pub mod Going
@@ -23,8 +24,10 @@ pub mod GoingAnew
 pub mod Blanks
 pub mod Finding
 pub mod Calls
+pub mod SeatCalls
 pub mod StepKinds
 pub mod Together
 use AtBeginning.*
 use Blanks.*
 use Calls.*
+use SeatCalls.*

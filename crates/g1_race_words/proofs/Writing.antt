@@ -21,7 +21,7 @@ abbrev pub grown : ℕ → ℕ → StoreHistory → StoreHistory
 grown p n h = (h.0, (p, n) ∷ h.1)
 
 -- each history stays, or gains the store
-gained_on : (p n : ℕ) (hs : List StoreHistory) (h : StoreHistory) → In hs h → In (gains_store p n hs) h ⊎ In (gains_store p n hs) (grown p n h)
+pub gained_on : (p n : ℕ) (hs : List StoreHistory) (h : StoreHistory) → In hs h → In (gains_store p n hs) h ⊎ In (gains_store p n hs) (grown p n h)
 gained_on p n [] h i = absurd i
 gained_on p n (g ∷ gs) h (inl e) = inr (inl (ap (λ (l : StoreHistory). grown p n l) e))
 gained_on p n (g ∷ gs) h (inr i) = inl (inr i)

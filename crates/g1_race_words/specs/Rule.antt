@@ -244,6 +244,27 @@ pub record Flagged (heap : RaceShape) (words : List ℕ) (views : List View) : T
   pub marked : AreFlagged heap words
   pub known : (c : ℕ) → Held flagged_of views c → IsFlagged heap words c
 
+-- the seat has a store to the card of a reference that crosses regions
+abbrev pub StoresTo : RaceShape → ℕ → View → Type 0
+StoresTo heap card view =
+    (h : StoreHistory) × (p : ℕ) × (n : ℕ) × In view.histories h × In h.1 (p, n)
+    × IsCrossing heap p n × (slot_card heap p ≡ card)
+
+-- some seat has one
+abbrev pub IsStoredTo : RaceShape → List View → ℕ → Type 0
+IsStoredTo heap views card =
+    (seat : ℕ) × (v : View) × (get_elem? views seat ≡ some v) × StoresTo heap card v
+
+-- beside the flags that were set at the beginning no flag is set but those of cards to which some
+-- racer has stored a reference that crosses regions. Only such cards are owed
+pub record FlagsKept (heap : RaceShape) (first words : List ℕ) (views : List View)
+    : Type 0 where
+  pub only : (x : ℕ) → x < heap.cards → HasBit heap words (x, heap.regions)
+      → HasBit heap first (x, heap.regions)
+      ⊎ ((c : ℕ) × (c / 8 * 8 ≡ x) × IsStoredTo heap views c)
+  pub owed : (c seat : ℕ) (v : View) → get_elem? views seat ≡ some v → v.owed ≡ Some c
+      → IsStoredTo heap views c
+
 -- the card was marked at the beginning
 abbrev pub BeganMarked : RaceShape → List ℕ → ℕ → Type 0
 BeganMarked heap began card = get_elem? began (mark_word heap card) ≡ some 1
@@ -373,3 +394,4 @@ pub record Going (heap : RaceShape) (words : List ℕ) (views : List View) : Typ
       → (start_of v ≡ started heap first) × (v.frozen ≡ frozen)
   pub spared : (seat : ℕ) (v : View) → get_elem? views seat ≡ some v → v.spare ≤ v.weight
   pub still : frozen ≡ true → words ≡ first
+  pub flags : FlagsKept heap first words views

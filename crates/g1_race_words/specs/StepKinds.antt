@@ -5,7 +5,7 @@ use Rattle.g1_race_words.specs.Prelude.{get_elem?}
 use Rattle.g1_race_words.specs.declared.view.RaceShape.{RaceShape}
 use Rattle.g1_race_words.specs.declared.view.View.{View}
 use Rattle.g1_race_words.specs.Rule.{StoreHistory, IsWord, bit_index, bit_word, flag, front}
-use Rattle.g1_race_words.specs.Rule.{mark_word}
+use Rattle.g1_race_words.specs.Rule.{mark_word, beginning, start_of, Raced}
 use Rattle.g1_race_words.specs.Steps.{wrote, exchanged, looked, spotted, raised, dirtied, cleaned}
 use Rattle.g1_race_words.specs.Steps.{read, sought, recorded}
 
@@ -114,6 +114,16 @@ pub record Makes (heap : RaceShape) (seat : ℕ) (step : WordStep) (before next 
   pub found : get_elem? before.words (place_of heap step) ≡ some (found_by step)
   pub words : next.words ≡ slice_set before.words (place_of heap step) (left_by heap step)
   pub views : next.views ≡ slice_set before.views seat (after step view)
+
+-- at some moment of the race, a seat that knows this makes the step
+pub record HasMade (view : View) (step : WordStep) : Type 0 where
+  pub seat : ℕ
+  pub before : TableState
+  pub next : TableState
+  pub raced : Raced (beginning (start_of view)) before.words before.views
+  pub mine : get_elem? before.views seat ≡ some view
+  pub makes : Makes view.shape seat step before next
+  pub goes_on : Raced (beginning (start_of view)) next.words next.views
 
 -- What the five kinds speak of: the words of slots and marks, and all that each seat knows but the
 -- pair that it holds until the table has it, and that a flag is set.

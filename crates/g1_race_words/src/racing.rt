@@ -4,6 +4,8 @@ ghost use Rattle.g1_race_words.specs.Prelude.{ℕ, [], None};
 ghost use Rattle.g1_race_words.specs.Rule.{StoreHistory, IsWord, bit_index, flag};
 ghost use Rattle.g1_race_words.specs.Steps.{wrote, exchanged, looked, spotted, raised, owed_card};
 ghost use Rattle.g1_race_words.specs.Steps.{dirtied};
+ghost use Rattle.g1_race_words.specs.StepKinds.{HasMade, Write, Exchange, Look, Dirty, Spot};
+ghost use Rattle.g1_race_words.specs.StepKinds.{Raise};
 ghost use Rattle.g1_race_words.specs.Seats.{Sits, IsFound, OwesMark, OwesFlag};
 
 use crate::table::{RaceSeat, RaceTable};
@@ -15,11 +17,13 @@ pub(crate) struct Writes;
 impl Play<(), View> for Writes {
     ghost use Rattle.std.specs.Prelude.{◌≡◌};
     ghost use Rattle.g1_race_words.specs.Steps.{wrote};
+    ghost use Rattle.g1_race_words.specs.StepKinds.{HasMade, Write};
     ghost use Rattle.g1_race_words.specs.Seats.{IsFound};
 
     ghost then = { λ step before found after.
         (after ≡ (wrote before.0 step.word step.first found, before.1))
-        × IsFound before.0 step.word found };
+        × IsFound before.0 step.word found
+        × HasMade before.0 (Write step.word step.first found) };
 }
 
 pub(crate) struct Exchanges;
@@ -27,39 +31,51 @@ pub(crate) struct Exchanges;
 impl Play<(), View> for Exchanges {
     ghost use Rattle.std.specs.Prelude.{◌≡◌};
     ghost use Rattle.g1_race_words.specs.Steps.{exchanged};
+    ghost use Rattle.g1_race_words.specs.StepKinds.{HasMade, Exchange};
     ghost use Rattle.g1_race_words.specs.Seats.{IsFound};
 
     ghost then = { λ step before found after.
         (after ≡ (exchanged before.0 step.word step.first step.second found, before.1))
-        × IsFound before.0 step.word found };
+        × IsFound before.0 step.word found
+        × HasMade before.0 (Exchange step.word step.first step.second found) };
 }
 
 pub(crate) struct Looks;
 
 impl Play<(), View> for Looks {
-    ghost use Rattle.std.specs.Prelude.{◌≡◌, ◌≤◌};
+    ghost use Rattle.std.specs.Prelude.{◌≡◌, ◌-◌, ◌≤◌};
     ghost use Rattle.g1_race_words.specs.Steps.{looked};
+    ghost use Rattle.g1_race_words.specs.StepKinds.{HasMade, Look};
 
     ghost then = { λ step before found after.
-        (after ≡ (looked before.0 found, before.1)) × (found ≤ 1) };
+        (after ≡ (looked before.0 found, before.1)) × (found ≤ 1)
+        × HasMade before.0 (Look (step.word - before.0.shape.slots) found) };
 }
 
 pub(crate) struct Spots;
 
 impl Play<(), View> for Spots {
     ghost use Rattle.std.specs.Prelude.{◌≡◌};
+    ghost use Rattle.g1_race_words.specs.Prelude.{ℕ};
     ghost use Rattle.g1_race_words.specs.Steps.{spotted};
+    ghost use Rattle.g1_race_words.specs.StepKinds.{HasMade, Spot};
 
-    ghost then = { λ step before found after. after ≡ (spotted before.0 found, before.1) };
+    ghost then = { λ step before found after.
+        (after ≡ (spotted before.0 found, before.1))
+        × ((card : ℕ) × HasMade before.0 (Spot card found)) };
 }
 
 pub(crate) struct Raises;
 
 impl Play<(), View> for Raises {
     ghost use Rattle.std.specs.Prelude.{◌≡◌};
+    ghost use Rattle.g1_race_words.specs.Prelude.{ℕ};
     ghost use Rattle.g1_race_words.specs.Steps.{raised};
+    ghost use Rattle.g1_race_words.specs.StepKinds.{HasMade, Raise};
 
-    ghost then = { λ step before found after. after ≡ (raised before.0, before.1) };
+    ghost then = { λ step before found after.
+        (after ≡ (raised before.0, before.1))
+        × ((card : ℕ) × HasMade before.0 (Raise card found)) };
 }
 
 pub(crate) struct Dirties;
@@ -67,10 +83,12 @@ pub(crate) struct Dirties;
 impl Play<(), View> for Dirties {
     ghost use Rattle.std.specs.Prelude.{◌≡◌, ◌-◌, ◌≤◌};
     ghost use Rattle.g1_race_words.specs.Steps.{dirtied};
+    ghost use Rattle.g1_race_words.specs.StepKinds.{HasMade, Dirty};
 
     ghost then = { λ step before found after.
         (after ≡ (dirtied before.0 (step.word - before.0.shape.slots) found, before.1))
-        × (found ≤ 1) };
+        × (found ≤ 1)
+        × HasMade before.0 (Dirty (step.word - before.0.shape.slots) found) };
 }
 
 impl RaceTable {
@@ -87,6 +105,7 @@ impl RaceTable {
         ensures table { seat.new.table_id ≡ seat.old.table_id }
         ensures view { seat.new.me ≡ (wrote seat.old.me.0 slot word result, seat.old.me.1) }
         ensures found { IsFound seat.old.me.0 slot result }
+        ensures step { HasMade seat.old.me.0 (Write slot word result) }
     {
         self.table.shared.swap::<Writes>(&mut seat.seat, slot, word)
     }
@@ -104,6 +123,7 @@ impl RaceTable {
         ensures view { seat.new.me
             ≡ (exchanged seat.old.me.0 slot expected word result, seat.old.me.1) }
         ensures found { IsFound seat.old.me.0 slot result }
+        ensures step { HasMade seat.old.me.0 (Exchange slot expected word result) }
     {
         self.table
             .shared
@@ -119,6 +139,7 @@ impl RaceTable {
         ensures table { seat.new.table_id ≡ seat.old.table_id }
         ensures view { seat.new.me ≡ (looked seat.old.me.0 result, seat.old.me.1) }
         ensures mark { result ≤ 1 }
+        ensures step { HasMade seat.old.me.0 (Look (mark - seat.old.me.0.shape.slots) result) }
     {
         self.table.shared.load::<Looks>(&mut seat.seat, mark)
     }
@@ -131,6 +152,7 @@ impl RaceTable {
         requires flag { (card : ℕ) × OwesFlag self.now.shape seat.old.me.0 card word }
         ensures table { seat.new.table_id ≡ seat.old.table_id }
         ensures view { seat.new.me ≡ (spotted seat.old.me.0 result, seat.old.me.1) }
+        ensures step { (card : ℕ) × HasMade seat.old.me.0 (Spot card result) }
     {
         self.table.shared.load::<Spots>(&mut seat.seat, word)
     }
@@ -144,6 +166,7 @@ impl RaceTable {
             × (index ≡ bit_index self.now.shape (flag self.now.shape card)) }
         ensures table { seat.new.table_id ≡ seat.old.table_id }
         ensures view { seat.new.me ≡ (raised seat.old.me.0, seat.old.me.1) }
+        ensures step { (card : ℕ) × (found : ℕ) × HasMade seat.old.me.0 (Raise card found) }
     {
         self.table
             .shared
@@ -162,6 +185,7 @@ impl RaceTable {
         ensures view { seat.new.me
             ≡ (dirtied seat.old.me.0 (mark - seat.old.me.0.shape.slots) result, seat.old.me.1) }
         ensures mark { result ≤ 1 }
+        ensures step { HasMade seat.old.me.0 (Dirty (mark - seat.old.me.0.shape.slots) result) }
     {
         self.table.shared.swap::<Dirties>(&mut seat.seat, mark, 1)
     }

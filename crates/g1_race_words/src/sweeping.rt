@@ -3,6 +3,7 @@ ghost use Rattle.std.specs.Prelude.{◌≡◌, ◌-◌, ◌<◌, ◌≤◌};
 ghost use Rattle.g1_race_words.specs.Prelude.{ℕ, []};
 ghost use Rattle.g1_race_words.specs.Rule.{IsWord, bit_index};
 ghost use Rattle.g1_race_words.specs.Steps.{cleaned, read, sought, recorded};
+ghost use Rattle.g1_race_words.specs.StepKinds.{HasMade, Clean, Read, Seek, Record};
 ghost use Rattle.g1_race_words.specs.Seats.{Sits, IsFound, IsMark, HoldsBit};
 
 use crate::table::{RaceSeat, RaceTable};
@@ -14,10 +15,12 @@ pub(crate) struct Cleans;
 impl Play<(), View> for Cleans {
     ghost use Rattle.std.specs.Prelude.{◌≡◌, ◌-◌, ◌≤◌};
     ghost use Rattle.g1_race_words.specs.Steps.{cleaned};
+    ghost use Rattle.g1_race_words.specs.StepKinds.{HasMade, Clean};
 
     ghost then = { λ step before found after.
         (after ≡ (cleaned before.0 (step.word - before.0.shape.slots) found, before.1))
-        × (found ≤ 1) };
+        × (found ≤ 1)
+        × HasMade before.0 (Clean (step.word - before.0.shape.slots) found) };
 }
 
 pub(crate) struct Reads;
@@ -26,29 +29,38 @@ impl Play<(), View> for Reads {
     ghost use Rattle.std.specs.Prelude.{◌≡◌};
     ghost use Rattle.g1_race_words.specs.Rule.{IsWord};
     ghost use Rattle.g1_race_words.specs.Steps.{read};
+    ghost use Rattle.g1_race_words.specs.StepKinds.{HasMade, Read};
     ghost use Rattle.g1_race_words.specs.Seats.{IsFound};
 
     ghost then = { λ step before found after.
         (after ≡ (read before.0 step.word found, before.1)) × IsWord before.0.shape found
-        × IsFound before.0 step.word found };
+        × IsFound before.0 step.word found × HasMade before.0 (Read step.word found) };
 }
 
 pub(crate) struct Seeks;
 
 impl Play<(), View> for Seeks {
     ghost use Rattle.std.specs.Prelude.{◌≡◌};
+    ghost use Rattle.g1_race_words.specs.Prelude.{ℕ};
     ghost use Rattle.g1_race_words.specs.Steps.{sought};
+    ghost use Rattle.g1_race_words.specs.StepKinds.{HasMade, Seek};
 
-    ghost then = { λ step before found after. after ≡ (sought before.0 found, before.1) };
+    ghost then = { λ step before found after.
+        (after ≡ (sought before.0 found, before.1))
+        × ((x : ℕ × ℕ) × HasMade before.0 (Seek x found)) };
 }
 
 pub(crate) struct Records;
 
 impl Play<(), View> for Records {
     ghost use Rattle.std.specs.Prelude.{◌≡◌};
+    ghost use Rattle.g1_race_words.specs.Prelude.{ℕ};
     ghost use Rattle.g1_race_words.specs.Steps.{recorded};
+    ghost use Rattle.g1_race_words.specs.StepKinds.{HasMade, Record};
 
-    ghost then = { λ step before found after. after ≡ (recorded before.0, before.1) };
+    ghost then = { λ step before found after.
+        (after ≡ (recorded before.0, before.1))
+        × ((x : ℕ × ℕ) × HasMade before.0 (Record x found)) };
 }
 
 impl RaceTable {
@@ -63,6 +75,7 @@ impl RaceTable {
         ensures view { seat.new.me
             ≡ (cleaned seat.old.me.0 (mark - seat.old.me.0.shape.slots) result, seat.old.me.1) }
         ensures mark { result ≤ 1 }
+        ensures step { HasMade seat.old.me.0 (Clean (mark - seat.old.me.0.shape.slots) result) }
     {
         self.table.shared.swap::<Cleans>(&mut seat.seat, mark, 0)
     }
@@ -80,6 +93,7 @@ impl RaceTable {
         ensures view { seat.new.me ≡ (read seat.old.me.0 slot result, seat.old.me.1) }
         ensures word { IsWord self.now.shape result }
         ensures found { IsFound seat.old.me.0 slot result }
+        ensures step { HasMade seat.old.me.0 (Read slot result) }
     {
         self.table.shared.load::<Reads>(&mut seat.seat, slot)
     }
@@ -92,6 +106,7 @@ impl RaceTable {
         requires pair { (x : ℕ × ℕ) × HoldsBit self.now.shape seat.old.me.0 x word }
         ensures table { seat.new.table_id ≡ seat.old.table_id }
         ensures view { seat.new.me ≡ (sought seat.old.me.0 result, seat.old.me.1) }
+        ensures step { (x : ℕ × ℕ) × HasMade seat.old.me.0 (Seek x result) }
     {
         self.table.shared.load::<Seeks>(&mut seat.seat, word)
     }
@@ -105,6 +120,7 @@ impl RaceTable {
             × (index ≡ bit_index self.now.shape x) }
         ensures table { seat.new.table_id ≡ seat.old.table_id }
         ensures view { seat.new.me ≡ (recorded seat.old.me.0, seat.old.me.1) }
+        ensures step { (x : ℕ × ℕ) × (found : ℕ) × HasMade seat.old.me.0 (Record x found) }
     {
         self.table
             .shared
