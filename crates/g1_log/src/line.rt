@@ -79,9 +79,10 @@ impl Line {
     /// Puts a buffer last into the queue, under this sender's next number.
     ///
     /// `Err` hands the buffer back, and uses up no number. It comes only if the queue was full at
-    /// some moment of the call (the clause says so in part: docs/internals/decisions.md), or if
-    /// this sender has put 2^58 buffers. The call is one step of the queue, which moves the buffer.
-    /// It takes no memory.
+    /// some moment of the call, or if this sender has put 2^58 buffers. (The clause names a state
+    /// in which the queue was full, but ties it to no moment: it is tests that show when puts
+    /// succeed, as docs/DECISIONS.md says.) The call is one step of the queue, which moves the
+    /// buffer. It takes no memory.
     #[inline(always)]
     pub fn put<R: Wait>(&self, rt: &R, sender: &mut Sender, buffer: Buffer) -> Result<(), Buffer>
         requires { IsSenderOf self.now sender.old }
@@ -113,10 +114,11 @@ impl Line {
 
     /// Takes the oldest parcel of the queue.
     ///
-    /// `None` comes only if the queue was empty at some moment of the call (the clause says so in
-    /// part: docs/internals/decisions.md). No clause says that the parcel is the oldest. The rule
-    /// says that the numbers of each sender rise in what a taker takes. The call is one step of the
-    /// queue, which moves the buffer. It takes no memory.
+    /// `None` comes only if the queue was empty at some moment of the call. (The clause names a
+    /// state in which the queue was empty, but ties it to no moment: it is tests that show when
+    /// takes find a parcel, as docs/DECISIONS.md says.) No clause says that the parcel is the
+    /// oldest. The rule says that the numbers of each sender rise in what a taker takes. The call
+    /// is one step of the queue, which moves the buffer. It takes no memory.
     #[inline(always)]
     pub fn take<R: Wait>(&self, rt: &R, taker: &mut Taker) -> Option<Parcel>
         requires { IsTakerOf self.now taker.old }

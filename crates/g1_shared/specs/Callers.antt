@@ -5,7 +5,7 @@ use Rattle.g1_shared.specs.Prelude.{IfSome, IsSome, IsNone, Result, OnOk, OnErr,
 use Rattle.g1_shared.specs.Prelude.{Parcel, line_home, capacity_of, put_of, taken_of, StoreReply}
 use Rattle.g1_shared.specs.Prelude.{IsLent, logged, buffer_of, MayRefuse, RefineReply, No, Full}
 use Rattle.g1_shared.specs.Prelude.{Helped, Mutator, Refusal, GainsAtMost}
-use Rattle.g1_shared.specs.Prelude.{IsNewMutator}
+use Rattle.g1_shared.specs.Prelude.{IsNewMutator, sender_rights, sum_by, taker_rights, whole}
 use Rattle.g1_steps.specs.Rounds.{IsWorkStep}
 use Rattle.g1_steps.specs.Steps.{IsRefineStep}
 use Rattle.g1_log.specs.declared.buffer.Buffer.{Buffer}
@@ -41,6 +41,18 @@ puts_by c = puts_in c.mutator
 -- the list of the parcels that its taker has taken
 abbrev pub taken_list : CallerState → List Parcel
 taken_list c = taken_of c.taker
+
+-- the shares that a caller has of the line
+abbrev pub mutator_rights : Option Mutator → ℕ
+mutator_rights None = 0
+mutator_rights (Some m) = sender_rights m.sender
+
+abbrev pub caller_rights : CallerState → ℕ
+caller_rights c = mutator_rights c.mutator + taker_rights c.taker
+
+-- these callers have all ends of their line
+abbrev pub AreAllCallers : List CallerState → Type 0
+AreAllCallers callers = sum_by caller_rights callers ≡ whole
 
 -- who a caller is, which no call changes
 pub record CallerMark : Type 0 where

@@ -6,8 +6,8 @@ pub use Rattle.std.proofs.lemmas.List.{get_or_append_left, get_or_push, length-m
 pub use Rattle.std.proofs.lemmas.List.Sums.{count_by-le-length, fold-append, sum_by-append}
 pub use Rattle.std.specs.Prelude.{[], All, Bool, cond, count_by, Err, false, fold, IfErr, IfOk}
 pub use Rattle.std.specs.Prelude.{IfSome, IsNone, IsSome, length, List, nat_lt, Ok, OnErr, OnOk}
-pub use Rattle.std.specs.Prelude.{Option, option_map, Result, slice_index_or, sum_by, true}
-pub use Rattle.std.specs.Prelude.{vec_capacity, ℕ}
+pub use Rattle.std.specs.Prelude.{Option, option_map, option_to_list, Result, slice_index_or}
+pub use Rattle.std.specs.Prelude.{sum_by, true, vec_capacity, ℕ}
 pub use Rattle.std.specs.Vec.Iter.{into_iter_items, into_iter_len}
 pub use Rattle.g1_core.specs.Barrier.{buffer_of, logged}
 pub use Rattle.g1_core.specs.Calls.{clear_entry, DoesClear, DoesDrain, DoesRefine, DoesStore}
@@ -28,7 +28,9 @@ pub use Rattle.g1_history.specs.History.{is_store}
 pub use Rattle.g1_history.specs.declared.refusal.Refusal.{Refusal}
 pub use Rattle.g1_layout.specs.Shape.{card_count, card_of, Shape, slot_count}
 pub use Rattle.g1_layout.specs.declared.kind.Kind.{Kind}
-pub use Rattle.g1_log.specs.Ends.{capacity_of, IsNewTaker, line_home, put_of, taken_of}
+pub use Rattle.g1_log.specs.Ends.{AreAll, capacity_of, IsNewTaker, line_home, put_of}
+pub use Rattle.g1_log.specs.Ends.{sender_rights, taken_of, taker_rights}
+pub use Rattle.g1_log.specs.Line.{whole}
 pub use Rattle.g1_log.specs.declared.ends.Taker.{Taker}
 pub use Rattle.g1_log.specs.declared.line.Line.{Line}
 pub use Rattle.g1_log.specs.declared.parcel.Parcel.{Parcel}

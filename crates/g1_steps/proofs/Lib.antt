@@ -2,6 +2,7 @@ pub mod OpeningLemmas
 pub mod RoundLemmas
 pub mod ServedLemmas
 pub mod StepLemmas
+pub mod TurnLemmas
 pub mod WorkerLemmas
 use ServedLemmas.*
 use StepLemmas.*

@@ -25,7 +25,8 @@ pub use Rattle.g1_history.specs.declared.refusal.Refusal.TheVariants.{BookFull, 
 pub use Rattle.g1_layout.specs.Shape.{card_of, Shape, slot_count}
 pub use Rattle.g1_layout.specs.declared.kind.Kind.TheVariants.{AlreadyDirty, Logged, Null}
 pub use Rattle.g1_layout.specs.declared.kind.Kind.TheVariants.{SameRegion}
-pub use Rattle.g1_log.specs.Ends.{AreNewSenders, capacity_of, IsNewSender, IsNewTaker, IsSameSender}
+pub use Rattle.g1_log.specs.Ends.{AreAll, AreNewSenders, capacity_of, IsNewSender, IsNewTaker}
+pub use Rattle.g1_log.specs.Ends.{IsSameSender}
 pub use Rattle.g1_log.specs.Ends.{IsSameTaker, IsSenderOf, IsTakerOf, number_of, put_of}
 pub use Rattle.g1_log.specs.Ends.{sender_home, sender_rights, taken_of, taker_home, taker_rights}
 pub use Rattle.g1_log.specs.Ends.{WasEmpty, WasFull}

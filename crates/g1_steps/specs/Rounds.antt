@@ -61,13 +61,20 @@ pub record IsLastShort (turns : List Turn) : Type 0 where
   pub turns_are : turns ≡ front ++ last ∷ []
   pub short : last.reply.short ≡ true
 
+-- The last of these turns listed a card, so that the list lacks some of the room that was made.
+pub record IsLastListed (turns : List Turn) : Type 0 where
+  pub front : List Turn
+  pub last : Turn
+  pub turns_are : turns ≡ front ++ last ∷ []
+  pub listed : 1 ≤ length last.reply.refined
+
 -- A round of one caller that makes at most `most` calls: refinements of what its taker took, one
 -- after the other, with these sums. Fewer are made only where the line was empty or the round is
 -- short: its last call was, or the next call was refused, whose parcel is given up, or room for the
--- next call's cards, which happens only where the list has cards.
-pub record IsRound {S : Type 0} (did : S → List CallMade → S
-    → Type 0) (old : S) (before : List Parcel) (most : ℕ) (reply : RefineReply)
-    (after : List Parcel) (new : S) : Type 0 where
+-- next call's cards. That happens only where `lacks` holds and the last call listed a card.
+pub record IsRoundIn {S : Type 0} (did : S → List CallMade → S → Type 0) (lacks : Type 0)
+    (old : S) (before : List Parcel) (most : ℕ) (reply : RefineReply) (after : List Parcel)
+    (new : S) : Type 0 where
   pub turns : List Turn
   pub refused : Option Refusal
   pub made : did old (round_calls turns refused) new
@@ -75,13 +82,18 @@ pub record IsRound {S : Type 0} (did : S → List CallMade → S
   pub taken : GainsAtMost (before ++ parcels_of turns) 1 after
   pub kept : IsNone refused → after ≡ before ++ parcels_of turns
   pub cause : reply.short ≡ true
-      → IsLastShort turns ⊎ (IsSome refused ⊎ (1 ≤ length reply.refined))
+      → IsLastShort turns ⊎ (IsSome refused ⊎ (lacks × IsLastListed turns))
   pub sums : IsSumOf (replies_of turns) reply
   pub order : AreWholeButLast (replies_of turns)
   pub few : reply.taken ≤ length turns
   pub begun : reply.short ≡ true → 1 ≤ length turns
   pub within : length turns ≤ most
   pub all : reply.short ≡ false → (length turns ≡ most) ⊎ FoundEmpty after
+
+-- the same where nothing tells how much room the list has
+abbrev pub IsRound : {S : Type 0} → (S → List CallMade → S → Type 0) → S → List Parcel → ℕ
+    → RefineReply → List Parcel → S → Type 0
+IsRound did = IsRoundIn did (Unit {0})
 
 -- A round by a taker of this line that begins at `start` completed buffers, by what it saw.
 abbrev pub IsRoundFrom : {S : Type 0} → (S → List CallMade → S → Type 0) → Line → ℕ → S → Taker

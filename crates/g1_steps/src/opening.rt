@@ -2,7 +2,7 @@
 //! ends of the queue.
 ghost use Rattle.std.specs.Prelude.{◌≡◌, ◌≤◌};
 ghost use Rattle.g1_steps.specs.{vec_len, vec_capacity, IfOk, All, capacity_of, AreNewSenders};
-ghost use Rattle.g1_steps.specs.{IsNewTaker, AreNewMutators};
+ghost use Rattle.g1_steps.specs.{IsNewTaker, AreNewMutators, AreAll, map};
 
 use crate::steps::Mutator;
 use g1_core::Config;
@@ -14,8 +14,9 @@ use std::alloc::Global;
 /// its takers (docs/rules.md, The steps of a caller).
 ///
 /// There are 1 to 8 mutators and 1 to 12 takers. The queue holds as many buffers as the settings'
-/// limit. Mutator `k` has an empty log of the settings' size and sender `k`. Returns `NoMemory` if
-/// a growth was refused. No other step takes memory for queue or logs.
+/// limit. Mutator `k` has an empty log of the settings' size and sender `k`. These senders and
+/// takers are all of the queue's. Returns `NoMemory` if a growth was refused. No other step takes
+/// memory for queue or logs.
 pub fn open_line(
     alloc: Global,
     config: Config,
@@ -29,6 +30,7 @@ pub fn open_line(
         (vec_len made.1 ≡ mutators) × AreNewMutators made.0 config.log 0 made.1.items) }
     ensures takers { IfOk result (λ made.
         (vec_len made.2 ≡ takers) × All (IsNewTaker made.0) made.2.items) }
+    ensures all { IfOk result (λ made. AreAll (map (λ m. m.sender) made.1.items) made.2.items) }
 {
     let room = Vec::with_capacity(alloc, mutators as usize)?;
     let (line, senders, takers) = Line::new(alloc, config.limit(), mutators, takers)?;
@@ -37,7 +39,7 @@ pub fn open_line(
 }
 
 /// A mutator with an empty log for each sender.
-#[tactic(auto, using(crate::proofs::OpeningLemmas::mutators_more))]
+#[tactic(auto, using(crate::proofs::OpeningLemmas::mutators_more, crate::proofs::started_more))]
 fn mutators_of(
     line: &Line,
     config: &Config,
@@ -49,6 +51,7 @@ fn mutators_of(
     requires room { vec_len senders ≤ vec_capacity room }
     ensures many { vec_len result ≡ vec_len senders }
     ensures new { AreNewMutators line.now config.now.log 0 result.items }
+    ensures senders { map (λ m. m.sender) result.items ≡ senders.items }
 {
     let _line = line;
     let mut mutators = room;

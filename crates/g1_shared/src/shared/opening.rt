@@ -3,7 +3,7 @@ ghost use Rattle.std.specs.Prelude.{◌≡◌, ◌<◌, ◌≤◌};
 ghost use Rattle.g1_shared.specs.{ℕ, sum_by, slice_index_or, IfOk, IfErr, vec_len, vec_capacity};
 ghost use Rattle.g1_shared.specs.{All, capacity_of, IsNewTaker, made_of, stored_of, terms_of};
 ghost use Rattle.g1_shared.specs.{table_in, AreNewMutators, CallerState, IsNewCaller, AreNone};
-ghost use Rattle.g1_shared.specs.{LeadsTo, kept_terms, shared_terms};
+ghost use Rattle.g1_shared.specs.{LeadsTo, kept_terms, shared_terms, map, AreAll, AreAllCallers};
 
 use crate::caller::{Caller, CallerCounts};
 use crate::counted::Counted;
@@ -23,8 +23,9 @@ impl<M: Terms, S: Ledger, H: Keeps> Shared<M, S, H> {
     ///
     /// There are at least as many callers as the book has mutators, and at most 12, numbered from
     /// 0. Caller `k` below the mutators is mutator `k`, with an empty log and sender `k`; only
-    /// these store and flush. Each caller has a taker. The queue holds as many buffers as the
-    /// settings' limit. The ledgers are cut into one part for each caller.
+    /// these store and flush. Each caller has a taker, and all ends of the queue are theirs. The
+    /// queue holds as many buffers as the settings' limit. The ledgers are cut into one part for
+    /// each caller.
     ///
     /// If a growth was refused, the book is returned as it was, and the ledgers are given up.
     #[tactic(auto, using(crate::proofs::none_counted, crate::proofs::kept_mutators))]
@@ -45,6 +46,7 @@ impl<M: Terms, S: Ledger, H: Keeps> Shared<M, S, H> {
             (k : ℕ) (d : CallerState) → k < callers
             → IsNewCaller opened.0 M.terms.settings.log M.terms.mutators k
             (slice_index_or opened.1.items k d)) }
+        ensures all { IfOk result (λ opened. AreAllCallers opened.1.items) }
         ensures capacity { IfOk result (λ opened. capacity_of opened.0 ≡ M.terms.settings.limit) }
         ensures err { IfErr result (λ refused. refused.0 ≡ book) }
     {
@@ -107,6 +109,7 @@ impl<M: Terms, S: Ledger, H: Keeps> Shared<M, S, H> {
 
 /// The callers, each with a part of both shares and a taker, and those below the mutators with the
 /// mutator of their number.
+#[tactic(auto, using(crate::proofs::EachLemmas::rights_begin))]
 fn callers_of<M: Terms, S: Ledger>(
     line: &Line,
     config: &Config,
@@ -120,8 +123,11 @@ fn callers_of<M: Terms, S: Ledger>(
     requires mutators { (vec_len ends.0 ≡ M.terms.mutators)
         × AreNewMutators line.now config.now.log 0 ends.0.items }
     requires takers { (vec_len ends.1 ≡ count) × All (IsNewTaker line.now) ends.1.items }
+    requires few { M.terms.mutators ≤ count }
+    requires all { AreAll (map (λ m. m.sender) ends.0.items) ends.1.items }
     requires room { (vec_len room ≡ 0) × (count ≤ vec_capacity room) }
     ensures len { vec_len result ≡ count }
+    ensures all { AreAllCallers result.items }
     ensures each { (k : ℕ) (d : CallerState) → k < count
         → IsNewCaller line.now config.now.log M.terms.mutators k (slice_index_or result.items k d) }
 {

@@ -2,7 +2,7 @@
 ghost use Rattle.std.specs.Prelude.{◌≡◌, ◌<◌, ◌≤◌};
 ghost use Rattle.g1_steps.specs.Prelude.{[], map, IfOk, IfErr, All, vec_len, vec_capacity};
 ghost use Rattle.g1_steps.specs.Prelude.{AllZip};
-ghost use Rattle.g1_steps.specs.Ask.{JobRan, JobFits};
+ghost use Rattle.g1_steps.specs.Ask.{JobRan, JobFits, JobEnded, IsAnswered};
 
 use crate::crew::desk::{Desk, Outcome, Script};
 use crate::crew::worker::{mutate, refiner};
@@ -33,7 +33,8 @@ pub struct NotStarted;
 /// Runs the script at the desk.
 fn run_job<D: Desk>(job: Job<D>) -> Job<D>
     requires { JobFits D.slots D.may_store job }
-    ensures { JobRan D.did job result }
+    ensures ran { JobRan D.did job result }
+    ensures ended { JobEnded (IsAnswered D.stored D.flushed D.worked) D.refused job result }
 {
     let Job {
         mut desk,
@@ -59,7 +60,8 @@ struct Begun<D>(Snapshot<Job<D>>);
 type Running<D> = PromisedHandle<Job<D>, Begun<D>>;
 
 impl<D: Desk> Promise<Job<D>> for Begun<D> {
-    ghost kept_by = { λ p r. JobRan D.did p.0.value r };
+    ghost kept_by = { λ p r. JobRan D.did p.0.value r
+        × JobEnded (IsAnswered D.stored D.flushed D.worked) D.refused p.0.value r };
 }
 
 /// Starts a thread for each job, or gives back those that were started.
@@ -79,7 +81,8 @@ fn start_all<'s, E, D: Desk + Send + Drop + 's>(
         let begun = Begun(Snapshot::of(&job));
         let work = move || -> Job<D>
             requires { JobFits D.slots D.may_store job }
-            ensures { JobRan D.did job result }
+            ensures ran { JobRan D.did job result }
+            ensures ended { JobEnded (IsAnswered D.stored D.flushed D.worked) D.refused job result }
         { run_job(job) };
         match scope.spawn_with(begun, work) {
             Ok(handle) => running.push_reserved(handle),
@@ -98,7 +101,9 @@ fn join_all<D: Desk + Drop, R: Threads>(
 ) -> Vec<Job<D>>
     requires empty { room.items ≡ [] }
     requires room { vec_len running ≤ vec_capacity room }
-    ensures { AllZip (JobRan D.did) (map (λ h. h.promise.0.value) running.items) result.items }
+    ensures ran { AllZip (JobRan D.did) (map (λ h. h.promise.0.value) running.items) result.items }
+    ensures ended { AllZip (JobEnded (IsAnswered D.stored D.flushed D.worked) D.refused)
+        (map (λ h. h.promise.0.value) running.items) result.items }
 {
     let mut done = room;
     for handle in running {
@@ -110,16 +115,19 @@ fn join_all<D: Desk + Drop, R: Threads>(
 /// Runs each job in a thread of its own (docs/rules.md, Workers and a crew).
 ///
 /// Every job is started before one is joined. The jobs are returned in their order, each with its
-/// script, its outcome, and the desk at which exactly the calls of that outcome were made. Room for
-/// handles and jobs is made first. After `NotStarted` the threads that were started have been
-/// joined, and the desks are given up.
+/// script, its outcome, and the desk at which exactly the calls of that outcome were made: a worker
+/// whose call is refused makes no further one. Room for handles and jobs is made first. After
+/// `NotStarted` the threads that were started have been joined, and the desks are given up.
 pub fn run_crew<D: Desk + Send + Drop, R: Threads + Wait + Sync>(
     rt: &R,
     alloc: Global,
     jobs: Vec<Job<D>>,
 ) -> Result<Vec<Job<D>>, NotStarted>
     requires { All (JobFits D.slots D.may_store) jobs.items }
-    ensures { IfOk result (λ done. AllZip (JobRan D.did) jobs.items done.items) }
+    ensures ran { IfOk result (λ done. AllZip (JobRan D.did) jobs.items done.items) }
+    ensures ended { IfOk result (λ done.
+        AllZip (JobEnded (IsAnswered D.stored D.flushed D.worked) D.refused)
+        jobs.items done.items) }
 {
     let Ok(running) = Vec::with_capacity(alloc, jobs.len()) else {
         return Err(NotStarted);
@@ -135,7 +143,10 @@ pub fn run_crew<D: Desk + Send + Drop, R: Threads + Wait + Sync>(
             requires empty { (running.items ≡ []) × (done.items ≡ []) }
             requires room { (vec_len jobs ≤ vec_capacity running)
                 × (vec_len jobs ≤ vec_capacity done) }
-            ensures { IfOk result (λ done. AllZip (JobRan D.did) jobs.items done.items) }
+            ensures ran { IfOk result (λ done. AllZip (JobRan D.did) jobs.items done.items) }
+            ensures ended { IfOk result (λ done.
+                AllZip (JobEnded (IsAnswered D.stored D.flushed D.worked) D.refused)
+                jobs.items done.items) }
         {
             match start_all(scope, jobs, running) {
                 Ok(running) => Ok(join_all(rt, running, done)),

@@ -5,7 +5,7 @@ ghost use Rattle.g1_steps.specs.Prelude.{[], true, false, length, vec_len, vec_c
 ghost use Rattle.g1_steps.specs.Prelude.{IfErr, OnOk, IsTakerOf, IsSameTaker, taken_of};
 ghost use Rattle.g1_steps.specs.Prelude.{capacity_of};
 ghost use Rattle.g1_steps.specs.Steps.{IsRefineStep, IsOfCalls};
-ghost use Rattle.g1_steps.specs.Rounds.{round_size, IsRefused, IsRound, IsWorkStep, IsNextOf};
+ghost use Rattle.g1_steps.specs.Rounds.{round_size, IsRefused, IsRoundIn, IsWorkStep, IsNextOf};
 ghost use Rattle.g1_steps.specs.Rounds.{so_far, progress};
 
 use crate::calls::Calls;
@@ -82,6 +82,7 @@ fn refine_oldest<C: Calls, R: Wait>(
 ///
 /// The reply has the sums of the calls and their lists joined. `left` is the queue's length that
 /// was seen last: after the take of the last call that was made, or at the beginning if none was.
+#[tactic(auto, using(crate::proofs::RoundLemmas::round_told))]
 pub fn work<C: Calls, R: Wait>(
     rt: &R,
     line: &Line,
@@ -106,7 +107,7 @@ pub fn work<C: Calls, R: Wait>(
 }
 
 /// Makes `count` calls of a round that has seen `seen` completed buffers, or fewer if the queue is
-/// empty, a call is short, or one is refused.
+/// empty, a call is short, one is refused, or the list lacks room for 256 more cards.
 #[tactic(auto, using(crate::proofs::RoundLemmas::round_begins))]
 fn run_round<C: Calls, R: Wait>(
     rt: &R,
@@ -120,8 +121,8 @@ fn run_round<C: Calls, R: Wait>(
     requires seen { seen ≤ capacity_of line.now }
     requires count { count ≤ 1024 }
     ensures round { IfOk result (λ sums.
-        IsRound C.did calls.old (taken_of taker.old) count (so_far sums)
-        (taken_of taker.new) calls.new) }
+        IsRoundIn C.did (vec_capacity sums.refined < length sums.refined.items + 256)
+        calls.old (taken_of taker.old) count (so_far sums) (taken_of taker.new) calls.new) }
     ensures counts { IfOk result (λ sums. IsOfCalls count (so_far sums)) }
     ensures left { IfOk result (λ sums. sums.left ≤ capacity_of line.now) }
     ensures same { IsSameTaker taker.new taker.old }
@@ -167,9 +168,11 @@ fn next_of_round<C: Calls, R: Wait>(
         + sums.old.skipped + 256) × (sums.new.hot ≤ sums.old.hot + 256) }
     ensures left { sums.old.left ≤ capacity_of line.now → sums.new.left ≤ capacity_of line.now }
     ensures same { IsSameTaker taker.new taker.old }
-    ensures room { OnOk result (256 ≤ vec_capacity sums.new.refined) }
+    ensures room { OnOk result
+        (length sums.old.refined.items + 256 ≤ vec_capacity sums.new.refined) }
+    ensures capacity { vec_capacity sums.old.refined ≤ vec_capacity sums.new.refined }
     ensures err { IfErr result (λ refusal. IsRefused C.did
-        (vec_capacity sums.old.refined < length sums.old.refined.items + 256)
+        (vec_capacity sums.new.refined < length sums.new.refined.items + 256)
         calls.old (taken_of taker.old) refusal calls.new (taken_of taker.new)
         × (so_far sums.new ≡ so_far sums.old)) }
 {

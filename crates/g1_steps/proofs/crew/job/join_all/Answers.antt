@@ -10,5 +10,6 @@ loop-handle-preserved g c =
       append_assoc c.loop-handle.yielded _ _ ∙ ap (λ xs. c.loop-handle.yielded ++ xs) (sym steps.0) ∙ was.0,
       omega arith,
       omega arith,
-      rw (c.push_reserved.ensures.items, map-append) (all_zip_push _ _ _ _ _ was.3 c.join.ensures),
+      rw (c.push_reserved.ensures.items, map-append) (all_zip_push _ _ _ _ _ was.3 c.join.ensures.0),
+      rw (c.push_reserved.ensures.items, map-append) (all_zip_push _ _ _ _ _ was.4 c.join.ensures.1),
     )
