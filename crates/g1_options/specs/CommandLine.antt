@@ -1,6 +1,7 @@
 -- What the words of a command line say of the options, over what `clap` makes of words (its
 -- `specs/Walk.antt`).
 use Rattle.std.specs.Prelude.{◌≡◌, ℕ, List, [], ◌∷◌, Some, true, false, codes, pos}
+use Rattle.std.specs.Fmt.{decimal}
 use Rattle.std.specs.Str.Parse.{digits_value, without_leading_plus}
 use Rattle.clap.specs.Words.{App, Row, Rule, Text, new_app, new_rule, one_of, subcommand_of}
 use Rattle.clap.specs.Words.{with_rule, with_subcommand}
@@ -8,19 +9,27 @@ use Rattle.clap.specs.Simple.{on_top}
 use Rattle.clap.specs.declared.builder.command.Command.{Command}
 use Rattle.clap.specs.declared.builder.command.Command.TheViews.{out-Command}
 use Rattle.clap.specs.declared.builder.value_parser.ValueParser.TheVariants.{Signed}
+use Rattle.g1_core.specs.declared.config.Limits.{Limits}
 use Rattle.g1_core.specs.declared.config.Settings.{Settings}
+use Rattle.g1_core.specs.declared.config.TheConstants.Config.{LOG, LIMIT, HOT, RING, START}
 use Rattle.g1_trace.specs.declared.mode.Mode.{Mode}
 use Rattle.g1_trace.specs.declared.mode.Mode.TheVariants.{Run, Crew, Race}
 use Rattle.g1_options.specs.declared.options.Options.{Options}
+use Rattle.g1_options.specs.declared.options.TheConstants.Options.{MUTATORS, HISTORY}
+use Rattle.g1_options.specs.declared.options.TheConstants.Options.{REFINERS, ROUNDS}
 
--- an option that takes one whole number, from `least` to `most`
-abbrev pub option_rule : Text → ℕ → ℕ → Text → Rule
-option_rule name least most default = record (new_rule name) {
+-- an option that takes one whole number within these limits, with this text for its default
+abbrev pub spelled_rule : Text → Limits → Text → Rule
+spelled_rule name limits default = record (new_rule name) {
   long = Some name;
   value_names = 1;
   defaults = default ∷ [];
-  parser = Some (Signed (pos least) (pos most));
+  parser = Some (Signed (pos limits.least) (pos limits.most));
 }
+
+-- the same, with the default of these limits
+abbrev pub option_rule : Text → Limits → Rule
+option_rule name limits = spelled_rule name limits (decimal limits.default)
 
 -- no option is handed down to a subcommand
 abbrev pub IsLocal : Command → Type 0
@@ -29,19 +38,19 @@ IsLocal c = (out-Command c).has_globals ≡ false
 -- the options that all subcommands have
 abbrev pub with_shared : App → App
 with_shared a = with_rule (with_rule (with_rule (with_rule (with_rule (with_rule (with_rule a
-    (option_rule (codes "mutators") 1 8 (codes "1")))
-    (option_rule (codes "log") 1 256 (codes "256")))
-    (option_rule (codes "limit") 1 1024 (codes "10")))
-    (option_rule (codes "hot") 0 255 (codes "4")))
-    (option_rule (codes "ring") 1 4096 (codes "1024")))
-    (option_rule (codes "start") 1 1024 (codes "5")))
-    (option_rule (codes "history") 1 1000000 (codes "1000000"))
+    (option_rule (codes "mutators") MUTATORS))
+    (option_rule (codes "log") LOG))
+    (option_rule (codes "limit") LIMIT))
+    (option_rule (codes "hot") HOT))
+    (option_rule (codes "ring") RING))
+    (option_rule (codes "start") START))
+    (option_rule (codes "history") HISTORY)
 
 -- and with those that the subcommands with threads have
 abbrev pub with_threads : App → App
 with_threads a = with_rule (with_rule (with_shared a)
-    (option_rule (codes "refiners") 1 4 (codes "1")))
-    (option_rule (codes "rounds") 0 10000 (codes "100"))
+    (option_rule (codes "refiners") REFINERS))
+    (option_rule (codes "rounds") ROUNDS)
 
 -- the subcommands
 abbrev pub run_app : App
@@ -102,7 +111,8 @@ AreThreaded rows o =
 
 -- the options of each subcommand: what only other ones have is as by default
 abbrev pub AreOptionsOf : Mode → List Row → Options → Type 0
-AreOptionsOf Run rows o = AreCommonRead rows o × (o.refiners ≡ 1) × (o.rounds ≡ 100)
+AreOptionsOf Run rows o = AreCommonRead rows o × (o.refiners ≡ REFINERS.default)
+    × (o.rounds ≡ ROUNDS.default)
 AreOptionsOf Crew rows o = AreThreaded rows o
 AreOptionsOf Race rows o = AreThreaded rows o
 

@@ -1,23 +1,22 @@
 -- The defaults and limits of a replay's options.
-use Rattle.std.specs.Prelude.{◌≡◌, ◌≤◌}
-use Rattle.g1_core.specs.Settings.{AreSettings, default_settings}
+use Rattle.std.specs.Prelude.{◌≡◌}
+use Rattle.g1_core.specs.Settings.{AreSettings, IsWithin, default_settings}
 use Rattle.g1_options.specs.declared.options.Options.{Options}
+use Rattle.g1_options.specs.declared.options.TheConstants.Options.{MUTATORS, HISTORY}
+use Rattle.g1_options.specs.declared.options.TheConstants.Options.{REFINERS, ROUNDS}
 
 -- what stands where an option isn't given
 pub record AreDefaults (o : Options) : Type 0 where
-  pub mutators : o.mutators ≡ 1
+  pub mutators : o.mutators ≡ MUTATORS.default
   pub config : o.config ≡ default_settings
-  pub history : o.history ≡ 1000000
-  pub refiners : o.refiners ≡ 1
-  pub rounds : o.rounds ≡ 100
+  pub history : o.history ≡ HISTORY.default
+  pub refiners : o.refiners ≡ REFINERS.default
+  pub rounds : o.rounds ≡ ROUNDS.default
 
 -- the limits
 pub record AreWithinLimits (o : Options) : Type 0 where
-  pub mutators_low : 1 ≤ o.mutators
-  pub mutators_high : o.mutators ≤ 8
+  pub mutators : IsWithin MUTATORS o.mutators
   pub config : AreSettings o.config
-  pub history_low : 1 ≤ o.history
-  pub history_high : o.history ≤ 1000000
-  pub refiners_low : 1 ≤ o.refiners
-  pub refiners_high : o.refiners ≤ 4
-  pub rounds_high : o.rounds ≤ 10000
+  pub history : IsWithin HISTORY o.history
+  pub refiners : IsWithin REFINERS o.refiners
+  pub rounds : IsWithin ROUNDS o.rounds

@@ -1,8 +1,9 @@
 //! What a command line means.
-ghost use Rattle.std.specs.Prelude.{◌≡◌, ◌≤◌, List, [], Some, true, IfSome, IfOk, IfErr, OnOk, map};
+ghost use Rattle.std.specs.Prelude.{◌≡◌, List, [], Some, true, IfSome, IfOk, IfErr, OnOk, map};
 ghost use Rattle.std.specs.Prelude.{string_bytes};
 ghost use Rattle.clap.specs.Words.{Row, app_of, fault_of, found_of, kind_of, new_app, rows_of};
 ghost use Rattle.clap.specs.Words.{subcommand_rows_of, takes};
+ghost use Rattle.g1_core.specs.Settings.{IsWithin};
 ghost use Rattle.g1_options.specs.Settings.{AreWithinLimits};
 ghost use Rattle.g1_options.specs.CommandLine.{AreOptionsOf, AreSettingsRead, AreThreaded};
 ghost use Rattle.g1_options.specs.CommandLine.{IsCommandLine, IsLocal, IsRead, line_app, line_top};
@@ -28,7 +29,7 @@ pub struct LineFault {
 }
 
 // The version of the program, which `--version` tells.
-const VERSION: &str = "1.0.0";
+const VERSION: &str = "0.5.0";
 
 const ABOUT: &str = "Replays traces for the remembered-set log of a region-based garbage collector";
 
@@ -274,11 +275,10 @@ fn threaded_options(matches: &ArgMatches<'_>) -> Option<Options>
 // the proof.
 fn value(matches: &ArgMatches<'_>, setting: &Setting) -> Option<u32>
     ensures read { IfSome result (IsRead (rows_of (found_of matches.now)) setting.now.name.now) }
-    ensures low { IfSome result (λ n. setting.now.least ≤ n) }
-    ensures high { IfSome result (λ n. n ≤ setting.now.most) }
+    ensures within { IfSome result (IsWithin setting.now.limits) }
 {
     let number = number(matches, setting.name)?;
-    (setting.least <= number && number <= setting.most).then_some(number)
+    setting.limits.contain(number as usize).then_some(number)
 }
 
 // The number that stands for the option of this name.

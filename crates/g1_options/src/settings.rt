@@ -1,9 +1,11 @@
 //! The options of the command line: names, units, limits, defaults and help.
 ghost use Rattle.std.specs.Prelude.{◌≡◌, false};
 ghost use Rattle.clap.specs.Words.{rule_of};
-ghost use Rattle.g1_options.specs.CommandLine.{option_rule};
+ghost use Rattle.g1_options.specs.CommandLine.{spelled_rule};
 
+use crate::options::Options;
 use clap::{Arg, value_parser};
+use g1_core::{Config, Limits};
 use std::alloc::Global;
 
 /// An option that takes one whole number.
@@ -11,8 +13,8 @@ use std::alloc::Global;
 pub(crate) struct Setting {
     pub(crate) name: &'static str,
     unit: &'static str,
-    pub(crate) least: u32,
-    pub(crate) most: u32,
+    pub(crate) limits: Limits,
+    // the default of these limits, as the help writes it
     default: &'static str,
     help: &'static str,
 }
@@ -20,8 +22,7 @@ pub(crate) struct Setting {
 pub(crate) static MUTATORS: Setting = Setting {
     name: "mutators",
     unit: "COUNT",
-    least: 1,
-    most: 8,
+    limits: Options::MUTATORS,
     default: "1",
     help: "Mutators of the trace, numbered from 0: 1 to 8",
 };
@@ -29,8 +30,7 @@ pub(crate) static MUTATORS: Setting = Setting {
 pub(crate) static LOG: Setting = Setting {
     name: "log",
     unit: "CARDS",
-    least: 1,
-    most: 256,
+    limits: Config::LOG,
     default: "256",
     help: "Cards that fill a mutator's log: 1 to 256",
 };
@@ -38,8 +38,7 @@ pub(crate) static LOG: Setting = Setting {
 pub(crate) static LIMIT: Setting = Setting {
     name: "limit",
     unit: "BUFFERS",
-    least: 1,
-    most: 1024, // what a queue can hold
+    limits: Config::LIMIT,
     default: "10",
     help: "Completed buffers that may wait for refinement: 1 to 1024",
 };
@@ -47,8 +46,7 @@ pub(crate) static LIMIT: Setting = Setting {
 pub(crate) static HOT: Setting = Setting {
     name: "hot",
     unit: "TIMES",
-    least: 0,
-    most: 255,
+    limits: Config::HOT,
     default: "4",
     help: "Refinements after which a card is hot, 0 for at once: 0 to 255",
 };
@@ -56,8 +54,7 @@ pub(crate) static HOT: Setting = Setting {
 pub(crate) static RING: Setting = Setting {
     name: "ring",
     unit: "CARDS",
-    least: 1,
-    most: 4096,
+    limits: Config::RING,
     default: "1024",
     help: "Hot cards that are set aside: 1 to 4096",
 };
@@ -65,8 +62,7 @@ pub(crate) static RING: Setting = Setting {
 pub(crate) static START: Setting = Setting {
     name: "start",
     unit: "BUFFERS",
-    least: 1,
-    most: 1024, // more never wait
+    limits: Config::START,
     default: "5",
     help: "Completed buffers that a round of 'work' wants: 1 to 1024",
 };
@@ -74,8 +70,7 @@ pub(crate) static START: Setting = Setting {
 pub(crate) static HISTORY: Setting = Setting {
     name: "history",
     unit: "ENTRIES",
-    least: 1,
-    most: 1_000_000,
+    limits: Options::HISTORY,
     default: "1000000",
     help: "Calls that the history takes: 1 to 1000000",
 };
@@ -83,8 +78,7 @@ pub(crate) static HISTORY: Setting = Setting {
 pub(crate) static REFINERS: Setting = Setting {
     name: "refiners",
     unit: "COUNT",
-    least: 1,
-    most: 4,
+    limits: Options::REFINERS,
     default: "1",
     help: "Threads that refine while the mutators store: 1 to 4",
 };
@@ -92,8 +86,7 @@ pub(crate) static REFINERS: Setting = Setting {
 pub(crate) static ROUNDS: Setting = Setting {
     name: "rounds",
     unit: "COUNT",
-    least: 0,
-    most: 10_000,
+    limits: Options::ROUNDS,
     default: "100",
     help: "Rounds of 'work' that each of these threads makes: 0 to 10000",
 };
@@ -102,13 +95,14 @@ impl Setting {
     /// The argument that the command line has for this option.
     pub(crate) fn argument<'a>(&self, alloc: Global) -> Arg<'a>
         ensures rule { rule_of result
-            ≡ option_rule self.now.name.now self.now.least self.now.most self.now.default.now }
+            ≡ spelled_rule self.now.name.now self.now.limits self.now.default.now }
         ensures local { result.global ≡ false }
     {
+        let Limits { least, most, .. } = self.limits;
         Arg::new(alloc, self.name)
             .long(self.name)
             .value_name(self.unit)
-            .value_parser(value_parser!(u32).range(i64::from(self.least)..=i64::from(self.most)))
+            .value_parser(value_parser!(u32).range(i64::from(least)..=i64::from(most)))
             .default_value(self.default)
             .help(self.help)
     }
