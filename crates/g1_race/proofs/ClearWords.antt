@@ -83,7 +83,7 @@ module _ (k : RaceShape) (l : layout.Shape) (laid : k ≡ shape_of l k.members) 
       let w = crossing_back (ended l k words) k.members slot h.place h.refers (λ q. h.outside (q ∙ h.into)) in
       subst (λ (s : RaceShape). Into s words region slot) (sym laid) (w.0, w.1, (at_untake words (k.slots + k.cards) slot w.0 w.2).1, w.3, w.4 ∙ h.into)
 
-  word_enters : (words : List ℕ) (slot region : ℕ) → Into k words region slot → Enters (table_of (ended l k words)) slot region
+  pub word_enters : (words : List ℕ) (slot region : ℕ) → Into k words region slot → Enters (table_of (ended l k words)) slot region
   word_enters words slot region i = let x = subst (λ (s : RaceShape). Into s words region slot) laid i in record {
     place = x.0 - 1;
     refers = word_refers (ended l k words) slot x.0 x.1 (at_take words (k.slots + k.cards) slot x.0 (omega (arith, i.1)) x.2) (crosses_reference (shape_of l k.members) slot x.0 x.3);
@@ -116,7 +116,7 @@ module _ (k : RaceShape) (l : layout.Shape) (laid : k ≡ shape_of l k.members) 
           let gone : table_of (ended l k new) ≡ settled (Clear region) (reply.Clear Cleared) t = retained_is k l laid old new (λ x. not (eqb x.1 region)) begun h (record {
             front = g.front;
             kept = λ x pair stays. g.kept x pair.0 (λ e. stays (ap not (eq-eqb x.1 region e)));
-            only = λ x pair. g.only x pair.0;
+            only = λ x pair. g.only x pair;
             clear = λ x pair out. g.clear x pair.0 (eqb-true x.1 region (not-false _ out)) (in_row k x h.shaped pair);
           }) in record {
             allowed = record { numbers = lt; refines = none_refinable t; answers = (refl, clean, λ slot enters. never slot (subst (λ (x : List ℕ × ℕ). Into k x.0 x.1 slot) (λ i. (sym same i, sym is i)) (enters_word old slot region enters))) };

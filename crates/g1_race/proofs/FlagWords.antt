@@ -1,6 +1,6 @@
 -- The cards' flags at a pause.
 use Rattle.std.specs.Prelude.{◌≡◌, ◌≢◌, ◌+◌, ◌*◌, ◌/◌, ◌%◌, ◌<◌, ◌≤◌, ◌++◌, ◌∷◌}
-use Rattle.g1_race.specs.{cases_eq, ℕ, zero, suc, List, [], Option, false, Some, None, refl, sym, ap, ◌∙◌, subst, inl, inr, ⊎_elim, arith, eq-eqb, some, get_elem?, bit_at, slice_index, cases_Bool, cases_lt, true≢false, RaceShape, HasBit, In, IsBegun, IsPair, IsWholeShape, bit_index, bit_word, flag, front, mark_word, pairs_of_card, pairs_up_to, started, ended, IsEmptied, AreRefined, AreUnflagged, Notes, Acquires, AreMovedAway, IsNext, SkipsNone, is_marked, is_member, flag_card, card_in_row, one_pair, pair_clear, pair_set, take_at, take_same}
+use Rattle.g1_race.specs.{cases_eq, ℕ, zero, suc, List, [], Option, false, Some, None, refl, sym, ap, ◌∙◌, subst, inl, inr, ⊎_elim, arith, eq-eqb, some, get_elem?, bit_at, slice_index, cases_Bool, cases_lt, true≢false, RaceShape, HasBit, In, IsBegun, IsPair, IsWholeShape, bit_index, bit_word, flag, front, mark_word, pairs_of_card, pairs_up_to, started, ended, IsEmptied, AreRefined, AreUnflagged, Notes, Acquires, AreMovedAway, IfSome, IsFlaggedFrom, IsNext, SkipsNone, is_marked, is_member, flag_card, card_in_row, one_pair, pair_clear, pair_set, take_at, take_same}
 use Rattle.g1_layout.specs.Shape as layout
 use Rattle.g1_race.proofs.NextCards.{mark_is, mark_is_not, marked_word}
 
@@ -15,6 +15,10 @@ unflagged_clean k words c h lt e = elim (cases_Bool (is_marked k words c)) [
 pub skips_none : (k : RaceShape) (words : List ℕ) (from : ℕ) (found : Option ℕ) → IsBegun (started k words) → from % 8 ≡ 0 → IsNext (is_member k words k.regions) k.cards from found → SkipsNone (is_marked k words) k.cards from found
 skips_none k words from None h first none = λ c le lt. unflagged_clean k words c h lt (none (c / 8 * 8) (omega (arith, le, first)) (omega (arith, lt)))
 skips_none k words from (Some card) h first is = (is.0, is.1, λ c le lt. unflagged_clean k words c h (omega (arith, lt, is.1)) (is.3 (c / 8 * 8) (omega (arith, le, first)) (omega (arith, lt))))
+
+pub flagged_from : (k : RaceShape) (words : List ℕ) (from : ℕ) (found : Option ℕ) → from % 8 ≡ 0 → IsNext (is_member k words k.regions) k.cards from found → IfSome found (IsFlaggedFrom k words from)
+flagged_from k words from None first none = tt
+flagged_from k words from (Some card) first is = (λ e. is.2, λ ne. absurd (ne first))
 
 -- from one such card to the next
 

@@ -79,9 +79,9 @@ row_on k old mid new region first card low h g = record {
   front = g.front ∙ h.front;
   kept = λ x pair never b. g.kept x pair (λ e. never (ap (λ (y : ℕ × ℕ). y.1) e, let a : x.0 ≡ card = ap (λ (y : ℕ × ℕ). y.0) e in omega (arith, a, low), let a : x.0 ≡ card = ap (λ (y : ℕ × ℕ). y.0) e in omega (arith, a)))
       (h.kept x pair (λ i. never (i.0, i.1, let a : x.0 < card = i.2 in omega (arith, a))) b);
-  only = λ x pair b. h.only x pair (g.only x pair b);
+  only = λ x card b. h.only x card (g.only x card b);
   clear = λ x pair i b. elim (cases_lt x.0 card) [
-    | inl before ↦ h.clear x pair (i.0, i.1, before) (g.only x pair b)
+    | inl before ↦ h.clear x pair (i.0, i.1, before) (g.only x pair.0 b)
     | inr at ↦ g.clear x pair (let e : x.0 ≡ card = (let a : x.0 < card + 1 = i.2 in omega (arith, a, at)) in λ j. (e j, i.0 j)) b
   ];
 }

@@ -21,7 +21,7 @@ retained_is k l laid old new keep b h g = λ i. record {
     recorded : (table_of (ended l k new)).recorded ≡ fin.retain (table_of (ended l k old)).recorded keep
     recorded = same_pairs _ _
         (λ x c. let s = recorded_set k l new laid h x c in
-        let was : fin.contains (table_of (ended l k old)).recorded x ≡ true = set_recorded k l old laid b x s.0 (g.only x s.0 s.1) in
+        let was : fin.contains (table_of (ended l k old)).recorded x ≡ true = set_recorded k l old laid b x s.0 (g.only x s.0.0 s.1) in
         let stays : keep x ≡ true = elim (cases_Bool (keep x)) [ inl on ↦ on | inr gone ↦ absurd (g.clear x s.0 gone s.1) ] in
         retained x ∙ and_from _ _ was stays)
         (λ x c. let t = and_parts _ _ (sym (retained x) ∙ c) in
@@ -29,10 +29,10 @@ retained_is k l laid old new keep b h g = λ i. record {
         set_recorded k l new laid h x s.0 (g.kept x s.0 (λ gone. true≢false (sym t.1 ∙ gone)) s.1))
 
 -- the cards of a region
-card_in : (n region c : ℕ) → 0 < n → c / n ≡ region → (region * n ≤ c) × (c < region * n + n)
+pub card_in : (n region c : ℕ) → 0 < n → c / n ≡ region → (region * n ≤ c) × (c < region * n + n)
 card_in n region c some_card e = let is : region * n + c % n ≡ c = ap (λ (m : ℕ). m * n + c % n) (sym e) ∙ div-add-mod' c n in (omega arith, omega (arith, mod-lt c some_card))
 
-in_card : (n region c : ℕ) → region * n ≤ c → c < region * n + n → c / n ≡ region
+pub in_card : (n region c : ℕ) → region * n ≤ c → c < region * n + n → c / n ≡ region
 in_card n region c le lt = grind (arith, div-mul-add)
 
 module _ (k : RaceShape) (l : layout.Shape) (laid : k ≡ shape_of l k.members) (shaped : IsWholeShape k) where

@@ -15,7 +15,9 @@ pub mod Placing
 pub mod CopiedTable
 pub mod Telling
 pub mod NextCards
+pub mod CollectionSet
 pub mod FlagWords
+pub mod FlagRises
 pub mod Opening
 pub mod Numbers
 pub mod Words
@@ -38,8 +40,12 @@ pub mod Blocks
 pub mod SlotWords
 pub mod Copying
 pub mod Held
+pub mod Cutting
+pub mod Entering
+pub mod Freeing
 use AtPause.*
 use ClearWords.*
+use CollectionSet.*
 use Collected.*
 use Ends.*
 use FlagWords.*

@@ -39,5 +39,5 @@ pub record IsEmptied (heap : RaceShape) (old new : List ℕ) (region words : ℕ
 pub record AreUnset (heap : RaceShape) (old new : List ℕ) (Gone : ℕ × ℕ → Type 0) : Type 0 where
   pub front : front heap new ≡ front heap old
   pub kept : (x : ℕ × ℕ) → IsPair heap x → (Gone x → ⊥) → HasBit heap old x → HasBit heap new x
-  pub only : (x : ℕ × ℕ) → IsPair heap x → HasBit heap new x → HasBit heap old x
+  pub only : (x : ℕ × ℕ) → x.0 < heap.cards → HasBit heap new x → HasBit heap old x
   pub clear : (x : ℕ × ℕ) → IsPair heap x → Gone x → HasBit heap new x → ⊥

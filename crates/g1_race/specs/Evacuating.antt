@@ -4,6 +4,7 @@ use Rattle.g1_race.specs.Prelude.{ℕ, not, zero, suc, List, [], None, Contains,
 use Rattle.g1_race.specs.Prelude.{replicate, slice_index, nat_le, nat_lt, some, get_elem?}
 use Rattle.g1_race.specs.Prelude.{IsStrictlyIncreasing, region_of_card, Table, Holds}
 use Rattle.g1_race.specs.Prelude.{IsRecorded, IsCovered, AreRefinable, refined, stored, RaceShape}
+use Rattle.g1_race.specs.Prelude.{IsFlagged}
 use Rattle.std.specs.FinSet as set
 use Rattle.g1_core.specs.declared.reply.Drained.{Drained}
 use Rattle.g1_core.specs.declared.reply.Drained.TheVariants.{Cards, Short}
@@ -36,6 +37,18 @@ WordsBecome change heap old new = (p n : ℕ) → p < heap.slots →
 
 abbrev pub SlotsBecome : (ℕ → ℕ → ℕ) → Pause → Pause → Type 0
 SlotsBecome change old new = WordsBecome change old.shape old.words new.words
+
+-- no flag is set that was not, but those of cards of which this is so
+abbrev pub RaisesOnly : (ℕ → Type 0) → RaceShape → List ℕ → List ℕ → Type 0
+RaisesOnly IsStored heap old new = (card : ℕ) → card < heap.cards → IsFlagged heap new card
+    → IsFlagged heap old card ⊎ ((c : ℕ) × IsStored c × (c / 8 ≡ card / 8))
+
+abbrev pub FlagsRise : (ℕ → Type 0) → Pause → Pause → Type 0
+FlagsRise IsStored old new = RaisesOnly IsStored old.shape old.words new.words
+
+-- no flag is set that was not
+abbrev pub NoFlagRises : Pause → Pause → Type 0
+NoFlagRises old new = FlagsRise (λ card. ⊥) old new
 
 -- no word becomes another
 abbrev pub same_word : ℕ → ℕ → ℕ

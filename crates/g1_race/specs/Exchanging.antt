@@ -1,6 +1,7 @@
 -- What a racer's store of a word does: a reference, null, or data, which refers to nothing.
-use Rattle.std.specs.Prelude.{◌≡◌, ◌≢◌, ◌++◌, ◌∷◌, if◌then◌else◌}
+use Rattle.std.specs.Prelude.{◌≡◌, ◌≢◌, ◌<◌, ◌++◌, ◌∷◌, if◌then◌else◌}
 use Rattle.g1_race.specs.Prelude.{ℕ, [], false, true, Kind, SameRegion, Null, AlreadyDirty, Logged}
+use Rattle.g1_race.specs.Prelude.{array_vec_len}
 use Rattle.g1_race.specs.Prelude.{RaceShape, View, IsReference, IsWord, slot_card, crosses, IsFound}
 use Rattle.g1_race.specs.declared.race.Racer.{Racer}
 use Rattle.g1_race.specs.Race.{stored_view}
@@ -23,6 +24,11 @@ pub record HasStoredWord (heap : RaceShape) (slot word old : ℕ) (kind : Kind) 
       ≡ stored_view heap (racer_view before) slot word old (is_logged kind)
   pub log : racer_log after ≡ (if is_logged kind then racer_log before ++ slot_card heap slot ∷ []
       else racer_log before)
+
+-- if the word refers from the slot into another region, the racer's log has room for one card more
+abbrev pub HasRoomToStore : RaceShape → ℕ → ℕ → Racer → Type 0
+HasRoomToStore heap slot word racer =
+    crosses heap slot word ≡ true → array_vec_len racer.log < 256
 
 -- at some moment of the race, with the racer's view so, the slot had this word, which is not the
 -- one that was expected

@@ -33,7 +33,8 @@ pub use Rattle.std.specs.List.{AllWithin, enumerate_from, filter_map, flat_map}
 unfoldable pub use Rattle.std.specs.List.{IsDistinct}
 pub use Rattle.std.specs.List.Sorted.{IsStrictlyIncreasing}
 pub use Rattle.std.specs.Ordering.{eq_by_cmp, nat_cmp}
-pub use Rattle.std.specs.Prelude.{count_by, fold, IfErr, IfOk, IfSome, IsTrue, MatchOption, nat_eq}
+pub use Rattle.std.specs.Prelude.{count_by, fold, IfErr, IfOk, IfSome, IsTrue}
+pub use Rattle.std.specs.Prelude.{MatchOption, nat_eq}
 pub use Rattle.std.specs.Prelude.{nat_le, nat_lt, OnErr, OnOk, slice_index, slice_index_or}
 pub use Rattle.std.specs.Prelude.{slice_set, sum_by, Vec, vec_len}
 pub use Rattle.std.specs.Slots.{IsFull, slots_items, slots_len}
@@ -84,6 +85,7 @@ pub use Rattle.g1_layout.specs.Shape.{slot_count}
 pub use Rattle.g1_layout.specs.declared.kind.Kind.{Kind}
 pub use Rattle.g1_layout.specs.declared.kind.Kind.TheVariants.{AlreadyDirty, Logged, Null}
 pub use Rattle.g1_layout.specs.declared.kind.Kind.TheVariants.{SameRegion}
+pub use Rattle.g1_race_words.proofs.Blanks.{card_back}
 pub use Rattle.g1_race_words.proofs.AtBeginning.{never_both, no_bit, zero_at, zeros, zeros_read}
 pub use Rattle.g1_race_words.proofs.CoverStores.{mark_apart}
 pub use Rattle.g1_race_words.proofs.Crossing.{crosses_reference, low_word, reference_crosses}
@@ -116,6 +118,7 @@ pub use Rattle.g1_race_words.specs.Rule.{Raced, region_at, slot_card, Someone, s
 pub use Rattle.g1_race_words.specs.Rule.{stored_sum, StoredInto, StoreHistory, sum_at, tally, times}
 pub use Rattle.g1_race_words.specs.Rule.{total, word_count}
 pub use Rattle.g1_race_words.specs.Seats.{HoldsBit, IsAtPause, IsFound, IsPaused, Sits}
+pub use Rattle.g1_race_words.specs.StepKinds.{Clean, HasMade}
 pub use Rattle.g1_race_words.specs.Steps.{after_split, blank, both, frozen_seat, gains_store}
 pub use Rattle.g1_race_words.specs.Steps.{new_racer, pair_at, raised, recorded}
 pub use Rattle.g1_race_words.specs.Steps.{sought, unset, whole_seat}

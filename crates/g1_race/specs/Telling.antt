@@ -1,5 +1,5 @@
 -- Cards that are told apart by a test: the dirty ones, and those of a region's remembered set.
-use Rattle.std.specs.Prelude.{◌≡◌, ◌+◌, ◌*◌, ◌<◌, ◌≤◌, ◌==◌, ◌∷◌, ◌++◌, if◌then◌else◌}
+use Rattle.std.specs.Prelude.{◌≡◌, ◌≢◌, ◌%◌, ◌+◌, ◌*◌, ◌<◌, ◌≤◌, ◌==◌, ◌∷◌, ◌++◌, if◌then◌else◌}
 use Rattle.g1_race.specs.Prelude.{ℕ, not, length, List, [], zero, suc, Bool, true, false, Option}
 use Rattle.g1_race.specs.Prelude.{Some, None, slice_index, bit_at, RaceShape, bit_index, bit_word}
 use Rattle.g1_race.specs.Prelude.{mark_word}
@@ -62,6 +62,11 @@ SkipsNone test limit from None = (card : ℕ) → from ≤ card → card < limit
 SkipsNone test limit from (Some card) =
     (from ≤ card) × (card < limit)
     × ((other : ℕ) → from ≤ other → other < card → test other ≡ false)
+
+-- the card's own flag is set, or the card is `from`, which is not the first of its eight
+abbrev pub IsFlaggedFrom : RaceShape → List ℕ → ℕ → ℕ → Type 0
+IsFlaggedFrom heap words from card =
+    (from % 8 ≡ 0 → is_member heap words heap.regions card ≡ true) × (from % 8 ≢ 0 → card ≡ from)
 
 -- the least card at or after `from`, below the limit, of which the test is true
 abbrev pub IsNext : (ℕ → Bool) → ℕ → ℕ → Option ℕ → Type 0

@@ -4,7 +4,8 @@
 //!   and its members. `holds` says how a pause owns its race, and `shared` lets threads keep their
 //!   shares of the race over the pause.
 //! - `access` has what a pause reads and stores. `listed` has the recorded pairs and the dirty
-//!   cards, which `next` finds, and `verify` checks them for a debug build.
+//!   cards, which `next` finds, and `verify` checks them for a debug build. `next_into` finds the
+//!   cards that are recorded for several regions.
 //! - `drain` refines and drains. `redirect`, `clear`, `wipe`, `forget` and `copy` may follow an
 //!   evacuation.
 //! - `reading` is a race at a pause that several threads read. `read_by` makes their readers, and
@@ -16,9 +17,11 @@ mod clear;
 mod copy;
 mod drain;
 mod forget;
+mod free;
 pub(crate) mod holds;
 mod listed;
 mod next;
+mod next_into;
 mod open;
 mod read_by;
 mod reader;

@@ -4,7 +4,7 @@ ghost use Rattle.g1_race.specs.{IfSome, slice_set, some, get_elem?, slot_count, 
 ghost use Rattle.g1_race.specs.{kind_of, stored, TellsTarget, TellsPending, IsBegun, started};
 ghost use Rattle.g1_race.specs.{crosses, word_count, shape_of, word_of, table_at, WordsBecome};
 ghost use Rattle.g1_race.specs.{one_word, IsDirtied, reader_race, race_id, table_read, StoresAt};
-ghost use Rattle.g1_race.specs.{Writes, words_of, heap_of};
+ghost use Rattle.g1_race.specs.{Logged, RaisesOnly, slot_card, Writes, words_of, heap_of};
 
 use crate::paused::holds::HoldsRace;
 use crate::paused::reading::Reader;
@@ -101,6 +101,9 @@ impl Writer<'_> {
         ensures words { Writes self.old self.new (WordsBecome (one_word slot (word_of target))) }
         ensures table { let race = self.old.race.now in table_read race self.new.reader.now
             ≡ stored (table_read race self.old.reader.now) slot target }
+        ensures flags { let heap = heap_of self.old in
+            RaisesOnly (λ card. (kind ≡ Logged) × (card ≡ slot_card heap slot)) heap
+            (words_of self.old) (words_of self.new) }
     {
         self.reader.begun(self.race);
         let (number, word) = (slot.number() as usize, word_of(target));

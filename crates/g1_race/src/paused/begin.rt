@@ -4,7 +4,7 @@ ghost use Rattle.g1_race.specs.{ℕ, [], IfOk, OnOk, OnErr, All, replicate, some
 ghost use Rattle.g1_race.specs.{IsPairOf, In, IsPair, all_read};
 ghost use Rattle.g1_race.specs.{IsOfCrossing, mark_word, null_of, shape_of, table_at, start_at};
 ghost use Rattle.g1_race.specs.{Notes, AreCovered, AreMarked, ArePlaced, HasWordsOf};
-ghost use Rattle.g1_race.specs.{Writes, words_of, heap_of};
+ghost use Rattle.g1_race.specs.{Writes, words_of, heap_of, AreFlagsOf, RaisesOnly, IsPending};
 ghost use Rattle.std.specs.FinSet as set;
 
 use crate::paused::{Paused, Writer};
@@ -35,6 +35,8 @@ impl Paused {
             p.shape ≡ shape_of core.old.state.table.layout (racers + sweepers)) }
         ensures table { IfOk result (λ p. table_at p ≡ core.old.state.table) }
         ensures words { IfOk result (λ p. HasWordsOf core.old.state.table p.words) }
+        ensures flags { IfOk result (λ p.
+            AreFlagsOf p.shape core.old.state.table p.words) }
         ensures logs { IfOk result (λ p. p.logs ≡ replicate racers []) }
         ensures sweepers { IfOk result (λ p. p.sweepers ≡ sweepers) }
         ensures read { OnOk result (core.new ≡ all_read core.old) }
@@ -55,6 +57,7 @@ impl Paused {
         requires within { All (IsPairOf core.old.state.table.layout) pairs.now }
         ensures table { table_at self.new ≡ core.old.state.table }
         ensures words { HasWordsOf core.old.state.table self.new.words }
+        ensures flags { AreFlagsOf self.new.shape core.old.state.table self.new.words }
         ensures rest { self.new ≡ record self.old { words = self.new.words } }
         ensures read { core.new ≡ all_read core.old }
     {
@@ -85,8 +88,10 @@ impl Writer<'_> {
         requires layout { self.old.race.now.layout ≡ core.now.state.table.layout }
         requires clean { let heap = heap_of self.old in (c : ℕ) → c < heap.cards →
             get_elem? (words_of self.old) (mark_word heap c) ≡ some 0 }
-        ensures { Writes self.old self.new (λ heap old new.
+        ensures marks { Writes self.old self.new (λ heap old new.
             AreMarked heap core.now.state.table old new heap.cards) }
+        ensures flags { RaisesOnly (IsPending core.now.state.table) (heap_of self.old)
+            (words_of self.old) (words_of self.new) }
     {
         let race = self.race;
         self.reader.begun(race);
@@ -108,6 +113,8 @@ impl Writer<'_> {
         requires covered { AreCovered (heap_of self.old) core.old.state.table (words_of self.old) }
         ensures slots { Writes self.old self.new (λ heap old new.
             ArePlaced heap core.old.state.table old new heap.slots) }
+        ensures flags { RaisesOnly (λ card. ⊥) (heap_of self.old) (words_of self.old)
+            (words_of self.new) }
         ensures read { core.new ≡ all_read core.old }
     {
         let race = self.race;

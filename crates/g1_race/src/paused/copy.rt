@@ -1,7 +1,7 @@
 //! A range of slots is copied to another one.
 ghost use Rattle.std.specs.Prelude.{◌≡◌, ◌+◌, ◌<◌, ◌≤◌};
 ghost use Rattle.g1_race.specs.{slice_index, slot_count, target_of, stored, table_at, IsSameRace};
-ghost use Rattle.g1_race.specs.{SlotsBecome, one_word, Copies};
+ghost use Rattle.g1_race.specs.{SlotsBecome, one_word, Copies, FlagsRise, slot_card};
 
 use crate::paused::Paused;
 use crate::paused::holds::HoldsRace;
@@ -43,6 +43,7 @@ impl<R: HoldsRace> Paused<R> {
             SlotsBecome (one_word to word) self.old self.new }
         ensures table { table_at self.new
             ≡ stored (table_at self.old) to (target_of (table_at self.old) from) }
+        ensures flags { FlagsRise (λ card. card ≡ slot_card self.old.shape to) self.old self.new }
     {
         let layout = self.race.race().layout;
         let word = self.word(from);

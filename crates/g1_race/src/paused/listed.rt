@@ -71,6 +71,7 @@ impl<R: HoldsRace> Paused<R> {
     /// last card.
     pub fn next_dirty(&mut self, from: u32) -> Option<Card>
         ensures dirty { IsNextPending (table_at self.old) from result }
+        ensures within { IfSome result (λ card. card < card_count self.old.layout) }
         ensures same { self.new ≡ self.old }
     {
         self.reader.next_dirty(self.race.race(), from)

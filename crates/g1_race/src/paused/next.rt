@@ -2,7 +2,7 @@
 ghost use Rattle.std.specs.Prelude.{◌≡◌, ◌+◌, ◌*◌, ◌<◌, ◌≤◌};
 ghost use Rattle.g1_race.specs.{[], length, vec_capacity, IsNext, SkipsNone, is_marked, is_member};
 ghost use Rattle.g1_race.specs.{AreWithin, is_sought, sought_cards, pair_count, reader_race};
-ghost use Rattle.g1_race.specs.{race_id};
+ghost use Rattle.g1_race.specs.{race_id, IfSome, IsFlaggedFrom};
 
 use crate::bits::bit_of;
 use crate::paused::reading::Reader;
@@ -37,11 +37,13 @@ impl Reader {
 
     // A card at or after `from`, and none between the two is dirty: the first of the next eight
     // that have their flag set, or `from` itself where it is not the first of its eight.
-    #[tactic(auto, using(crate::proofs::skips_none))]
+    #[tactic(auto, using(crate::proofs::skips_none, crate::proofs::flagged_from))]
     fn next_flagged(&mut self, race: &Race, from: usize) -> Option<usize>
         requires { reader_race self.old ≡ race_id race.now }
         ensures next { let words = self.old.start.words in
             SkipsNone (is_marked race.now.shape words) race.now.shape.cards from result }
+        ensures flagged { let heap = race.now.shape in
+            IfSome result (IsFlaggedFrom heap self.old.start.words from) }
         ensures same { self.new ≡ self.old }
     {
         self.begun(race);

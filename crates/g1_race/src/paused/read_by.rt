@@ -33,7 +33,7 @@ impl<R: HoldsRace> Paused<R> {
         ensures table { result.table_id ≡ self.table_id }
         ensures count { (result.readers ≡ count) × (vec_len readers.new ≡ count) }
         ensures readers { All (IsReaderOf result) readers.new.items }
-        ensures room { vec_capacity readers.old ≤ vec_capacity readers.new }
+        ensures room { vec_capacity readers.new ≡ vec_capacity readers.old }
     {
         let Paused {
             race,
@@ -109,13 +109,11 @@ fn seat_readers(
     ensures count { vec_len readers.new ≡ count }
     ensures readers { let begin = start_of pause_seat.old.me.0 in
         All (λ r. r ≡ known table.now.table_id begin) readers.new.items }
-    ensures room { vec_capacity readers.old ≤ vec_capacity readers.new }
+    ensures room { vec_capacity readers.new ≡ vec_capacity readers.old }
 {
     for _i in 0..count {
         let seat = table.split_reader(pause_seat);
-        let Ok(()) = readers.push(Reader { seat }) else {
-            unreachable!()
-        };
+        readers.push_reserved(Reader { seat });
     }
 }
 

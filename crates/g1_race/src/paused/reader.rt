@@ -96,6 +96,7 @@ impl Reader {
     pub fn next_dirty(&mut self, race: &Race, from: u32) -> Option<Card>
         requires reader { reader_race self.old ≡ race_id race.now }
         ensures dirty { IsNextPending (table_read race.now self.old) from result }
+        ensures within { IfSome result (λ card. card < card_count (race_layout race.now)) }
         ensures same { self.new ≡ self.old }
     {
         self.begun(race);

@@ -1,10 +1,10 @@
 //! Stores that return what the slot had before, or depend on it.
 ghost use Rattle.std.specs.Prelude.{◌≡◌, ◌<◌, ◌++◌, ◌↔◌, ◌∷◌, if◌then◌else◌};
-ghost use Rattle.g1_race.specs.{[], IsTrue, IfSome, IfOk, IfErr, array_vec_len, slot_card, crosses};
+ghost use Rattle.g1_race.specs.{[], IsTrue, IfSome, IfOk, IfErr, slot_card, crosses};
 ghost use Rattle.g1_race.specs.{IsWord, IsFound, slot_count, word_of, race_id, race_layout};
 ghost use Rattle.g1_race.specs.{race_shape, racer_race, racer_start, racer_view, HasNotStored};
 ghost use Rattle.g1_race.specs.{HasStored, IsKind, is_logged, HasOverwritten, HasDiffered};
-ghost use Rattle.g1_race.specs.{HasStoredWord, HasOtherWord};
+ghost use Rattle.g1_race.specs.{HasStoredWord, HasOtherWord, HasRoomToStore};
 
 use crate::paused::access::crosses;
 use crate::race::barrier::claim;
@@ -33,7 +33,7 @@ impl Racer {
         requires race { racer_race self.old ≡ race_id race.now }
         requires slot { slot < slot_count (race_layout race.now) }
         requires target { IfSome target (λ place. place < slot_count (race_layout race.now)) }
-        requires room { array_vec_len self.old.log < 256 }
+        requires room { HasRoomToStore (race_shape race.now) slot (word_of target) self.old }
         ensures race { racer_race self.new ≡ racer_race self.old }
         ensures start { racer_start self.new ≡ racer_start self.old }
         ensures kind { IsKind (race_shape race.now) slot target result.0 }
@@ -53,7 +53,7 @@ impl Racer {
     /// `None` also where it has data, even if null was expected.
     ///
     /// Takes no memory and never waits. The racer, the slot and both places must be of this race,
-    /// and the log must have room.
+    /// and the log must have room for the store of the target ([`Racer::has_room_for`]).
     pub fn compare_exchange(
         &mut self,
         race: &Race,
@@ -65,7 +65,7 @@ impl Racer {
         requires slot { slot < slot_count (race_layout race.now) }
         requires expected { IfSome expected (λ place. place < slot_count (race_layout race.now)) }
         requires target { IfSome target (λ place. place < slot_count (race_layout race.now)) }
-        requires room { array_vec_len self.old.log < 256 }
+        requires room { HasRoomToStore (race_shape race.now) slot (word_of target) self.old }
         ensures race { racer_race self.new ≡ racer_race self.old }
         ensures start { racer_start self.new ≡ racer_start self.old }
         ensures stored_view { IfOk result (λ kind.
@@ -95,12 +95,13 @@ impl Racer {
     /// A word that refers to a slot is stored as [`Racer::store`] does, and any other as null: it
     /// marks and logs nothing, and its kind is `Null`. One atomic step reads the old word and
     /// writes the new one. Takes no memory and never waits. The racer, the slot and the word must
-    /// be of this race ([`Race::is_word`]), and the log must have room.
+    /// be of this race ([`Race::is_word`]), and the log must have room for the store
+    /// ([`Racer::has_room_for_word`]).
     pub fn swap_word(&mut self, race: &Race, slot: Slot, word: u64) -> (Kind, u64)
         requires race { racer_race self.old ≡ race_id race.now }
         requires slot { slot < slot_count (race_layout race.now) }
         requires word { IsWord (race_shape race.now) word }
-        requires room { array_vec_len self.old.log < 256 }
+        requires room { HasRoomToStore (race_shape race.now) slot word self.old }
         ensures race { racer_race self.new ≡ racer_race self.old }
         ensures start { racer_start self.new ≡ racer_start self.old }
         ensures stored { HasStoredWord (race_shape race.now) slot word result.1 result.0 self.old
@@ -119,7 +120,7 @@ impl Racer {
     /// error is the word that the slot has. A word that no slot can have is never found.
     ///
     /// Takes no memory and never waits. The racer, the slot and the new word must be of this race,
-    /// and the log must have room.
+    /// and the log must have room for the store of that word.
     pub fn compare_exchange_word(
         &mut self,
         race: &Race,
@@ -130,7 +131,7 @@ impl Racer {
         requires race { racer_race self.old ≡ race_id race.now }
         requires slot { slot < slot_count (race_layout race.now) }
         requires word { IsWord (race_shape race.now) word }
-        requires room { array_vec_len self.old.log < 256 }
+        requires room { HasRoomToStore (race_shape race.now) slot word self.old }
         ensures race { racer_race self.new ≡ racer_race self.old }
         ensures start { racer_start self.new ≡ racer_start self.old }
         ensures stored { IfOk result (λ kind.
@@ -157,7 +158,7 @@ impl Racer {
         requires slot { slot < slot_count (race_layout race.now) }
         requires word { IsWord (race_shape race.now) word }
         requires across { across ≡ crosses (race_shape race.now) slot word }
-        requires room { array_vec_len self.old.log < 256 }
+        requires room { HasRoomToStore (race_shape race.now) slot word self.old }
         ensures race { racer_race self.new ≡ racer_race self.old }
         ensures start { racer_start self.new ≡ racer_start self.old }
         ensures stored { IfOk result (λ kind.

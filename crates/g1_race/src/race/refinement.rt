@@ -1,10 +1,11 @@
 //! Concurrent refinement, which races with stores.
 ghost use Rattle.std.specs.Prelude.{◌≡◌, ◌+◌, ◌-◌, ◌*◌, ◌<◌, ◌∷◌, if◌then◌else◌};
-ghost use Rattle.g1_race.specs.Prelude.{[], length, IsPair, IsWord, slot_card};
+ghost use Rattle.g1_race.specs.Prelude.{Bool, [], length, IsPair, IsWord, slot_card};
 ghost use Rattle.g1_race.specs.Prelude.{start_of, pair_at, recorded, slot_count, card_count};
 ghost use Rattle.std.specs.Result.{IsOk};
 ghost use Rattle.g1_race.specs.Members.{race_id, race_layout, sweeper_race, sweeper_start};
 ghost use Rattle.g1_race.specs.Members.{sweeper_view, IsSweeperSeat, Recording, Holding};
+ghost use Rattle.g1_race.specs.Members.{HasCleaned};
 
 use crate::bits::bit_of;
 use crate::race::{Race, Sweeper};
@@ -38,6 +39,10 @@ impl Sweeper {
         ensures race { sweeper_race self.new ≡ sweeper_race self.old }
         ensures start { sweeper_start self.new ≡ sweeper_start self.old }
         ensures swept { (sweeper_view self.new).swept ≡ card ∷ (sweeper_view self.old).swept }
+        ensures clean { (was_dirty : Bool) × HasCleaned (sweeper_view self.old) card was_dirty
+            × ((sweeper_view self.new).cleanings
+            ≡ (if was_dirty then card ∷ (sweeper_view self.old).cleanings
+            else (sweeper_view self.old).cleanings)) }
     {
         let _swept = self.sweep(race, card);
         Ok(())
@@ -51,6 +56,7 @@ impl Sweeper {
         ensures race { sweeper_race self.new ≡ sweeper_race self.old }
         ensures start { sweeper_start self.new ≡ sweeper_start self.old }
         ensures swept { (sweeper_view self.new).swept ≡ card ∷ (sweeper_view self.old).swept }
+        ensures clean { HasCleaned (sweeper_view self.old) card result.was_dirty }
         ensures cleaned { (sweeper_view self.new).cleanings
             ≡ (if result.was_dirty then card ∷ (sweeper_view self.old).cleanings
             else (sweeper_view self.old).cleanings) }
@@ -62,6 +68,7 @@ impl Sweeper {
 }
 
 // Cleans a card, and then reads its slots.
+#[tactic(auto, using(crate::proofs::has_cleaned))]
 #[inline(always)]
 fn sweep(race: &Race, seat: &mut RaceSeat, card: usize) -> Swept
     requires seat { IsSweeperSeat race.now.table.table_id race.now.shape seat.old }
@@ -69,6 +76,7 @@ fn sweep(race: &Race, seat: &mut RaceSeat, card: usize) -> Swept
     ensures seat { IsSweeperSeat race.now.table.table_id race.now.shape seat.new }
     ensures start { start_of seat.new.me.0 ≡ start_of seat.old.me.0 }
     ensures swept { seat.new.me.0.swept ≡ card ∷ seat.old.me.0.swept }
+    ensures clean { HasCleaned seat.old.me.0 card result.was_dirty }
     ensures cleaned { seat.new.me.0.cleanings
         ≡ (if result.was_dirty then card ∷ seat.old.me.0.cleanings
         else seat.old.me.0.cleanings) }

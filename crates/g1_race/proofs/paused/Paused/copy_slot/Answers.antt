@@ -1,6 +1,6 @@
 use Rattle.std.proofs.Common.{rules}
-use Rattle.std.specs.Prelude.{◌≡◌, ◌^◌, ◌<◌}
-use Rattle.g1_race.specs.{ℕ, None, sym, ap, ◌∙◌, subst, arith, some, get_elem?, slot_count, target_of, stored, RaceShape, read_is, shape_of, word_of, Pause, table_at, SlotsBecome, one_word}
+use Rattle.std.specs.Prelude.{◌≡◌, ◌⊎◌, ◌/◌, ◌^◌, ◌<◌}
+use Rattle.g1_race.specs.{inl, inr, ⊎_elim, IsFlagged, Logged, FlagsRise, slot_card, ℕ, None, sym, ap, ◌∙◌, subst, arith, some, get_elem?, slot_count, target_of, stored, RaceShape, read_is, shape_of, word_of, Pause, table_at, SlotsBecome, one_word}
 use Rattle.g1_race.specs.Over as over
 use Rattle.g1_race.proofs.{target_data, target_word, slot_gives, lent_view}
 use Rattle.g1_race.proofs.paused.Paused.copy_slot.Goals as goal
@@ -30,3 +30,13 @@ returns-clause-words g c =
 
 pub returns-clause-table : goal.returns-clause-table
 returns-clause-table g c = search (rules, target_of, stored, table_at, lent_view, reads)
+
+-- only the slot's card is raised, or none
+raises : (old read new : Pause) (IsStored : ℕ → Type 0) (to : ℕ) → read ≡ old → ((card : ℕ) → IsStored card → card ≡ slot_card read.shape to) → FlagsRise IsStored read new → FlagsRise (λ card. card ≡ slot_card old.shape to) old new
+raises old read new IsStored to same one is = subst (λ (h : Pause). FlagsRise (λ card. card ≡ slot_card h.shape to) h new) same (λ c lt b. ⊎_elim (λ (o : IsFlagged read.shape read.words c). inl o) (λ (s : (d : ℕ) × IsStored d × (d / 8 ≡ c / 8)). inr (s.0, one s.0 s.1, s.2)) (is c lt b))
+
+pub returns-then-word-clause-flags : goal.returns-then-word-clause-flags
+returns-then-word-clause-flags g c = raises c.args.self.now c.word-word.new.self c.store_data.new.self (λ card. ⊥) c.args.to c.word-word.ensures.same (λ card e. absurd e) c.store_data.ensures.flags
+
+pub returns-clause-flags : goal.returns-clause-flags
+returns-clause-flags g c = raises c.args.self.now c.word-word.new.self c.store.new.self (λ card. (c.store.result ≡ Logged) × (card ≡ slot_card c.word-word.new.self.shape c.args.to)) c.args.to c.word-word.ensures.same (λ card e. e.1) c.store.ensures.flags

@@ -17,7 +17,7 @@ loop-i-preserved g c =
     let next : ℕ = c.if-upwards.distance in
     let one : CopiesOne c.loop-i.self c.copy_slot.new.self (c.args.from + next) (c.args.to + next) =
     subst (λ (x : ℕ × ℕ). CopiesOne c.loop-i.self c.copy_slot.new.self x.0 x.1) (λ i. (c.slot_behind.ensures i, c.slot_behind-in-loop-i.ensures i))
-    (record { race = c.copy_slot.ensures.race; words = c.copy_slot.ensures.words; table = c.copy_slot.ensures.table }) in
+    (record { race = c.copy_slot.ensures.race; words = c.copy_slot.ensures.words; table = c.copy_slot.ensures.table; flags = c.copy_slot.ensures.flags }) in
     let on : (upwards ≡ true → next ≡ c.loop-i.i) → (upwards ≡ false → next ≡ c.args.count - 1 - c.loop-i.i) → Copied old c.copy_slot.new.self (c.args.from + first_of upwards c.args.count (c.loop-i.i + 1)) (c.args.to + first_of upwards c.args.count (c.loop-i.i + 1)) (c.loop-i.i + 1) =
     λ here there. copied_on (Copied old c.loop-i.self) (Copied old c.copy_slot.new.self) (CopiesOne c.loop-i.self c.copy_slot.new.self) old.shape.slots (copied_up old c.loop-i.self c.copy_slot.new.self full) (copied_down old c.loop-i.self c.copy_slot.new.self full) upwards c.args.from c.args.to c.args.count c.loop-i.i next
     (λ e. omega (arith, leb-true c.number.result c.number-2.result e, c.number.ensures, c.number-2.ensures)) (λ e. omega (arith, leb-false c.number.result c.number-2.result e, c.number.ensures, c.number-2.ensures))
@@ -30,4 +30,4 @@ loop-i-preserved g c =
 pub returns : goal.returns
 returns g c =
     let all = copied_all (Copied c.args.self.now c.loop-i.self) (leb c.number.result c.number-2.result) c.args.from c.args.to c.args.count c.loop-i.i (omega (arith, c.loop-i-test.false)) c.loop-i.invariant in
-    record { race = all.race; words = all.words; table = all.table }
+    record { race = all.race; words = all.words; table = all.table; flags = all.flags }

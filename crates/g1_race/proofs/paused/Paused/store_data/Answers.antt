@@ -1,9 +1,10 @@
 -- A store of data is one of null to the table.
-use Rattle.std.proofs.Common.{rules}
+use Rattle.std.proofs.Common.{arith, rules}
 use Rattle.std.specs.Prelude.{◌≡◌, ◌<◌, ◌≤◌, ◌^◌}
-use Rattle.g1_race.specs.{List, ℕ, None, set, sym, ap, ◌∙◌, subst, inr, Null, RaceShape, IsBegun, started, kind_of, stored, shape_of, WordsBecome, one_word, Pause, ended, table_at, table_of, words_of}
+use Rattle.g1_race.specs.{RaisesOnly, List, ℕ, None, set, sym, ap, ◌∙◌, subst, inr, Null, RaceShape, IsBegun, started, kind_of, stored, shape_of, WordsBecome, one_word, Pause, ended, table_at, table_of, words_of}
 use Rattle.g1_layout.specs.Shape as layout
 use Rattle.g1_race.proofs.{begun_placed, target_data, kind_data, quiet_store, store_step, put_words, data_crosses, held_table, lent_begun, lent_slot, lent_view}
+use Rattle.g1_race.proofs.FlagRises.{put_rises}
 use Rattle.g1_race.proofs.paused.Paused.store_data.Goals as goal
 
 pub put-requires-clause-begun : goal.put-requires-clause-begun
@@ -37,5 +38,7 @@ returns g c =
       words = subst (λ (h : Pause). WordsBecome (one_word c.args.slot c.args.word) h.shape h.words (words_of c.put.new.self)) (lent_view c.race-race.ensures c.self.view_is)
           (put_words k words c.args.slot c.args.word _ (c.put.ensures.words ∙ (λ i. set words (c.number.ensures i) c.args.word)));
       table = table;
+      flags = subst (λ (h : Pause). RaisesOnly (λ card. ⊥) h.shape h.words (words_of c.put.new.self)) (lent_view c.race-race.ensures c.self.view_is)
+          (put_rises k (λ card. ⊥) words _ c.args.slot c.args.word (let lt = lent_slot c.race-race.ensures c.self.view_is c.requires.slot in omega (arith, lt)) (c.put.ensures.words ∙ (λ i. set words (c.number.ensures i) c.args.word)));
       step = λ caller. store_step (table_at c.args.self.now) _ caller c.args.slot None Null c.requires.slot tt (both g c).0 table;
     }

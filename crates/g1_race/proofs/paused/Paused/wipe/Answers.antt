@@ -1,6 +1,6 @@
 use Rattle.std.proofs.Common.{arith, rules}
 use Rattle.std.specs.Prelude.{◌≡◌, ◌+◌, ◌*◌, ◌/◌, ◌%◌, ◌<◌}
-use Rattle.g1_race.specs.{ℕ, mod-lt, div-add-mod', sym, ap, ◌∙◌, subst, some, get_elem?, Table, target_of, RaceShape, Pause, words_of}
+use Rattle.g1_race.specs.{ℕ, mod-lt, div-add-mod', sym, ap, ◌∙◌, subst, some, get_elem?, Table, target_of, RaceShape, RaisesOnly, Pause, words_of}
 use Rattle.g1_race.proofs.{slot_in, slot_gives, held_table, lent_region, lent_view, wiped_words}
 use Rattle.g1_race.proofs.paused.Paused.wipe.Goals as goal
 
@@ -16,6 +16,7 @@ returns g c =
       race = search rules;
       words = grind (arith, wiped_words, lent_view);
       table = search rules;
+      flags = subst (λ (h : Pause). RaisesOnly (λ card. ⊥) h.shape h.words words) (lent_view c.race-race.ensures c.self.view_is) c.wipe_slots.ensures.flags;
       null = λ slot e.
           let on : slot / k.span ≡ c.number.result = ap (λ (s : ℕ). slot / s) span ∙ (e ∙ sym c.number.ensures) in
           let is : c.number.result * k.span + slot % k.span ≡ slot = ap (λ (r : ℕ). r * k.span + slot % k.span) (sym on) ∙ div-add-mod' slot k.span in

@@ -1,7 +1,8 @@
 -- The slots before the one that is looked at refer to what they refer to in the core.
 use Rattle.std.specs.Prelude.{◌≡◌, ◌+◌, ◌≤◌}
-use Rattle.g1_race.specs.{inl, ℕ, List, sym, ap, ◌∙◌, subst, arith, slot_count, State, Machine, IsSound, reads_after, target_of, RaceShape, word_of, ArePlaced, words_of, Writes}
+use Rattle.g1_race.specs.{inl, ℕ, List, sym, ap, ◌∙◌, subst, arith, slot_count, State, Machine, IsSound, reads_after, target_of, RaceShape, word_of, ArePlaced, RaisesOnly, words_of, Writes}
 use Rattle.g1_race.proofs.{begun_placed, begun_on, writes_next}
+use Rattle.g1_race.proofs.FlagRises.{put_rises, rises_then}
 use Rattle.g1_race.proofs.Placing.{placed_next, placed_past, covered_on}
 use Rattle.g1_race.proofs.CopiedTable.{word_bound}
 use Rattle.g1_race.proofs.paused.Writer.place_slots.Goals.{After-word_of-word, then-word-ne0, else-word-ne0}
@@ -40,10 +41,11 @@ loop-number-preserved c =
     let state : c.target.new.self.state ≡ m.state = ap (λ (m : Machine). m.state) c.target.ensures.did.machine ∙ i.state in
     let settings : c.target.new.self.settings ≡ m.settings = ap (λ (m : Machine). m.settings) c.target.ensures.did.machine ∙ i.settings in
     let reads : c.target.new.self.reads ≡ reads_after m.reads (n + 1) = ap (λ (m : Machine). m.reads) c.target.ensures.did.machine ∙ (ap (λ (r : ℕ). reads_after r 1) i.reads ∙ (let e : reads_after (reads_after m.reads n) 1 ≡ reads_after m.reads (n + 1) = omega arith in e)) in
-    let done = λ (s : Writer). record { below : n + 1 ≤ k.slots; slots : Writes c.args.self.now s (λ heap old new. ArePlaced heap t old new (n + 1)); state : c.target.new.self.state ≡ m.state; settings : c.target.new.self.settings ≡ m.settings; reads : c.target.new.self.reads ≡ reads_after m.reads (n + 1) } in
+    let done = λ (s : Writer). record { below : n + 1 ≤ k.slots; flags : RaisesOnly (λ card. ⊥) k old (words_of s); slots : Writes c.args.self.now s (λ heap old new. ArePlaced heap t old new (n + 1)); state : c.target.new.self.state ≡ m.state; settings : c.target.new.self.settings ≡ m.settings; reads : c.target.new.self.reads ≡ reads_after m.reads (n + 1) } in
     elim c.if-word-ne0.branch [
       | then-word-ne0 w ↦ subst done (sym w.self-is) (record {
         below = omega (arith, c.loop-number-test.true);
+        flags = rises_then k (λ card. ⊥) (λ card. ⊥) (λ card. ⊥) old mid (words_of w.put.new.self) (λ d e. e) (λ d e. e) i.flags (put_rises k (λ card. ⊥) mid (words_of w.put.new.self) n c.word_of-word.result (omega (arith, c.loop-number-test.true)) w.put.ensures.words);
         slots = writes_next i.slots.race i.slots.reader w.put.ensures (λ put. subst (λ (l : List ℕ). ArePlaced k t old l (n + 1)) (sym put) (placed_next k t old mid n c.word_of-word.result c.loop-number-test.true (omega (arith, i.slots.begun.sized)) is i.slots.words));
         state = state;
         settings = settings;
@@ -51,6 +53,7 @@ loop-number-preserved c =
       })
       | else-word-ne0 w ↦ subst done (sym w.self-is) (record {
         below = omega (arith, c.loop-number-test.true);
+        flags = i.flags;
         slots = record { race = i.slots.race; reader = i.slots.reader; begun = i.slots.begun; words = placed_past k t old mid n c.word_of-word.result c.loop-number-test.true (c.requires.null n c.loop-number-test.true) is w.if-word-ne0.false i.slots.words };
         state = state;
         settings = settings;

@@ -1,9 +1,10 @@
 -- A store at a pause: first the card, if the store dirties it, and then the slot.
 use Rattle.std.specs.Prelude.{◌≡◌, ◌/◌, ◌<◌, ◌≤◌}
-use Rattle.g1_race.specs.{inl, List, ℕ, Option, set, refl, ap, sym, ◌∙◌, subst, inr, arith, IfSome, slot_count, RaceShape, IsBegun, slot_card, started, word_of, target_of_word, one_word, words_of, heap_of}
+use Rattle.g1_race.specs.{Logged, card_below, inl, List, ℕ, Option, set, refl, ap, sym, ◌∙◌, subst, inr, arith, IfSome, slot_count, RaceShape, IsBegun, slot_card, started, word_of, target_of_word, one_word, words_of, heap_of}
 use Rattle.g1_layout.specs.Shape as layout
 use Rattle.g1_race.specs.declared.race.Race.{Race}
 use Rattle.g1_race.proofs.{word_target, word_fits, begun_placed, quiet_marked, quiet_store, dirtied_words, put_words, words_then, begun_on, writes_next}
+use Rattle.g1_race.proofs.FlagRises.{put_rises, rises_then, dirtied_rises}
 use Rattle.g1_race.proofs.FlagStores.{dirtied_here, dirtied_store}
 use Rattle.g1_race.proofs.paused.Writer.store_as.Goals as goal
 
@@ -75,3 +76,21 @@ returns-clause-table c =
     let is = c.put-2.ensures.words ∙ (λ i. set words (c.number.ensures i) (c.word_of-word.ensures i)) in
     dirtied_store race.shape race.layout race.laid c.args.slot g.lt target (word_of target) g.back (words_of c.args.self.now) words _ c.number-2.result (same_card race c.args.slot c.number-2.result (c.number-2.ensures ∙ c.card_of.ensures.quotient)) c.dirty.ensures.words
     (sym c.requires.kind ∙ c.in-Logged.is) is (begun_on (sym c.dirty.ensures.race) c.put-2.ensures.begun)
+
+pub returns-in_default-clause-flags : goal.returns-in_default-clause-flags
+returns-in_default-clause-flags c =
+    let k = heap_of c.args.self.now in
+    let g = given c.args.self.now.race.now c.args.slot c.args.target c.requires.slot c.requires.target in
+    put_rises k (λ card. (c.args.kind ≡ Logged) × (card ≡ slot_card k c.args.slot)) (words_of c.args.self.now) (words_of c.put.new.self) c.args.slot (word_of c.args.target) (let lt = g.lt in omega (arith, lt))
+    (c.put.ensures.words ∙ (λ i. set (words_of c.args.self.now) (c.number.ensures i) (c.word_of-word.ensures i)))
+
+pub returns-clause-flags : goal.returns-clause-flags
+returns-clause-flags c =
+    let race = c.args.self.now.race.now in
+    let k = race.shape in
+    let g = given race c.args.slot c.args.target c.requires.slot c.requires.target in
+    let card : c.number-2.result ≡ slot_card k c.args.slot = same_card race c.args.slot c.number-2.result (c.number-2.ensures ∙ c.card_of.ensures.quotient) in
+    let Stored = λ (card : ℕ). (c.args.kind ≡ Logged) × (card ≡ slot_card k c.args.slot) in
+    rises_then k (λ (d : ℕ). d ≡ c.number-2.result) Stored Stored (words_of c.args.self.now) (words_of c.dirty.new.self) (words_of c.put-2.new.self) (λ d e. (c.in-Logged.is, e ∙ card)) (λ d e. e)
+    (dirtied_rises k (words_of c.args.self.now) (words_of c.dirty.new.self) c.number-2.result (subst (λ (d : ℕ). d < k.cards) (sym card) (card_below k c.args.slot race.shaped g.lt)) c.dirty.ensures.words)
+    (put_rises k Stored (words_of c.dirty.new.self) (words_of c.put-2.new.self) c.args.slot (word_of c.args.target) (let lt = g.lt in omega (arith, lt)) (c.put-2.ensures.words ∙ (λ i. set (words_of c.dirty.new.self) (c.number.ensures i) (c.word_of-word.ensures i))))

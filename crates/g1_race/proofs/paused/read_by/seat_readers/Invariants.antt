@@ -9,6 +9,6 @@ invariant-loop-i l = record {
   weight : l.pause_seat.me.0.weight + l._i ≡ l.fn.pause_seat.me.0.weight;
   len : vec_len l.readers ≡ l._i;
   room : l.count ≤ vec_capacity l.readers;
-  grows : vec_capacity l.fn.readers ≤ vec_capacity l.readers;
+  same : vec_capacity l.readers ≡ vec_capacity l.fn.readers;
   all : All (λ r. r ≡ known l.table.table_id (start_of l.fn.pause_seat.me.0)) l.readers.items;
 }
