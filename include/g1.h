@@ -42,8 +42,8 @@
  *   - A runtime whose compiled code marks a card table of its own keeps that. Before a drain it
  *     reports what the slots of each marked card refer to now, and cleans that card in its table.
  *
- * Linking, without an install: libg1_c.a of the target. The code is for x86-64-v2, or for ARM
- * (AArch64), on Linux.
+ * Linking: -lg1 of an install, or prebuilt/TARGET/libg1_c.a of the repository. The code is for
+ * x86-64-v2, or for ARM (AArch64), on Linux.
  *
  * Every call relies on the following, which nothing can test:
  *   - A handle was made of zeros (struct g1 handle = {0};), is in one place at a time, and was
@@ -70,7 +70,8 @@
  * Numbers are not tied to a heap: a call accepts a slot of another heap if its own heap has a slot
  * of that number.
  *
- * Where several codes apply to a call, it returns the one that stands first in its list below.
+ * Where several codes apply to a call, it returns the one that stands first in its list below, but
+ * for the handles of a pause and of the end of a reading.
  *
  * "Constant time" says that no loop of the call grows with the heap, and "never waits" that it
  * takes no lock. Neither promises how long a call takes.
@@ -85,8 +86,14 @@
 extern "C" {
 #endif
 
-/* The version of the library. A new major version means: compile again. */
-#define G1_VERSION "3.0.0"
+/*
+ * The version of the library. Before 1.0.0 any other version means: compile again. From then on
+ * another major version does.
+ */
+#define G1_VERSION "0.5.0"
+
+/* The version of the library that the program runs with: a text for its whole life. */
+const char *g1_version(void);
 
 /*
  * Marks a call that may be refused, or do less than it was asked for, although its caller keeps
@@ -146,12 +153,13 @@ enum g1_kind {
 };
 
 /*
- * What each call returns. A code of 8 or more means that the call was refused and that nothing has
- * changed, except for G1_NO_ROOM of g1_heap_drain; each call says what its results hold then.
+ * What each call returns; 5 to 7 and 21 are no codes. A code of 8 or more means that the call was
+ * refused and that nothing has changed, except for G1_NO_ROOM of g1_heap_drain; each call says what
+ * its results hold then.
  */
 enum g1_code {
     G1_DONE = 0,
-    G1_SHORT = 1,             /* memory was refused midway: the work that is reported was done,
+    G1_SHORT = 1,             /* an allocation failed midway: the work that is reported was done,
                                  and no more */
     G1_DIFFERS = 2,           /* a slot has something else than was expected: nothing was stored */
     G1_STOPPED = 3,           /* one of several stores names a slot or a target that the heap does
@@ -160,9 +168,10 @@ enum g1_code {
                                  it were made. Take the log, and go on from there */
     G1_NOT_OPEN = 8,          /* the handle is closed */
     G1_ALREADY_OPEN = 9,      /* the handle that was to be opened is open */
-    G1_NO_MEMORY = 10,        /* memory was refused before anything changed */
+    G1_NO_MEMORY = 10,        /* an allocation failed before anything changed */
     G1_BAD_LAYOUT = 11,       /* the counts of the heap are outside their limits */
-    G1_BAD_SETTINGS = 12,     /* the hot limit or the size of the ring is outside its limits */
+    G1_BAD_SETTINGS = 12,     /* the hot limit, the size of the ring or a length of a refiner's
+                                 queue is outside its limits */
     G1_NO_SLOT = 13,          /* the heap has no such slot, or no such target */
     G1_NO_CARD = 14,          /* the heap has no such card */
     G1_NO_REGION = 15,        /* the heap has no such region */
@@ -173,12 +182,11 @@ enum g1_code {
     G1_STILL_REFERENCED = 20, /* a clear, while a slot outside the region refers into it; or
                                  g1_heap_forget, while one inside refers out of it */
     G1_LOG_FULL = 22,         /* the racer's log has G1_LOG cards: take it, and store again */
-    G1_BAD_MEMBERS = 23,      /* not as many racers, sweepers or readers as the heap has, or as a
+    G1_BAD_HANDLES = 23,      /* not as many racers, sweepers or readers as the heap has, or as a
                                  heap may have */
-    G1_OTHER_RACE = 24,       /* the handles are not those of all members, or all readers, of one
+    G1_OTHER_RACE = 24,       /* the handles are not all racers and sweepers, or all readers, of one
                                  heap, each given once */
-    G1_NOT_PAUSED = 25,       /* the members of the heap race, so it is at no pause, or readers read
-                                 it */
+    G1_NOT_PAUSED = 25,       /* the heap races, so it is at no pause, or readers read it */
     G1_NOT_RACING = 26,       /* the heap is at a pause already */
     G1_BAD_WORD = 27          /* a word of data is less than G1_DATA, or a word is none that a slot
                                  may have */
@@ -191,15 +199,15 @@ enum g1_code {
 static inline const char *g1_code_text(uint32_t code) {
     switch (code) {
     case G1_DONE: return "done";
-    case G1_SHORT: return "memory was refused midway";
+    case G1_SHORT: return "an allocation failed midway";
     case G1_DIFFERS: return "the slot has something else than was expected";
     case G1_STOPPED: return "a store names a wrong slot or target; those before it were made";
     case G1_FULL: return "the racer's log is full, and the stores before that were made";
     case G1_NOT_OPEN: return "a handle is closed";
     case G1_ALREADY_OPEN: return "a handle that was to be opened is open";
-    case G1_NO_MEMORY: return "memory was refused before anything changed";
+    case G1_NO_MEMORY: return "an allocation failed before anything changed";
     case G1_BAD_LAYOUT: return "the counts of the heap are outside their limits";
-    case G1_BAD_SETTINGS: return "the hot limit or the size of the ring is outside its limits";
+    case G1_BAD_SETTINGS: return "a setting is outside its limits";
     case G1_NO_SLOT: return "the heap has no such slot";
     case G1_NO_CARD: return "the heap has no such card";
     case G1_NO_REGION: return "the heap has no such region";
@@ -209,9 +217,9 @@ static inline const char *g1_code_text(uint32_t code) {
     case G1_STILL_PENDING: return "cards are pending";
     case G1_STILL_REFERENCED: return "a reference still enters the region, or leaves it";
     case G1_LOG_FULL: return "the racer's log is full";
-    case G1_BAD_MEMBERS: return "the heap has, or may have, another number of members";
-    case G1_OTHER_RACE: return "the handles are not those of all members of one heap";
-    case G1_NOT_PAUSED: return "the members of the heap race, or readers read it";
+    case G1_BAD_HANDLES: return "a wrong number of racers, sweepers or readers";
+    case G1_OTHER_RACE: return "the handles are not all that one heap has, each given once";
+    case G1_NOT_PAUSED: return "the heap races, or readers read it";
     case G1_NOT_RACING: return "the heap is at a pause already";
     case G1_BAD_WORD: return "the word is no data, or no slot may have it";
     default: return "no code of the library";
@@ -472,15 +480,18 @@ uint32_t g1_verify(struct g1 *handle, uint32_t first, uint32_t count, const uint
 /*
  * A concurrent heap.
  *
- * A struct g1_heap has members: racers, by each of which a mutator stores, and sweepers, by each of
- * which a refinement thread refines. Each member is in one thread at a time. They take no lock and
- * never wait: they synchronise on single words alone. The life of such a heap has two states in
- * turn. It is at a pause, or its members are out and race:
+ * A struct g1_heap has racers, by each of which a mutator stores, and sweepers, by each of which a
+ * refinement thread refines. Each is in one thread at a time. They take no lock and never wait, and
+ * synchronise on single words alone. The life of such a heap has two states in turn. It is at a
+ * pause, or it races, and its racers and sweepers are with the threads:
  *
  *     g1_heap_open      the heap begins, at a pause
- *     g1_heap_resume    opens the members' handles: they race from here on
+ *     g1_heap_resume    opens the handles of racers and sweepers: the heap races from here on
  *     g1_heap_pause     closes these handles: the collector has the heap
  *     g1_heap_close     at a pause: frees it
+ *
+ * The time from a resume to the next pause is a race, so the calls in it are g1_race_store and the
+ * like. The members of a region, as in g1_heap_members, are the cards of its remembered set.
  *
  * The collector's calls (g1_heap_drain, g1_heap_clear, ..) are on the heap's handle, at a pause.
  * Several threads read one pause at once by readers, between two more calls at it, g1_heap_read and
@@ -497,7 +508,7 @@ uint32_t g1_verify(struct g1 *handle, uint32_t first, uint32_t count, const uint
  *     first drain at a pause at the latest. A log that was not taken stays with its racer over a
  *     pause, and is empty if the pause has refined.
  *
- * Threads may begin and end while the members race. So a heap is opened with as many racers as
+ * Threads may begin and end while the heap races. So a heap is opened with as many racers as
  * there may be mutators at once, and the runtime keeps the handles that no thread uses, in a list
  * under a lock of its own. A thread that begins takes a racer's handle from there. Before it ends
  * it takes the racer's log and hands it on, or leaves it in the racer, and puts the handle back. A
@@ -508,7 +519,7 @@ uint32_t g1_verify(struct g1 *handle, uint32_t first, uint32_t count, const uint
  *     calls while it has a lock of that racer's.
  *
  * Besides what every call relies on, these calls rely on the following:
- *   - A call writes its handle, so each thread keeps its member's in a local, and not in a row that
+ *   - A call writes its handle, so each thread keeps its own in a local, and not in a row that
  *     threads share: a row of handles is a cache line that all of them write. The thread copies its
  *     local back into the row before the pause. A copy that was left behind is not to be used.
  *   - The runtime's references are the library's words, as below. Or they are in memory of the
@@ -516,7 +527,7 @@ uint32_t g1_verify(struct g1 *handle, uint32_t first, uint32_t count, const uint
  *     the call, or makes each by the loop below. If two of them race, the library may keep a
  *     different value than memory does, and then a drain can miss what memory holds. Stores to
  *     different slots need no order.
- *   - You never call g1_heap_pause or g1_heap_read_end twice at once with members or readers of one
+ *   - You never call g1_heap_pause or g1_heap_read_end twice at once with handles of one
  *     heap. (Either counts the owners of what they share, to refuse those of another heap, and a
  *     second call would disturb the count.)
  *
@@ -550,6 +561,9 @@ uint32_t g1_verify(struct g1 *handle, uint32_t first, uint32_t count, const uint
  *     memory_order_acquire) where it may find a new object of another thread, so that what was
  *     written into the object before the store is found there too. Elsewhere a relaxed one does.
  *   - The words stay at their place until the heap is closed.
+ *   - A region may be an exception as a whole: one that every pause evacuates. Its words are then
+ *     memory of the runtime's own, with plain stores and no report, and its slots stay null here.
+ *     Slots of other regions may refer into it as into any.
  */
 
 /* A handle of a concurrent heap. It is closed if the pointer is null. */
@@ -585,12 +599,12 @@ struct g1_reader {
  * Opens a closed handle on a new heap, at a pause: each slot is null, no card is dirty, and nothing
  * is recorded. It has this many racers and sweepers, whose handles the caller gets by
  * g1_heap_resume. The heap takes 8 bytes a slot, 8 bytes a card, a bit for each pair of a card and
- * a region and a bit for each card, and all of this twice while it opens. It also takes about a
- * kilobyte for the log of each racer, and about a hundred bytes for each reader that it may have.
+ * a region and a bit for each card, and all of this twice while it opens. It also takes about 2.4
+ * kilobytes for each racer and 0.3 for each sweeper, with a reader for each of them.
  *
  * Returns:
  *   - G1_DONE.
- *   - G1_ALREADY_OPEN, G1_BAD_MEMBERS, G1_BAD_LAYOUT or G1_NO_MEMORY: nothing has changed.
+ *   - G1_ALREADY_OPEN, G1_BAD_HANDLES, G1_BAD_LAYOUT or G1_NO_MEMORY: nothing has changed.
  */
 G1_MUST_USE
 uint32_t g1_heap_open(struct g1_heap *heap, const struct g1_counts *counts, uint32_t racers,
@@ -602,30 +616,30 @@ uint32_t g1_heap_open(struct g1_heap *heap, const struct g1_counts *counts, uint
  * recorded. Each racer has the log of the racer that was at its place in the row of the last pause,
  * or an empty one if there was none or the pause has refined. A card that is dirty from the
  * beginning and in no log is refined if a sweeper is given it, or at the next pause. The call takes
- * time proportional to the number of members, and no memory. It is never refused to a caller that
- * passes a closed handle for each member.
+ * time proportional to the number of racers and sweepers, and no memory. It is never refused to a
+ * caller that passes a closed handle for each of them.
  *
  * Returns:
- *   - G1_DONE: each member's handle is open.
- *   - G1_NOT_OPEN for the heap's handle, G1_NOT_PAUSED, G1_BAD_MEMBERS (not the numbers of handles
- *     that the heap was opened with) or G1_ALREADY_OPEN for a member's handle: nothing has changed.
+ *   - G1_DONE: each of these handles is open.
+ *   - G1_NOT_OPEN for the heap's handle, G1_NOT_PAUSED, G1_BAD_HANDLES (not the numbers of handles
+ *     that the heap was opened with) or G1_ALREADY_OPEN for one of these: nothing has changed.
  */
 uint32_t g1_heap_resume(struct g1_heap *heap, struct g1_racer *racers, size_t racers_length,
                         struct g1_sweeper *sweepers, size_t sweepers_length);
 
 /*
  * Begins a pause. All racers and sweepers of the heap are handed in, in any order. Before the call
- * you see to it that no thread is inside a call of a member, or between a store of its own and the
- * call that reports it: this call stops no thread and waits for none. The members' logs stay with
- * the heap. The call takes time proportional to the number of members, and no memory. It is never
- * refused to a caller that passes each member once.
+ * you see to it that no thread is inside a call of a racer or a sweeper, or between a store of its
+ * own and the call that reports it: this call stops no thread and waits for none. The racers' logs
+ * stay with the heap. The call takes time proportional to the number of racers and sweepers, and no
+ * memory. It is never refused to a caller that passes each of them once.
  *
  * Returns:
- *   - G1_DONE: the members' handles are closed, and the collector's calls may be made.
- *   - G1_NOT_OPEN for the heap's handle, G1_NOT_RACING or G1_BAD_MEMBERS (not the numbers of
+ *   - G1_DONE: these handles are closed, and the collector's calls may be made.
+ *   - G1_NOT_OPEN for the heap's handle, G1_NOT_RACING or G1_BAD_HANDLES (not the numbers of
  *     handles that the heap was opened with): nothing has changed.
- *   - G1_NOT_OPEN for a member's handle, or G1_OTHER_RACE (a member of another heap, or one that is
- *     given twice): nothing has changed. Where both apply, either may be returned.
+ *   - G1_NOT_OPEN for one of these handles, or G1_OTHER_RACE (one is of another heap, or is given
+ *     twice): nothing has changed. Where both apply, either may be returned.
  */
 uint32_t g1_heap_pause(struct g1_heap *heap, struct g1_racer *racers, size_t racers_length,
                        struct g1_sweeper *sweepers, size_t sweepers_length);
@@ -635,20 +649,21 @@ uint32_t g1_heap_pause(struct g1_heap *heap, struct g1_racer *racers, size_t rac
  *
  * Returns:
  *   - G1_DONE.
- *   - G1_NOT_OPEN, or G1_NOT_PAUSED while its members race or readers read it: nothing has changed.
+ *   - G1_NOT_OPEN, or G1_NOT_PAUSED while it races or readers read it: nothing has changed.
  */
 uint32_t g1_heap_close(struct g1_heap *heap);
 
 /*
  * A racer stores a reference to the place `target`, or null (G1_NULL), into a slot, concurrently
- * with whatever the other members do. `kind` is the kind of store (enum g1_kind). If it is
+ * with whatever other threads do. `kind` is the kind of store (enum g1_kind). If it is
  * G1_STORED_LOGGED, the slot's card is last in the racer's log. The call takes constant time and no
  * memory, and never waits.
  *
  * Returns:
  *   - G1_DONE.
- *   - G1_NOT_OPEN, G1_LOG_FULL (for any store, of null too, while the log is full), or G1_NO_SLOT
- *     for the slot or the target: nothing has changed, and `kind` is G1_STORED_NULL.
+ *   - G1_NOT_OPEN, G1_NO_SLOT for the slot or the target, or G1_LOG_FULL (the target is in another
+ *     region than the slot, and the log is full): nothing has changed, and `kind` is
+ *     G1_STORED_NULL. Null, and a reference within the region, need no room in the log.
  */
 G1_MUST_USE
 uint32_t g1_race_store(struct g1_racer *racer, uint32_t slot, uint32_t target, uint32_t *kind);
@@ -656,12 +671,11 @@ uint32_t g1_race_store(struct g1_racer *racer, uint32_t slot, uint32_t target, u
 /*
  * A racer stores as g1_race_store does, and `old` is what the slot referred to before: the place,
  * or G1_NULL for null or data. One atomic step reads that and writes the slot, so no other store
- * falls between them. It is for a collector that marks from a snapshot. The call takes about 20
- * instructions more than that store.
+ * falls between them. It is for a collector that marks from a snapshot.
  *
  * Returns:
  *   - G1_DONE.
- *   - G1_NOT_OPEN, G1_LOG_FULL or G1_NO_SLOT, as g1_race_store does: nothing has changed, `old` is
+ *   - G1_NOT_OPEN, G1_NO_SLOT or G1_LOG_FULL, as g1_race_store does: nothing has changed, `old` is
  *     G1_NULL, and `kind` is G1_STORED_NULL.
  */
 G1_MUST_USE
@@ -675,9 +689,9 @@ uint32_t g1_race_swap(struct g1_racer *racer, uint32_t slot, uint32_t target, ui
  *
  * Returns:
  *   - G1_DONE: the slot had `expected`, which `found` is too, and it has `target` now.
- *   - G1_NOT_OPEN, G1_LOG_FULL (whatever the slot has, while the log is full), or G1_NO_SLOT for
- *     the slot, `expected` or the target: nothing has changed, `found` is G1_NULL, and `kind` is
- *     G1_STORED_NULL.
+ *   - G1_NOT_OPEN, G1_NO_SLOT for the slot, `expected` or the target, or G1_LOG_FULL (whatever the
+ *     slot has, if the target is in another region and the log is full): nothing has changed,
+ *     `found` is G1_NULL, and `kind` is G1_STORED_NULL.
  *   - G1_DIFFERS: the slot had something else, such as data where null was expected. Nothing was
  *     stored, and `kind` is G1_STORED_NULL.
  */
@@ -693,8 +707,9 @@ uint32_t g1_race_compare_exchange(struct g1_racer *racer, uint32_t slot, uint32_
  * Returns:
  *   - G1_DONE: `stored` is stores_length.
  *   - G1_NOT_OPEN: nothing has changed, and `stored` is 0.
- *   - G1_FULL: the log is full before the store at index `stored`. The stores before it were made;
- *     it and the later ones were not. Take the log, and go on with this store.
+ *   - G1_FULL: the store at index `stored` is of a reference into another region, and the log is
+ *     full. The stores before it were made; it and the later ones were not. Take the log, and go on
+ *     with this store.
  *   - G1_STOPPED: the store at index `stored` names a slot or a target that the heap does not have.
  *     The stores before it were made; it and the later ones were not.
  */
@@ -703,8 +718,8 @@ uint32_t g1_race_store_all(struct g1_racer *racer, const struct g1_reference *st
                            size_t stores_length, size_t *stored);
 
 /*
- * A racer stores data, a word from G1_DATA on, into a slot, concurrently with whatever the other
- * members do. To a drain the slot is null. `old` is the word that the slot had. The call takes
+ * A racer stores data, a word from G1_DATA on, into a slot, concurrently with whatever other
+ * threads do. To a drain the slot is null. `old` is the word that the slot had. The call takes
  * constant time and no memory, marks and logs nothing, needs no room in the log, and never waits.
  *
  * Returns:
@@ -722,9 +737,9 @@ uint32_t g1_race_store_data(struct g1_racer *racer, uint32_t slot, uint64_t word
  *
  * Returns:
  *   - G1_DONE.
- *   - G1_NOT_OPEN, G1_LOG_FULL (whatever the word is, while the log is full), G1_NO_SLOT, or
- *     G1_BAD_WORD for a word that is none of these: nothing has changed, `old` is 0, and `kind` is
- *     G1_STORED_NULL.
+ *   - G1_NOT_OPEN, G1_NO_SLOT, G1_BAD_WORD for a word that is none of these, or G1_LOG_FULL (the
+ *     word refers into another region, and the log is full): nothing has changed, `old` is 0, and
+ *     `kind` is G1_STORED_NULL.
  */
 G1_MUST_USE
 uint32_t g1_race_swap_word(struct g1_racer *racer, uint32_t slot, uint64_t word, uint64_t *old,
@@ -738,14 +753,32 @@ uint32_t g1_race_swap_word(struct g1_racer *racer, uint32_t slot, uint64_t word,
  *
  * Returns:
  *   - G1_DONE: the slot had `expected`, which `found` is too, and it has `word` now.
- *   - G1_NOT_OPEN, G1_LOG_FULL (whatever the slot has, while the log is full), G1_NO_SLOT, or
- *     G1_BAD_WORD for either word: nothing has changed, `found` is 0, and `kind` is
- *     G1_STORED_NULL.
+ *   - G1_NOT_OPEN, G1_NO_SLOT, G1_BAD_WORD for either word, or G1_LOG_FULL (whatever the slot has,
+ *     if `word` refers into another region and the log is full): nothing has changed, `found` is 0,
+ *     and `kind` is G1_STORED_NULL.
  *   - G1_DIFFERS: the slot had another word. Nothing was stored, and `kind` is G1_STORED_NULL.
  */
 G1_MUST_USE
 uint32_t g1_race_compare_exchange_word(struct g1_racer *racer, uint32_t slot, uint64_t expected,
                                        uint64_t word, uint64_t *found, uint32_t *kind);
+
+/*
+ * A racer stores a row of words into as many slots from `slot` on, in order, each as
+ * g1_race_swap_word does. Before the first one it looks at all: none is stored unless the heap has
+ * these slots and they may have these words. The cards of those that are logged are last in the
+ * racer's log, in order. The call takes no memory, and never waits.
+ *
+ * Returns:
+ *   - G1_DONE: `stored` is words_length.
+ *   - G1_NOT_OPEN, G1_NO_SLOT (the row leaves the heap) or G1_BAD_WORD (for one of the words):
+ *     nothing has changed, and `stored` is 0.
+ *   - G1_FULL: the word at index `stored` refers into another region, and the log is full. The
+ *     words before it were stored; it and the later ones were not. Take the log, and go on with
+ *     this word and its slot.
+ */
+G1_MUST_USE
+uint32_t g1_race_store_words(struct g1_racer *racer, uint32_t slot, const uint64_t *words,
+                             size_t words_length, size_t *stored);
 
 /*
  * Takes the cards of a racer's log, and leaves the log empty. The first `count` elements of `cards`
@@ -772,7 +805,7 @@ uint32_t g1_racer_counts(struct g1_racer *racer, uint64_t *null, uint64_t *same_
                          uint64_t *already_dirty, uint64_t *logged);
 
 /*
- * A sweeper refines a card, concurrently with whatever the other members do. It makes the card
+ * A sweeper refines a card, concurrently with whatever other threads do. It makes the card
  * clean, and then reads its slots and records which regions they refer into, whether the card was
  * dirty or not. A store of a reference into another region that comes too late to be read makes the
  * card dirty again. The call never waits, and takes no memory.
@@ -798,7 +831,7 @@ uint32_t g1_sweeper_counts(struct g1_sweeper *sweeper, uint64_t *refined, uint64
 
 /*
  * Sets `words` to the words of the slots, in order, for a runtime whose fields they are. They may
- * be read at a pause and while members race, as is said above. The call may be made at a pause or
+ * be read at a pause and while the heap races, as is said above. The call may be made at a pause or
  * not, and takes constant time.
  *
  * Returns G1_DONE, or G1_NOT_OPEN: `words` is null.
@@ -873,6 +906,36 @@ uint32_t g1_heap_members(struct g1_heap *heap, uint32_t region, uint32_t *cards,
 uint32_t g1_heap_next_member(struct g1_heap *heap, uint32_t region, uint32_t from, uint32_t *card);
 
 /*
+ * Sets `card` to the least card from the number `from` on that lies outside these regions and is
+ * recorded for one of them, or to G1_NULL if there is none. So a walk over a whole collection set,
+ * as one over a remembered set, meets each card once:
+ *
+ *     for (from = 0; g1_heap_next_into(&heap, regions, count, from, &card) == G1_DONE &&
+ *                    card != G1_NULL;
+ *          from = card + 1)
+ *
+ * The regions may come in any order. The call reads for each of them a word for each 64 cards up to
+ * the one that it finds, and one more for each of them in which it passes over a card. It takes no
+ * memory.
+ *
+ * Returns G1_DONE, or G1_NOT_OPEN, G1_NOT_PAUSED, or G1_NO_REGION for any of the regions: `card` is
+ * G1_NULL.
+ */
+uint32_t g1_heap_next_into(struct g1_heap *heap, const uint32_t *regions, size_t regions_length,
+                           uint32_t from, uint32_t *card);
+
+/*
+ * Sets `card` to the least dirty card from the number `from` on, or to G1_NULL if there is none. So
+ * a pause that refines card by card, or that scans dirty cards itself, needs no list of them. A
+ * walk is as with g1_heap_next_member. The call reads a word for each 64 cards up to the one that
+ * it finds, and for each eight of these of which one was dirtied since all were last refined at a
+ * pause their marks and one word more. It takes no memory.
+ *
+ * Returns G1_DONE, or G1_NOT_OPEN or G1_NOT_PAUSED: `card` is G1_NULL.
+ */
+uint32_t g1_heap_next_dirty(struct g1_heap *heap, uint32_t from, uint32_t *card);
+
+/*
  * Refines all that is dirty, and empties the racers' logs. For a collection set, call it once, and
  * then g1_heap_members or g1_heap_next_member for each region: they return what drains would. It
  * takes no memory.
@@ -883,9 +946,10 @@ uint32_t g1_heap_refine(struct g1_heap *heap);
 
 /*
  * Refines all that is dirty, empties the racers' logs, and returns the remembered set of a region:
- * every card outside the region that refers into it. Some may be stale: they did at some time since
- * the set was last cleared, and no longer do. The first `count` elements of `cards` are the set,
- * ascending, each card once. The call takes no memory. It is never short.
+ * every card outside the region that refers into it. Some may be stale: they no longer refer into
+ * it, but did, or were recorded for it, when the heap was last resumed, or have done so since. The
+ * first `count` elements of `cards` are the set, ascending, each card once. The call takes no
+ * memory. It is never short.
  *
  * Returns:
  *   - G1_DONE.
@@ -929,6 +993,19 @@ uint32_t g1_heap_store_all(struct g1_heap *heap, const struct g1_reference *stor
  * Returns G1_DONE, or G1_NOT_OPEN, G1_NOT_PAUSED, G1_NO_SLOT or G1_BAD_WORD: nothing has changed.
  */
 uint32_t g1_heap_store_data(struct g1_heap *heap, uint32_t slot, uint64_t word);
+
+/*
+ * The collector stores a row of words into as many slots from `slot` on, in order: null and
+ * references as g1_heap_store does, and data as g1_heap_store_data does. Before the first one it
+ * looks at all. The call takes no memory.
+ *
+ * Returns:
+ *   - G1_DONE.
+ *   - G1_NOT_OPEN, G1_NOT_PAUSED, G1_NO_SLOT (the row leaves the heap) or G1_BAD_WORD (for one of
+ *     the words): nothing has changed.
+ */
+uint32_t g1_heap_store_words(struct g1_heap *heap, uint32_t slot, const uint64_t *words,
+                             size_t words_length);
 
 /*
  * The collector copies the words of `count` slots, references and data, from the slot `from` on to
@@ -975,8 +1052,8 @@ uint32_t g1_heap_redirect(struct g1_heap *heap, uint32_t from, uint32_t to, uint
 
 /*
  * Stores null into each slot of a region that is freed, also where it has data. Cards that are
- * dirty stay dirty, and what is recorded stays recorded. It takes time proportional to the slots of
- * a region, and no memory.
+ * dirty stay dirty, and what is recorded stays recorded. It reads each slot of the region, writes
+ * those that are not null, and takes no memory.
  *
  * Returns G1_DONE, or G1_NOT_OPEN, G1_NOT_PAUSED or G1_NO_REGION: nothing has changed.
  */
@@ -1025,25 +1102,25 @@ uint32_t g1_heap_verify(struct g1_heap *heap, uint32_t first, uint32_t count,
  * Begins a reading of a heap at a pause. It opens as many closed handles of readers as the array
  * has, at most as many as the heap has racers and sweepers together. Each reader belongs to one
  * thread at a time, and any number of them read at once. The call takes time proportional to the
- * number of the heap's members, and no memory.
+ * number of the heap's racers and sweepers, and no memory.
  *
  * Returns:
  *   - G1_DONE: each reader's handle is open.
  *   - G1_NOT_OPEN for the heap's handle, G1_NOT_PAUSED (also while the heap is read already),
- *     G1_BAD_MEMBERS (more readers than the heap has members) or G1_ALREADY_OPEN for a reader's
- *     handle: nothing has changed.
+ *     G1_BAD_HANDLES (more readers than the heap has racers and sweepers) or G1_ALREADY_OPEN for a
+ *     reader's handle: nothing has changed.
  */
 uint32_t g1_heap_read(struct g1_heap *heap, struct g1_reader *readers, size_t readers_length);
 
 /*
  * Ends the reading. All readers of the heap are handed in, in any order. Before the call you see to
  * it that no thread is inside a call of a reader. The heap is then at its pause as it was before
- * g1_heap_read. The call takes time proportional to the number of the heap's members, and no
- * memory. It is never refused to a caller that passes each reader once.
+ * g1_heap_read. The call takes time proportional to the number of the heap's racers and sweepers,
+ * and no memory. It is never refused to a caller that passes each reader once.
  *
  * Returns:
  *   - G1_DONE: the readers' handles are closed.
- *   - G1_NOT_OPEN for the heap's handle, G1_NOT_PAUSED (the heap's members race) or G1_BAD_MEMBERS
+ *   - G1_NOT_OPEN for the heap's handle, G1_NOT_PAUSED (the heap races) or G1_BAD_HANDLES
  *     (the heap is not read, or by another number of readers): nothing has changed.
  *   - G1_NOT_OPEN for a reader's handle, or G1_OTHER_RACE (a reader of another heap, or one that is
  *     given twice): nothing has changed. Where both apply, either may be returned.

@@ -1,10 +1,10 @@
-// Owning handles over g1.h, in C++17.
+// Owning handles over g1.h and g1_refiner.h, in C++17.
 //
-// Each method makes the one call of g1.h that is named beside it, and that header says what the
-// call does, what it relies on and what it returns. What is added here:
+// Each method makes the one call that is named beside it, and its header says what the call does,
+// what it relies on and what it returns. What is added here:
 //   - A handle begins closed and can be moved, not copied. A core and a concurrent heap close
-//     themselves at their end. A racer and a sweeper have no end of their own: they go back into a
-//     pause.
+//     themselves at their end. A racer, a sweeper and a reader have no end of their own: they go
+//     back into a pause.
 //   - A code is a g1_code, a kind a g1_kind, and whether a card is pending a bool. The compiler
 //     warns where a code is thrown away that has to be looked at. Nothing throws.
 //   - An array is any container with std::data and std::size, of std::uint32_t (of g1_reference
@@ -16,15 +16,21 @@
 #define G1_HPP
 
 #include "g1.h"
+#include "g1_refiner.h"
 
 #include <cstddef>
 #include <cstdint>
 #include <exception>
 #include <iterator>
+#include <memory>
+#include <new>
 #include <type_traits>
 #include <utility>
 
 namespace garbage_first {
+
+// g1_version
+inline const char *version() noexcept { return g1_version(); }
 
 // Private to this header.
 namespace internal {
@@ -115,8 +121,8 @@ public:
     // Closes the handle, if it is open.
     g1_code close() noexcept { return internal::code(close_handle(this->get())); }
 
-    // Closes the handle, if it is open, and owns another in its place. A concurrent heap whose
-    // members race can't be closed: then the program ends by std::terminate.
+    // Closes the handle, if it is open, and owns another in its place. A concurrent heap
+    // that races or that readers read cannot be closed: then the program ends by std::terminate.
     void reset(Handle other) noexcept {
         if (this->is_open() && close() != G1_DONE) {
             std::terminate();
@@ -125,15 +131,15 @@ public:
     }
 };
 
-// A member of a concurrent heap, which can be paused only with all of them. If another is moved
-// into the place of an open one, the program ends by std::terminate, as with a std::thread that
-// runs. If an open one is destroyed, its heap can't be paused any more.
-template <typename Handle> class Member : public Moved<Handle> {
+// A racer, sweeper or reader: its heap can be paused, or the reading ended, only with all of them.
+// If another is moved into the place of an open one, the program ends by std::terminate, as with a
+// std::thread that runs. If an open one is destroyed, its heap cannot be paused any more.
+template <typename Handle> class Lent : public Moved<Handle> {
 public:
-    Member() noexcept = default;
-    Member(Member &&) noexcept = default;
+    Lent() noexcept = default;
+    Lent(Lent &&) noexcept = default;
 
-    Member &operator=(Member &&other) noexcept {
+    Lent &operator=(Lent &&other) noexcept {
         if (this != &other) {
             reset(other.release());
         }
@@ -149,7 +155,7 @@ public:
     }
 
 protected:
-    ~Member() = default;
+    ~Lent() = default;
 };
 
 // A core.
@@ -245,7 +251,7 @@ public:
 };
 
 // A racer, by which a mutator stores. The thread moves it into a local, and back before a pause.
-class Racer : public Member<g1_racer> {
+class Racer : public Lent<g1_racer> {
 public:
     // g1_race_store
     [[nodiscard]] g1_code store(std::uint32_t slot, std::uint32_t target, g1_kind &kind) noexcept {
@@ -277,6 +283,20 @@ public:
     [[nodiscard]] g1_code store_all(const g1_reference *stores, std::size_t stores_length,
                                     std::size_t &stored) noexcept {
         return store_all(internal::Elements(stores, stores_length), stored);
+    }
+
+    // g1_race_store_words
+    template <typename Words>
+    [[nodiscard]] g1_code store_words(std::uint32_t slot, const Words &words,
+                                      std::size_t &stored) noexcept {
+        return internal::code(g1_race_store_words(get(), slot, internal::elements(words),
+                                                  std::size(words), &stored));
+    }
+
+    // g1_race_store_words
+    [[nodiscard]] g1_code store_words(std::uint32_t slot, const std::uint64_t *words,
+                                      std::size_t words_length, std::size_t &stored) noexcept {
+        return store_words(slot, internal::Elements(words, words_length), stored);
     }
 
     // g1_race_store_data
@@ -314,7 +334,7 @@ public:
 
 // A sweeper, by which a refinement thread refines. The thread moves it into a local, and back
 // before a pause.
-class Sweeper : public Member<g1_sweeper> {
+class Sweeper : public Lent<g1_sweeper> {
 public:
     // g1_race_refine
     g1_code refine(std::uint32_t card) noexcept {
@@ -329,8 +349,8 @@ public:
 };
 
 // A reader, by which a thread reads a pause. The thread moves it into a local, and back before the
-// reading ends. If an open one is destroyed, the reading can't end any more.
-class Reader : public Member<g1_reader> {
+// reading ends. If an open one is destroyed, the reading cannot end any more.
+class Reader : public Lent<g1_reader> {
 public:
     // g1_reader_target
     g1_code target(std::uint32_t slot, std::uint32_t &target) noexcept {
@@ -360,14 +380,14 @@ public:
 
 // The handles of a container of racers, sweepers or readers in an array, as g1.h (and g1_refiner.h)
 // takes them. They are in the array from its beginning on, and at its end their owners' again.
-// If the container has more members than `most`, none of its handles is in the array.
-template <typename Members, typename Handle, std::size_t most> class Row {
+// If the container has more of them than `most`, none is in the array.
+template <typename Owners, typename Handle, std::size_t most> class Row {
 public:
-    explicit Row(Members &owners) noexcept : members(owners) {
+    explicit Row(Owners &all) noexcept : owners(all) {
         if (fits()) {
             Handle *handle = handles;
-            for (auto &member : members) {
-                *handle++ = member.release();
+            for (auto &owner : owners) {
+                *handle++ = owner.release();
             }
         }
     }
@@ -378,18 +398,18 @@ public:
     ~Row() {
         if (fits()) {
             const Handle *handle = handles;
-            for (auto &member : members) {
-                member.reset(*handle++);
+            for (auto &owner : owners) {
+                owner.reset(*handle++);
             }
         }
     }
 
-    bool fits() const noexcept { return std::size(members) <= most; }
-    std::size_t size() const noexcept { return std::size(members); }
+    bool fits() const noexcept { return std::size(owners) <= most; }
+    std::size_t size() const noexcept { return std::size(owners); }
     Handle *data() noexcept { return handles; }
 
 private:
-    Members &members;
+    Owners &owners;
     Handle handles[most]{};
 };
 
@@ -399,20 +419,20 @@ template <typename Readers> using ReaderRow = Row<Readers, g1_reader, G1_RACERS 
 
 namespace internal {
 
-// Makes a call that takes all members, or refuses more of them than an array here holds.
+// Makes a call that takes all racers and sweepers, or refuses more than an array here holds.
 template <typename Racers, typename Sweepers, typename Call>
-g1_code with_members(Racers &racers, Sweepers &sweepers, Call call) noexcept {
+g1_code with_rows(Racers &racers, Sweepers &sweepers, Call call) noexcept {
     RacerRow<Racers> racing(racers);
     SweeperRow<Sweepers> sweeping(sweepers);
     if (!racing.fits() || !sweeping.fits()) {
-        return G1_BAD_MEMBERS;
+        return G1_BAD_HANDLES;
     }
     return code(call(racing.data(), racing.size(), sweeping.data(), sweeping.size()));
 }
 
 } // namespace internal
 
-// A concurrent heap. If it is destroyed while its members race, its memory is not freed.
+// A concurrent heap. If it is destroyed while it races or readers read it, its memory is not freed.
 class ConcurrentHeap : public Owned<g1_heap, g1_heap_close> {
 public:
     // g1_heap_open
@@ -424,16 +444,16 @@ public:
     // g1_heap_resume
     template <typename Racers, typename Sweepers>
     [[nodiscard]] g1_code resume(Racers &racers, Sweepers &sweepers) noexcept {
-        return internal::with_members(racers, sweepers, [this](auto... members) noexcept {
-            return g1_heap_resume(get(), members...);
+        return internal::with_rows(racers, sweepers, [this](auto... rows) noexcept {
+            return g1_heap_resume(get(), rows...);
         });
     }
 
     // g1_heap_pause
     template <typename Racers, typename Sweepers>
     [[nodiscard]] g1_code pause(Racers &racers, Sweepers &sweepers) noexcept {
-        return internal::with_members(racers, sweepers, [this](auto... members) noexcept {
-            return g1_heap_pause(get(), members...);
+        return internal::with_rows(racers, sweepers, [this](auto... rows) noexcept {
+            return g1_heap_pause(get(), rows...);
         });
     }
 
@@ -441,7 +461,7 @@ public:
     template <typename Readers> [[nodiscard]] g1_code read(Readers &readers) noexcept {
         ReaderRow<Readers> reading(readers);
         if (!reading.fits()) {
-            return G1_BAD_MEMBERS;
+            return G1_BAD_HANDLES;
         }
         return internal::code(g1_heap_read(get(), reading.data(), reading.size()));
     }
@@ -450,7 +470,7 @@ public:
     template <typename Readers> [[nodiscard]] g1_code read_end(Readers &readers) noexcept {
         ReaderRow<Readers> reading(readers);
         if (!reading.fits()) {
-            return G1_BAD_MEMBERS;
+            return G1_BAD_HANDLES;
         }
         return internal::code(g1_heap_read_end(get(), reading.data(), reading.size()));
     }
@@ -493,6 +513,18 @@ public:
         return internal::code(g1_heap_next_member(get(), region, from, &card));
     }
 
+    // g1_heap_next_into
+    template <typename Regions>
+    g1_code next_into(const Regions &regions, std::uint32_t from, std::uint32_t &card) noexcept {
+        return internal::code(g1_heap_next_into(get(), internal::elements(regions),
+                                                std::size(regions), from, &card));
+    }
+
+    // g1_heap_next_dirty
+    g1_code next_dirty(std::uint32_t from, std::uint32_t &card) noexcept {
+        return internal::code(g1_heap_next_dirty(get(), from, &card));
+    }
+
     // g1_heap_refine
     g1_code refine() noexcept { return internal::code(g1_heap_refine(get())); }
 
@@ -519,6 +551,19 @@ public:
     g1_code store_all(const g1_reference *stores, std::size_t stores_length,
                       std::size_t &stored) noexcept {
         return store_all(internal::Elements(stores, stores_length), stored);
+    }
+
+    // g1_heap_store_words
+    template <typename Words>
+    g1_code store_words(std::uint32_t slot, const Words &words) noexcept {
+        return internal::code(
+            g1_heap_store_words(get(), slot, internal::elements(words), std::size(words)));
+    }
+
+    // g1_heap_store_words
+    g1_code store_words(std::uint32_t slot, const std::uint64_t *words,
+                        std::size_t words_length) noexcept {
+        return store_words(slot, internal::Elements(words, words_length));
     }
 
     // g1_heap_store_data
@@ -558,6 +603,163 @@ public:
         return internal::code(g1_heap_verify(get(), first, count, internal::elements(references),
                                              std::size(references), &differing, &missing));
     }
+};
+
+// Refinement threads with their queue, which has an array of its own. If a refiner is destroyed, or
+// another is moved into its place, while it refines, its threads end and their sweepers never come
+// back: the heap of these cannot be paused any more.
+class Refiner {
+public:
+    Refiner() noexcept = default;
+    Refiner(Refiner &&) noexcept = default;
+    ~Refiner() { end(); }
+
+    Refiner &operator=(Refiner &&other) noexcept {
+        if (this != &other) {
+            end();
+            state = std::move(other.state);
+        }
+        return *this;
+    }
+
+    bool is_open() const noexcept { return state != nullptr; }
+
+    // g1_refiner_open. The array of the queue is taken here, and G1_NO_MEMORY says too that it was
+    // refused.
+    [[nodiscard]] g1_code open(std::size_t sweepers, std::size_t logs = G1_REFINER_LOGS,
+                               std::size_t start = G1_REFINER_START,
+                               std::size_t stop = G1_REFINER_STOP) noexcept {
+        if (is_open()) {
+            return G1_ALREADY_OPEN;
+        }
+        std::unique_ptr<State> made(new (std::nothrow) State{});
+        if (made != nullptr) {
+            made->logs.reset(new (std::nothrow) g1_log[logs]);
+            made->sweepers = sweepers;
+        }
+        if (made == nullptr || made->logs == nullptr) {
+            return G1_NO_MEMORY;
+        }
+        g1_code code = internal::code(
+            g1_refiner_open(&made->refiner, made->logs.get(), logs, sweepers, start, stop));
+        if (code == G1_DONE) {
+            state = std::move(made);
+        }
+        return code;
+    }
+
+    // g1_refiner_close
+    g1_code close() noexcept {
+        g1_code code = internal::code(g1_refiner_close(get()));
+        if (code == G1_DONE) {
+            state.reset();
+        }
+        return code;
+    }
+
+    // g1_refiner_resume
+    template <typename Sweepers> [[nodiscard]] g1_code resume(Sweepers &sweepers) noexcept {
+        SweeperRow<Sweepers> row(sweepers);
+        return row.fits() ? internal::code(g1_refiner_resume(get(), row.data(), row.size()))
+                          : G1_BAD_HANDLES;
+    }
+
+    // g1_refiner_pause
+    template <typename Sweepers>
+    [[nodiscard]] g1_code pause(g1_queued queued, Sweepers &sweepers) noexcept {
+        SweeperRow<Sweepers> row(sweepers);
+        return row.fits() ? internal::code(g1_refiner_pause(get(), queued, row.data(), row.size()))
+                          : G1_BAD_HANDLES;
+    }
+
+    // g1_refiner_hand_on
+    g1_code hand_on(Racer &racer) noexcept {
+        return internal::code(g1_refiner_hand_on(get(), racer.get()));
+    }
+
+    // g1_refiner_read, or zeros for a closed refiner
+    g1_refiner_counts counts() noexcept {
+        g1_refiner_counts counts{};
+        if (is_open()) {
+            g1_refiner_read(get(), &counts);
+        }
+        return counts;
+    }
+
+    // g1_refiner_store
+    g1_code store(Racer &racer, std::uint32_t slot, std::uint32_t target, g1_kind &kind) noexcept {
+        return internal::code(
+            g1_refiner_store(get(), racer.get(), slot, target, internal::Out(kind)));
+    }
+
+    // g1_refiner_swap
+    g1_code swap(Racer &racer, std::uint32_t slot, std::uint32_t target, std::uint32_t &old,
+                 g1_kind &kind) noexcept {
+        return internal::code(
+            g1_refiner_swap(get(), racer.get(), slot, target, &old, internal::Out(kind)));
+    }
+
+    // g1_refiner_compare_exchange
+    [[nodiscard]] g1_code compare_exchange(Racer &racer, std::uint32_t slot, std::uint32_t expected,
+                                           std::uint32_t target, std::uint32_t &found,
+                                           g1_kind &kind) noexcept {
+        return internal::code(g1_refiner_compare_exchange(get(), racer.get(), slot, expected,
+                                                          target, &found, internal::Out(kind)));
+    }
+
+    // g1_refiner_swap_word
+    g1_code swap_word(Racer &racer, std::uint32_t slot, std::uint64_t word, std::uint64_t &old,
+                      g1_kind &kind) noexcept {
+        return internal::code(
+            g1_refiner_swap_word(get(), racer.get(), slot, word, &old, internal::Out(kind)));
+    }
+
+    // g1_refiner_compare_exchange_word
+    [[nodiscard]] g1_code compare_exchange_word(Racer &racer, std::uint32_t slot,
+                                                std::uint64_t expected, std::uint64_t word,
+                                                std::uint64_t &found, g1_kind &kind) noexcept {
+        return internal::code(g1_refiner_compare_exchange_word(
+            get(), racer.get(), slot, expected, word, &found, internal::Out(kind)));
+    }
+
+    // g1_refiner_store_all
+    template <typename Stores>
+    g1_code store_all(Racer &racer, const Stores &stores, std::size_t &stored) noexcept {
+        return internal::code(g1_refiner_store_all(
+            get(), racer.get(), internal::elements(stores), std::size(stores), &stored));
+    }
+
+    // g1_refiner_store_words
+    template <typename Words>
+    g1_code store_words(Racer &racer, std::uint32_t slot, const Words &words,
+                        std::size_t &stored) noexcept {
+        return internal::code(g1_refiner_store_words(get(), racer.get(), slot,
+                                                     internal::elements(words), std::size(words),
+                                                     &stored));
+    }
+
+private:
+    // It stays at its place while it is open.
+    struct State {
+        g1_refiner refiner{};
+        std::unique_ptr<g1_log[]> logs;
+        std::size_t sweepers = 0;
+    };
+
+    g1_refiner *get() noexcept {
+        static g1_refiner closed{};
+        return is_open() ? &state->refiner : &closed;
+    }
+
+    void end() noexcept {
+        if (is_open()) {
+            g1_sweeper lost[G1_SWEEPERS]{};
+            g1_refiner_pause(get(), G1_DROP_QUEUED, lost, state->sweepers); // if it is not paused
+            close();
+        }
+    }
+
+    std::unique_ptr<State> state;
 };
 
 } // namespace garbage_first

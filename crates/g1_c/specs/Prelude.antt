@@ -3,28 +3,31 @@ pub use Rattle.std.proofs.Common.{arith, MutBor, refl, rules, subst, sym, ◌∙
 pub use Rattle.std.specs.Fn.{FnOnceReturnsAtMut}
 pub use Rattle.std.specs.Prelude.{Err, IfSome, IsSome, IsSomeAnd, length, None, Ok, Option, Result}
 pub use Rattle.std.specs.Prelude.{Some, take, ℕ}
-pub use Rattle.arrayvec.specs.ArrayVec.{array_vec_len}
 pub use Rattle.g1_core.specs.Calls.{DoesCopy}
-pub use Rattle.g1_core.specs.Machine.{IsOnlyRead, new_machine}
+pub use Rattle.g1_core.specs.Machine.{new_machine}
 pub use Rattle.g1_core.specs.Calls.{TellsMembers, TellsPending, TellsStatus, TellsTarget}
 pub use Rattle.g1_handles.proofs.CalledLemmas.{called_ok, called_same, called_why}
 pub use Rattle.g1_handles.proofs.VisitLemmas.{role_if, role_of, role_ok, role_why, visit_same}
 pub use Rattle.g1_handles.proofs.VisitLemmas.{visit_so}
-pub use Rattle.g1_handles.specs.AtPause.{DrainsRegion, RefersOut, StoresAllAt}
+pub use Rattle.g1_handles.specs.AtPause.{DrainsRegion, RefersOut, StoresAllAt, StoresRowAt}
 pub use Rattle.g1_handles.specs.Batch.{AreStoresOf, IsFaultAt, made_all}
 pub use Rattle.g1_handles.specs.Codes.{Between, IsRefusal, IsStoreOf, IsVisit, kind_word, layout_of}
 pub use Rattle.g1_handles.specs.Codes.{OfKind, OfOpen, reference_of, refusal_word, settings_of}
 pub use Rattle.g1_handles.specs.Counting.{stored_as}
 pub use Rattle.g1_handles.specs.HeapCalls.{IsCalled, IsHeapRefused}
-pub use Rattle.g1_handles.specs.Lacks.{LacksCard, LacksPair, LacksPlace, LacksRanges, LacksRegion}
-pub use Rattle.g1_handles.specs.Lacks.{LacksSlot, SaysNoData, SaysNoMove}
-pub use Rattle.g1_handles.specs.Life.{AreLikeOf, AreOfHeap, HasCountedNothing, IsCloseRefused}
+pub use Rattle.g1_handles.specs.Lacks.{IsRow, LacksCard, LacksPair, LacksPlace, LacksRanges}
+pub use Rattle.g1_handles.specs.Lacks.{LacksRegion, LacksRow}
+pub use Rattle.g1_handles.specs.Lacks.{LacksSlot, LacksSomeRegion, SaysNoData, SaysNoMove}
+pub use Rattle.g1_handles.specs.Life.{AreLikeOf, AreOfHeap, HasNewMembers, IsCloseRefused}
 pub use Rattle.g1_handles.specs.Life.{IsFor, IsHeapOpenRefused, IsNewHeap, IsPauseRefused}
 pub use Rattle.g1_handles.specs.Life.{IsResumeRefused, IsSameHeap, OfHeap, OfPaused, SaysNoHeap}
 pub use Rattle.g1_handles.specs.Life.{SaysNotPaused}
 pub use Rattle.g1_handles.specs.Phases.{BeginsReading, ComesToPause, EndsReading, Resumes}
-pub use Rattle.g1_handles.specs.Queries.{Finds, Overflows, TellsNextMember, TellsWord}
-pub use Rattle.g1_handles.specs.RaceStores.{CanStoreAll, Exchanges, FindsOther, StoresAll, Swaps}
+pub use Rattle.g1_handles.specs.Queries.{Checks, Finds, Overflows, TellsNextInto, TellsNextMember}
+pub use Rattle.g1_handles.specs.Queries.{TellsWord}
+pub use Rattle.g1_handles.specs.RaceStores.{CanStoreAll, Exchanges, FindsOther, IsFullAt}
+pub use Rattle.g1_handles.specs.RaceStores.{StoresAll, Swaps}
+pub use Rattle.g1_handles.specs.RaceRows.{IsRowRefused, StoresRow}
 pub use Rattle.g1_handles.specs.RaceWords.{CanStoreWord, FindsOtherWord, IsExchangeWordRefused}
 pub use Rattle.g1_handles.specs.RaceWords.{IsSwapWordRefused, MayHave, SwapsWord}
 pub use Rattle.g1_handles.specs.Racing.{held_racers, held_readers, held_sweepers, IfRacer, IfRole}
@@ -33,7 +36,8 @@ pub use Rattle.g1_handles.specs.Racing.{StoresData, sweeping_in, Sweeps, TakesLo
 pub use Rattle.g1_handles.specs.Readers.{AreReadersLike, AreReadersOf, IsReadBy, IsReadEndRefused}
 pub use Rattle.g1_handles.specs.Readers.{IsReaderRefused, IsReadRefused, OfReader, reader_layout}
 pub use Rattle.g1_handles.specs.Readers.{reading_in, ReadsPair, table_of_reader}
-pub use Rattle.g1_handles.specs.Refusals.{AreMembersRefused, AreStoresRefused, IsCallRefused}
+pub use Rattle.g1_handles.specs.Refusals.{AreMembersRefused, AreStoresRefused, CanStore}
+pub use Rattle.g1_handles.specs.Refusals.{IsCallRefused}
 pub use Rattle.g1_handles.specs.Refusals.{IsDrainRefused, IsOpenRefused, IsRaceDataRefused}
 pub use Rattle.g1_handles.specs.Refusals.{IsRaceExchangeRefused, IsRaceStoreRefused}
 pub use Rattle.g1_handles.specs.Refusals.{IsRedirectRefused, IsRefinementRefused, IsRoleRefused}
@@ -52,3 +56,4 @@ pub use Rattle.g1_race.specs.Calls.{StoresDataAt, Wipes}
 pub use Rattle.g1_race.specs.Evacuating.{IsRaceWith}
 pub use Rattle.g1_race.specs.Members.{race_layout, race_words}
 pub use Rattle.g1_race.specs.Over.{Pause, start_at, table_at}
+pub use Rattle.g1_race.specs.Reading.{IsNextPending}

@@ -2,11 +2,10 @@
 use Rattle.std.specs.Prelude.{◌≡◌, ◌<◌, ◌∷◌}
 use Rattle.g1_handles.specs.{List, [], Some, None, All, map, refl, ap, ◌∙◌, sym, subst, props, length-map, get_or-map, All-map, Option, Result, Ok, Err, OnErr, IfErr, IsErrAnd, IsSome, IsSomeAnd, ForSome, arc_value, is_prop→PathP, Race, race_id, Reason, Ghosts, Member, IsOf, RacerMember, SweeperMember, ReaderMember}
 
--- a member is its share, its number, its counts and its role, with padding
-pub same_member : {P : Type 0} {g : Ghosts P} (m n : Member P g) → m.race ≡ n.race → m.number ≡ n.number → m.counts ≡ n.counts → m.role ≡ n.role → m.apart ≡ n.apart → m ≡ n
-same_member {P} {g} m n race number counts role apart = λ i. record {
+-- a member is its share, its counts and its role, with padding
+pub same_member : {P : Type 0} {g : Ghosts P} (m n : Member P g) → m.race ≡ n.race → m.counts ≡ n.counts → m.role ≡ n.role → m.apart ≡ n.apart → m ≡ n
+same_member {P} {g} m n race counts role apart = λ i. record {
   race = race i;
-  number = number i;
   role = role i;
   counts = counts i;
   apart = apart i;
@@ -14,13 +13,13 @@ same_member {P} {g} m n race number counts role apart = λ i. record {
 }
 
 -- the same of each kind of member, as tactics apply it
-pub same_racer : (m n : RacerMember) → m.race ≡ n.race → m.number ≡ n.number → m.counts ≡ n.counts → m.role ≡ n.role → m.apart ≡ n.apart → m ≡ n
+pub same_racer : (m n : RacerMember) → m.race ≡ n.race → m.counts ≡ n.counts → m.role ≡ n.role → m.apart ≡ n.apart → m ≡ n
 same_racer = same_member
 
-pub same_sweeper : (m n : SweeperMember) → m.race ≡ n.race → m.number ≡ n.number → m.counts ≡ n.counts → m.role ≡ n.role → m.apart ≡ n.apart → m ≡ n
+pub same_sweeper : (m n : SweeperMember) → m.race ≡ n.race → m.counts ≡ n.counts → m.role ≡ n.role → m.apart ≡ n.apart → m ≡ n
 same_sweeper = same_member
 
-pub same_reader : (m n : ReaderMember) → m.race ≡ n.race → m.number ≡ n.number → m.counts ≡ n.counts → m.role ≡ n.role → m.apart ≡ n.apart → m ≡ n
+pub same_reader : (m n : ReaderMember) → m.race ≡ n.race → m.counts ≡ n.counts → m.role ≡ n.role → m.apart ≡ n.apart → m ≡ n
 same_reader = same_member
 
 pub ruleset same_members = (same_racer, same_sweeper, same_reader)

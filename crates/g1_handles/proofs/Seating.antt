@@ -1,7 +1,9 @@
 -- Members that leave the boxes that waited for them, the last first.
-use Rattle.std.specs.Prelude.{◌≡◌, ◌<◌, ◌-◌, ◌∷◌}
-use Rattle.g1_handles.specs.{drop, ℕ, suc, List, Some, length, map, set, take, slice_index_or, ap, ◌∙◌, sym, subst, arith, get_or-take, get_or-set_same, length-set}
+use Rattle.std.specs.Prelude.{◌≡◌, ◌<◌, ◌-◌, ◌∷◌, ◌++◌, IsPermutation}
+use Rattle.g1_handles.specs.{drop, ℕ, suc, List, [], Some, length, map, set, take, slice_index_or, ap, ◌∙◌, sym, subst, arith, get_or-take, get_or-set_same, length-set, take-suc, map-append}
 use Rattle.std.proofs.Common.{drop-cons, drop-set-lt}
+use Rattle.std.proofs.lemmas.List.{take_all}
+use Rattle.std.proofs.lemmas.List.Sorted.{IsPermutation-to_front, IsPermutation-map, IsPermutation-trans, IsPermutation-sym, IsPermutation-append_comm}
 
 -- what is popped stands last in what is left of a list
 pub popped : {T : Type 0} (xs ys : List T) (n m : ℕ) (x d : T) → 0 < n → m ≡ n
@@ -37,3 +39,19 @@ pub seen_too : {H V T C : Type 0} (value : H → V) (f : V → C) (g : T → C) 
     → map f (map value (drop (n - 1) (set hs (n - 1) h))) ≡ map g (drop (n - 1) ys)
 seen_too value f g hs ys n h y some here there is so =
     ap (λ l. map f (map value l)) (from_set hs n some h here) ∙ ((λ i. is i ∷ so i) ∙ sym (ap (map g) (from_last ys n some y there)))
+
+-- the last one and those before it
+pub last_taken : {T : Type 0} (xs : List T) (n : ℕ) (x : T) → 0 < n → n ≡ length xs → x ≡ slice_index_or xs (n - 1) x → IsPermutation xs (x ∷ take (n - 1) xs)
+last_taken xs n x some all last =
+    let next : n ≡ suc (n - 1) = omega (arith, some) in
+    let parts : xs ≡ take (n - 1) xs ++ x ∷ [] =
+    sym (take_all n xs (omega (arith, all))) ∙ (ap (λ k. take k xs) next ∙ (take-suc xs (n - 1) x (omega (arith, some, all)) ∙ ap (λ y. take (n - 1) xs ++ y ∷ []) (sym last))) in
+    subst (λ l. IsPermutation l (x ∷ take (n - 1) xs)) (sym parts) (IsPermutation-to_front (take (n - 1) xs) x)
+
+-- what is seen of a list that is shared out is seen of its parts
+pub seen_of_parts : {T C : Type 0} (see : T → C) (all out rest : List T) → IsPermutation all (out ++ rest) → IsPermutation (map see all) (map see out ++ map see rest)
+seen_of_parts see all out rest same = subst (IsPermutation (map see all)) (map-append see out rest) (IsPermutation-map see all (out ++ rest) same)
+
+-- what came back to the others
+pub back : {T : Type 0} (all out rest : List T) → IsPermutation (rest ++ out) all → IsPermutation all (out ++ rest)
+back all out rest same = IsPermutation-trans all (rest ++ out) (out ++ rest) (IsPermutation-sym (rest ++ out) all same) (IsPermutation-append_comm rest out)

@@ -1,6 +1,6 @@
 -- What a heap of a layout lacks, and by which refusal a call says so.
 use Rattle.std.specs.Prelude.{◌≡◌, ◌⊎◌, ◌+◌, ◌<◌, ◌≤◌, ◌^◌}
-use Rattle.g1_handles.specs.Prelude.{ℕ, Shape, slot_count, card_count}
+use Rattle.g1_handles.specs.Prelude.{ℕ, List, All, length, Shape, slot_count, card_count}
 use Rattle.g1_handles.specs.declared.code.Reason.{Reason}
 use Rattle.g1_handles.specs.declared.code.Reason.TheVariants as refusal
 use Rattle.g1_handles.specs.Codes.{IsStoreOf}
@@ -17,6 +17,11 @@ LacksCard l card r = (r ≡ refusal.NoCard) × (card_count l ≤ card)
 abbrev pub LacksRegion : Shape → ℕ → Reason → Type 0
 LacksRegion l region r = (r ≡ refusal.NoRegion) × (l.regions ≤ region)
 
+-- no region has one of these numbers
+abbrev pub LacksSomeRegion : Shape → List ℕ → Reason → Type 0
+LacksSomeRegion l regions r =
+    (r ≡ refusal.NoRegion) × (All (λ region. region < l.regions) regions → ⊥)
+
 -- there are not as many slots from the first one on
 abbrev pub LacksSlots : Shape → ℕ → ℕ → Reason → Type 0
 LacksSlots l first count r = (r ≡ refusal.NoSlot) × (slot_count l < first + count)
@@ -24,6 +29,20 @@ LacksSlots l first count r = (r ≡ refusal.NoSlot) × (slot_count l < first + c
 -- one of the two ranges of as many slots from there on leaves the heap
 abbrev pub LacksRanges : Shape → ℕ → ℕ → ℕ → ℕ → Reason → Type 0
 LacksRanges l first count other others r = LacksSlots l first count r ⊎ LacksSlots l other others r
+
+-- a slot of the heap may have the word: null, a reference or data
+abbrev pub IsWordOf : Shape → ℕ → Type 0
+IsWordOf l word = (word ≤ slot_count l) ⊎ (2 ^ 32 ≤ word)
+
+-- there are as many slots from the first one on, which may have these words
+pub record IsRow (l : Shape) (first : ℕ) (words : List ℕ) : Type 0 where
+  pub within : first + length words ≤ slot_count l
+  pub fit : All (IsWordOf l) words
+
+-- there are not as many slots, or no slot may have one of the words
+abbrev pub LacksRow : Shape → ℕ → List ℕ → Reason → Type 0
+LacksRow l first words r = LacksSlots l first (length words) r
+    ⊎ ((r ≡ refusal.BadWord) × (All (IsWordOf l) words → ⊥))
 
 -- there is no such slot, or no such place of the target
 abbrev pub LacksPlace : Shape → ℕ → ℕ → Reason → Type 0

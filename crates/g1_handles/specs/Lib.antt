@@ -11,6 +11,7 @@ pub mod Counting
 pub mod Racing
 pub mod RaceStores
 pub mod RaceWords
+pub mod RaceRows
 pub mod AtPause
 pub mod Life
 pub mod HeapCalls
@@ -29,6 +30,7 @@ pub use Counting.*
 pub use Racing.*
 pub use RaceStores.*
 pub use RaceWords.*
+pub use RaceRows.*
 pub use AtPause.*
 pub use Life.*
 pub use HeapCalls.*
@@ -45,6 +47,7 @@ pub use declared.member.Member.{Member}
 pub use declared.member.Role.{Ghosts}
 pub use declared.member.batch.BatchEnd.{BatchEnd}
 pub use declared.member.batch.BatchEnd.TheVariants.{Full, Stopped, Whole}
+pub use declared.member.counts.MemberCounts.{MemberCounts}
 pub use declared.one_core.batch.Store.{Store}
 pub use declared.one_core.members.Listed.{Listed}
 pub use declared.one_core.members.Listed.TheVariants.{Members, NoRoom}

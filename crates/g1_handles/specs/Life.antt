@@ -20,7 +20,7 @@ use Rattle.g1_handles.specs.declared.heap.racing_heap.RacingHeap.TheVariants as 
 use Rattle.g1_handles.specs.declared.member.counts.MemberCounts.{MemberCounts}
 use Rattle.g1_handles.specs.Own.{RacerMember, SweeperMember}
 use Rattle.g1_handles.specs.Racing.{AreClosed, role_in, IsAmong, IsOf, IsOfWith, counts_of}
-use Rattle.g1_handles.specs.Counting.{no_counts}
+use Rattle.g1_handles.specs.Counting.{AreNew}
 use Rattle.g1_handles.specs.Refusals.{SaysNoMember}
 
 -- the handle has a heap at a pause that no reader reads, and it is so of it
@@ -101,7 +101,7 @@ pub record IsNewHeap (l : layout.Shape) (racers sweepers : ℕ) (p : Pause) : Ty
 abbrev pub IsHeapOpenRefused : Option RacingHeap → layout.Shape → ℕ → ℕ → Reason → Type 0
 IsHeapOpenRefused h l racers sweepers r =
     ((r ≡ refusal.AlreadyOpen) × IsSome h)
-    ⊎ ((h ≡ None) × (((r ≡ refusal.BadMembers) × (AreHeapCounts racers sweepers → ⊥))
+    ⊎ ((h ≡ None) × (((r ≡ refusal.BadHandles) × (AreHeapCounts racers sweepers → ⊥))
     ⊎ ((r ≡ refusal.BadLayout) × (IsShape l → ⊥)) ⊎ (r ≡ refusal.NoMemory)))
 
 -- the end of the heap of this handle
@@ -129,7 +129,7 @@ IsFor (Some (heap.Read r)) racers sweepers =
 IsFor (Some (heap.Racing b)) racers sweepers =
     (racers ≡ b.racers.count) × (sweepers ≡ b.sweepers.count)
 
--- what the members of these boxes have counted
+-- what the members of these boxes have counted, and their numbers
 abbrev pub boxed_counts : {P : Type 0} {g : Ghosts P} → Vec (Box (Member P g) Global) Global
     → List MemberCounts
 boxed_counts boxes = map (λ m. m.value.counts) boxes.items
@@ -145,10 +145,17 @@ heap_counts (Some (heap.Racing b)) = ([], [])
 abbrev pub waiting_counts : UnderWay → List MemberCounts × List MemberCounts
 waiting_counts b = (boxed_counts b.racers.boxes, boxed_counts b.sweepers.boxes)
 
--- the racers and the sweepers of the heap at a pause have counted nothing
-abbrev pub HasCountedNothing : Option RacingHeap → Type 0
-HasCountedNothing h =
-    All (λ c. c ≡ no_counts) (heap_counts h).0 × All (λ c. c ≡ no_counts) (heap_counts h).1
+-- the same of the readers of a heap that are in no handle
+abbrev pub idle_counts : Option RacingHeap → List MemberCounts
+idle_counts None = []
+idle_counts (Some (heap.Paused a)) = boxed_counts a.readers.idle
+idle_counts (Some (heap.Read r)) = boxed_counts r.readers.idle
+idle_counts (Some (heap.Racing b)) = boxed_counts b.readers.idle
+
+-- the members of the heap have counted nothing, and each of a kind has its index as number
+abbrev pub HasNewMembers : Option RacingHeap → Type 0
+HasNewMembers h =
+    AreNew (heap_counts h).0 × AreNew (heap_counts h).1 × AreNew (idle_counts h)
 
 -- what the racers and the sweepers of these handles have counted
 abbrev pub held_counts : List (Option RacerMember) → List (Option SweeperMember)
@@ -196,6 +203,7 @@ pub record LeavesPause (a : AtPause) (b : UnderWay) : Type 0 where
   pub logs : map racer_log b.racers.roles.items ≡ a.pause.logs
   pub began : began (race_layout (arc_value b.race)) (beginning (start_at a.pause))
       ≡ table_at a.pause
+  pub idle : b.readers ≡ a.readers
   pub racers_waited : b.racers.boxes ≡ a.racers
   pub sweepers_waited : b.sweepers.boxes ≡ a.sweepers
 
@@ -204,7 +212,7 @@ abbrev pub IsResumeRefused : Option RacingHeap → List (Option RacerMember)
     → List (Option SweeperMember) → Reason → Type 0
 IsResumeRefused h racers sweepers r =
     SaysNoHeap h r ⊎ SaysNotPaused h r
-    ⊎ ((r ≡ refusal.BadMembers) × OfPaused h (λ p. Unit {0})
+    ⊎ ((r ≡ refusal.BadHandles) × OfPaused h (λ p. Unit {0})
     × (IsFor h (length racers) (length sweepers) → ⊥))
     ⊎ ((r ≡ refusal.AlreadyOpen) × (AreClosed racers → AreClosed sweepers → ⊥))
 
@@ -227,7 +235,7 @@ abbrev pub IsPauseRefused : Option RacingHeap → List (Option RacerMember)
     → List (Option SweeperMember) → Reason → Type 0
 IsPauseRefused h racers sweepers r =
     SaysNoHeap h r ⊎ SaysNotRacing h r
-    ⊎ ((r ≡ refusal.BadMembers) × HasRacers h
+    ⊎ ((r ≡ refusal.BadHandles) × HasRacers h
     × (IsFor h (length racers) (length sweepers) → ⊥))
     ⊎ (HasRacers h × IsFor h (length racers) (length sweepers)
     × (Any (λ m. SaysNoMember m r) racers ⊎ Any (λ m. SaysNoMember m r) sweepers

@@ -19,7 +19,8 @@ pub use Rattle.std.specs.Fn.{FnOnceReturnsAtMut}
 pub use Rattle.std.specs.Global.{Global}
 pub use Rattle.std.specs.List.{AllWithin}
 pub use Rattle.std.specs.Option.{ForSome}
-pub use Rattle.std.specs.Prelude.{All, Any, Bool, Contains, drop, Err, false, fold, IfErr, IfNone}
+pub use Rattle.std.specs.Prelude.{All, Any, Bool, Contains, count_by, drop, Err, false, fold}
+pub use Rattle.std.specs.Prelude.{IfErr, IfNone}
 pub use Rattle.std.specs.Prelude.{IfOk, IfSome, IsErrAnd, IsOk, IsOkAnd, IsSome, IsSomeAnd, IsTrue}
 pub use Rattle.std.specs.Prelude.{length, MatchOption, None, not, Ok, OnErr, OnOk, Option}
 pub use Rattle.std.specs.Prelude.{replicate, Result, slice_set, Some, SomeIff, Vec, vec_capacity}
@@ -48,12 +49,13 @@ pub use Rattle.g1_core.specs.Calls.{target_entry}
 pub use Rattle.g1_core.specs.Machine.{IsLater, IsOnlyRead, IsSound, Machine, machine_code}
 pub use Rattle.g1_core.specs.Machine.{new_machine, State}
 pub use Rattle.g1_core.specs.Calls.{TellsMembers, TellsPending, TellsStatus, TellsTarget}
+pub use Rattle.g1_core.specs.Prelude.{reads_after}
 pub use Rattle.g1_core.specs.Redirect.{DoesRedirect}
 pub use Rattle.g1_core.specs.Run.{drained, IsStep, kind_of, stored}
 pub use Rattle.g1_core.specs.Settings.{AreSettings}
 pub use Rattle.g1_core.specs.Table.{AreMembers, AreRefinable, Crosses, IsCovered, IsPending}
 pub use Rattle.g1_core.specs.Table.{IsRecorded, opening, Table, target_of}
-pub use Rattle.g1_core.specs.Verify.{Differs, IsFirst, IsMissing}
+pub use Rattle.g1_core.specs.Verify.{Differs, IsFirst, IsMissing, looked_for}
 pub use Rattle.g1_core.specs.declared.config.Settings.{Settings}
 pub use Rattle.g1_core.specs.declared.reply.ClearReply.{ClearReply}
 pub use Rattle.g1_core.specs.declared.reply.ClearReply.TheVariants.{Cleared, Pending}
@@ -66,23 +68,25 @@ pub use Rattle.g1_layout.specs.declared.kind.Kind.{Kind}
 pub use Rattle.g1_layout.specs.declared.kind.Kind.TheVariants.{AlreadyDirty, Logged, Null}
 pub use Rattle.g1_layout.specs.declared.kind.Kind.TheVariants.{SameRegion}
 pub use Rattle.g1_race.specs.Calls.{ClearsAt, Copies, Forgets, Redirects, Refines, StoresAt}
-pub use Rattle.g1_race.specs.Calls.{StoresDataAt, Wipes}
+pub use Rattle.g1_race.specs.Calls.{StoresDataAt, StoresWordAt, Wipes}
+pub use Rattle.g1_race.specs.CollectionSet.{IsNextInto}
 pub use Rattle.g1_race.specs.Evacuating.{forgotten, IsExactAtPause, IsRaceWith, IsSameRace}
 pub use Rattle.g1_race.specs.Evacuating.{one_word, SlotsBecome, wiped}
-pub use Rattle.g1_race.specs.Members.{HasDiffered, HasNotStored, HasOverwritten, HasStored}
+pub use Rattle.g1_race.specs.Members.{HasCleaned, HasDiffered, HasNotStored, HasOverwritten}
+pub use Rattle.g1_race.specs.Members.{HasStored}
 pub use Rattle.g1_race.specs.Members.{is_logged, IsKind, IsNewRacer, IsNewSweeper, IsPauseOf}
 pub use Rattle.g1_race.specs.Members.{race_id, race_layout, race_shape, race_words, racer_log}
 pub use Rattle.g1_race.specs.Members.{racer_race, racer_view, sweeper_race, sweeper_start}
 pub use Rattle.g1_race.specs.Members.{sweeper_view}
 pub use Rattle.g1_race.specs.Over.{ended, ended_of, Pause, start_at, table_at, table_of}
 pub use Rattle.g1_race.specs.Race.{stored_view, word_of}
-pub use Rattle.g1_race.specs.Reading.{IsNextMember, IsReaderOf, Known, known, reader_race}
-pub use Rattle.g1_race.specs.Reading.{table_read}
+pub use Rattle.g1_race.specs.Reading.{IsNextMember, IsNextPending, IsReaderOf, Known, known}
+pub use Rattle.g1_race.specs.Reading.{reader_race, table_read}
 pub use Rattle.g1_race.specs.Telling.{marked_cards}
 pub use Rattle.g1_race.specs.declared.race.Race.{Race}
 pub use Rattle.g1_race.specs.declared.race.Racer.{Racer}
 pub use Rattle.g1_race.specs.declared.race.Sweeper.{Sweeper}
 pub use Rattle.g1_race_words.specs.Begin.{Start}
-pub use Rattle.g1_race_words.specs.Rule.{beginning, IsWord, null_of, slot_card}
+pub use Rattle.g1_race_words.specs.Rule.{beginning, crosses, IsWord, null_of, slot_card}
 pub use Rattle.g1_race_words.specs.Seats.{IsFound}
 pub use Rattle.g1_race_words.specs.declared.view.View.{View}

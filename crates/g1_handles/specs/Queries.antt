@@ -1,8 +1,9 @@
 -- What the answers to questions stand for.
 use Rattle.std.specs.Prelude.{◌≡◌, ◌+◌, ◌<◌, ◌≤◌}
 use Rattle.g1_handles.specs.Prelude.{ℕ, List, length, Table, map, IsFirst, IsMissing, Differs}
-use Rattle.g1_handles.specs.Prelude.{get_elem?, IsNextMember, IsWord, Option, Shape, slot_count}
-use Rattle.g1_handles.specs.Prelude.{Start}
+use Rattle.g1_handles.specs.Prelude.{get_elem?, All, IsNextInto, IsNextMember, IsWord, Option}
+use Rattle.g1_handles.specs.Prelude.{Shape, slot_count, Start, Machine, IsOnlyRead, looked_for}
+use Rattle.g1_handles.specs.Prelude.{reads_after}
 use mathlib.Core.Option.{some}
 use Rattle.g1_handles.specs.Codes.{reference_of}
 use Rattle.g1_handles.specs.Replies.{FitIn}
@@ -35,6 +36,12 @@ pub record TellsNextMember (t : Table) (region from : ℕ) (card : Option ℕ) :
   pub within : region < t.layout.regions
   pub next : IsNextMember t region from card
 
+-- the least card at or after `from` that lies outside these regions of the heap and is recorded for
+-- one of them, or none
+pub record TellsNextInto (t : Table) (regions : List ℕ) (from : ℕ) (card : Option ℕ) : Type 0 where
+  pub within : All (λ region. region < t.layout.regions) regions
+  pub next : IsNextInto t regions from card
+
 -- the words are of the least slot that refers to something else than memory does, which has these
 -- references from the first slot on, and of the least of `count` slots that refers into another
 -- region from a card that is neither pending nor recorded for it
@@ -45,3 +52,13 @@ pub record Finds (t : Table) (first count : ℕ) (memory : List ℕ) (differing 
   pub differs : IsFirst (Differs t first (map reference_of memory)) first (length memory)
       (reference_of differing)
   pub misses : IsFirst (IsMissing t) first count (reference_of missing)
+
+-- a check of a core found these: it read the slots in order up to the one that differs, or all that
+-- memory has, and then those up to the one that is missing, or all
+pub record Checks (old : Machine) (first count : ℕ) (memory : List ℕ) (differing missing : ℕ)
+    (new : Machine) : Type 0 where
+  pub finds : Finds old.state.table first count memory differing missing
+  pub read : IsOnlyRead old new
+  pub reads : new.reads ≡ reads_after
+      (reads_after old.reads (looked_for first (length memory) (reference_of differing)))
+      (looked_for first count (reference_of missing))

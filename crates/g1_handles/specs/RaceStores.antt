@@ -1,12 +1,14 @@
 -- What a racer's stores do that return what was there, depend on it, or are several.
 use Rattle.std.specs.Prelude.{◌≡◌, ◌+◌, ◌<◌, ◌≤◌, ◌∷◌, ◌++◌, if◌then◌else◌}
-use Rattle.g1_handles.specs.Prelude.{ℕ, List, []}
+use Rattle.g1_handles.specs.Prelude.{ℕ, List, [], Bool, true, slice_index_or, count_by, crosses}
+use Rattle.g1_handles.specs.Prelude.{Race, Racer}
 use Rattle.g1_handles.specs.Prelude.{length, take, Option, array_vec_len, Kind, IsFound, slot_card}
 use Rattle.g1_handles.specs.Prelude.{HasOverwritten, HasStored, HasDiffered, HasNotStored, IsKind}
 use Rattle.g1_handles.specs.Prelude.{is_logged, race_layout, race_shape, racer_view, word_of}
 use Rattle.g1_handles.specs.declared.one_core.batch.Store.{Store}
 use Rattle.g1_handles.specs.Counting.{with_store}
 use Rattle.g1_handles.specs.Racing.{Racing, Stores}
+use Rattle.g1_handles.specs.Refusals.{CanStore}
 use Rattle.g1_handles.specs.declared.member.batch.BatchEnd.{BatchEnd}
 use Rattle.g1_handles.specs.declared.member.batch.BatchEnd.TheVariants.{Whole, Stopped, Full}
 use Rattle.g1_handles.specs.declared.member.batch.RaceBatch.{RaceBatch}
@@ -48,17 +50,28 @@ abbrev pub IsExchange : Racing → ℕ → Option ℕ → Option ℕ → Exchang
 IsExchange a p expected t (exchange.Stored k) b = Exchanges a p expected t k b
 IsExchange a p expected t (exchange.Differs word) b = FindsOther a p expected (reference_of word) b
 
--- a racer before and after these stores, each after the one before
+-- a racer before and after these stores, each after the one before, which it could make then
 abbrev pub StoresAll : Racing → List Store → Racing → Type 0
 StoresAll a [] b = b ≡ a
 StoresAll a (s ∷ stores) b =
-    (c : Racing) × (k : Kind) × Stores a s.slot (reference_of s.target) k c × StoresAll c stores b
+    (c : Racing) × (k : Kind) × CanStore a.race a.racer s.slot s.target
+    × Stores a s.slot (reference_of s.target) k c × StoresAll c stores b
+
+-- the store to this slot crosses regions
+abbrev pub is_across : Race → Store → Bool
+is_across race s = crosses (race_shape race) s.slot (word_of (reference_of s.target))
+
+-- the store at this index crosses regions, and the racer's log is full
+pub record IsFullAt (race : Race) (stores : List Store) (count : ℕ) (racer : Racer) : Type 0 where
+  pub more : count < length stores
+  pub across : (d : Store) → is_across race (slice_index_or stores count d) ≡ true
+  pub full : 256 ≤ array_vec_len racer.log
 
 -- why a racer made as many of these stores, before and after them
 abbrev pub IsEnd : BatchEnd → Racing → List Store → ℕ → Racing → Type 0
 IsEnd Whole a stores count b = count ≡ length stores
 IsEnd Stopped a stores count b = IsFaultAt (race_layout a.race) stores count
-IsEnd Full a stores count b = (count < length stores) × (256 ≤ array_vec_len b.racer.log)
+IsEnd Full a stores count b = IsFullAt a.race stores count b.racer
 
 -- a racer before and after the first of these stores, up to one that it cannot make
 pub record StoresFirst (a : Racing) (stores : List Store) (answer : RaceBatch) (b : Racing)
@@ -66,7 +79,8 @@ pub record StoresFirst (a : Racing) (stores : List Store) (answer : RaceBatch) (
   pub stored : StoresAll a (take answer.count stores) b
   pub end : IsEnd answer.end a stores answer.count b
 
--- the heap has each slot and each target, and the racer's log has room for all the slots' cards
+-- the heap has each slot and each target, and the racer's log has room for the card of each store
+-- that crosses regions
 pub record CanStoreAll (a : Racing) (stores : List Store) : Type 0 where
   pub within : AreStoresOf (race_layout a.race) stores
-  pub room : array_vec_len a.racer.log + length stores ≤ 256
+  pub room : array_vec_len a.racer.log + count_by (is_across a.race) stores ≤ 256

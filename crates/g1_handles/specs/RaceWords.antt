@@ -1,15 +1,16 @@
 -- What a racer's stores of words do, and why they are refused.
-use Rattle.std.specs.Prelude.{◌≡◌, ◌⊎◌, ◌<◌, ◌≤◌}
-use Rattle.g1_handles.specs.Prelude.{ℕ, Option, Result, Ok, Err, array_vec_len}
+use Rattle.std.specs.Prelude.{◌≡◌, ◌⊎◌, ◌<◌}
+use Rattle.g1_handles.specs.Prelude.{ℕ, Option, Result, Ok, Err}
 use Rattle.g1_handles.specs.Prelude.{slot_count, Kind, IsWord, Race, Racer, HasNotStored}
 use Rattle.g1_handles.specs.Prelude.{race_layout, race_shape, racer_view}
-use Rattle.g1_race.specs.Exchanging.{HasStoredWord, HasOtherWord}
+use Rattle.g1_race.specs.Exchanging.{HasStoredWord, HasOtherWord, HasRoomToStore}
 use Rattle.g1_handles.specs.declared.code.Reason.{Reason}
 use Rattle.g1_handles.specs.declared.code.Reason.TheVariants as refusal
 use Rattle.g1_handles.specs.Own.{RacerMember}
 use Rattle.g1_handles.specs.Counting.{with_store}
 use Rattle.g1_handles.specs.Racing.{Racing}
-use Rattle.g1_handles.specs.Refusals.{IsRacerRefused}
+use Rattle.g1_handles.specs.Lacks.{LacksSlot}
+use Rattle.g1_handles.specs.Refusals.{IsRacerRefused, SaysFullLog}
 
 -- a slot of the heap may have the word: null, a reference or data
 abbrev pub MayHave : Race → ℕ → Type 0
@@ -38,18 +39,23 @@ IsWordExchange a p expected word (Err found) b = FindsOtherWord a p expected fou
 abbrev pub SaysBadWord : Race → ℕ → Reason → Type 0
 SaysBadWord race word r = (r ≡ refusal.BadWord) × (MayHave race word → ⊥)
 
--- the racer's log is full, or the heap lacks the slot, or no slot may have the word
-abbrev pub SaysNoWordStore : Race → Racer → ℕ → ℕ → Reason → Type 0
-SaysNoWordStore race racer slot word r =
-    ((r ≡ refusal.LogFull) × (256 ≤ array_vec_len racer.log))
-    ⊎ ((r ≡ refusal.NoSlot) × (slot_count (race_layout race) ≤ slot))
-    ⊎ SaysBadWord race word r
+-- the heap has the slot, which may have the word
+abbrev pub IsWordFor : Race → ℕ → ℕ → Type 0
+IsWordFor race slot word = (slot < slot_count (race_layout race)) × MayHave race word
+
+-- the heap lacks the slot, or no slot may have the word
+abbrev pub LacksWordPlace : Race → ℕ → ℕ → Reason → Type 0
+LacksWordPlace race slot word r = LacksSlot (race_layout race) slot r ⊎ SaysBadWord race word r
 
 -- the racer can store the word to the slot
 pub record CanStoreWord (race : Race) (racer : Racer) (slot word : ℕ) : Type 0 where
-  pub room : array_vec_len racer.log < 256
-  pub within : slot < slot_count (race_layout race)
-  pub fits : MayHave race word
+  pub fits : IsWordFor race slot word
+  pub room : HasRoomToStore (race_shape race) slot word racer
+
+-- one of the two is so, or neither and the racer's log is full
+abbrev pub SaysNoWordStore : Race → Racer → ℕ → ℕ → Reason → Type 0
+SaysNoWordStore race racer slot word r = LacksWordPlace race slot word r
+    ⊎ (IsWordFor race slot word × SaysFullLog race racer slot word r)
 
 -- a store of the word into the slot by the racer of a handle
 abbrev pub IsSwapWordRefused : Option RacerMember → ℕ → ℕ → Reason → Type 0

@@ -4,14 +4,12 @@ use Rattle.g1_handles.specs.Prelude.{ℕ, List, [], map, All}
 use Rattle.g1_handles.specs.Prelude.{Option, Some, None, IsSome, IsSomeAnd, IfSome, false, Bool}
 use Rattle.g1_handles.specs.Prelude.{length, arc_value, Kind, Null, Race, Racer, Sweeper, View}
 use Rattle.g1_handles.specs.Prelude.{IsWord, IsFound, HasStored, stored_view, race_shape}
-use Rattle.g1_handles.specs.Prelude.{racer_view, sweeper_start, sweeper_view}
+use Rattle.g1_handles.specs.Prelude.{racer_view, sweeper_start, sweeper_view, HasCleaned}
 use Rattle.g1_race_words.specs.Steps.{no_seat}
 use Rattle.g1_handles.specs.declared.member.Role.{Ghosts}
 use Rattle.g1_handles.specs.declared.member.Member.{Member}
 use Rattle.g1_handles.specs.declared.member.racer_handle.RacerHandle.{RacerHandle}
 use Rattle.g1_handles.specs.declared.member.counts.MemberCounts.{MemberCounts}
-use Rattle.g1_handles.specs.declared.member.counts.StoreCounts.{StoreCounts}
-use Rattle.g1_handles.specs.declared.member.counts.SweepCounts.{SweepCounts}
 use Rattle.g1_handles.specs.declared.member.sweeper_handle.SweeperHandle.{SweeperHandle}
 use Rattle.g1_handles.specs.declared.member.reader_handle.ReaderHandle.{ReaderHandle}
 use Rattle.g1_handles.specs.Own.{RacerMember, SweeperMember, ReaderMember}
@@ -21,23 +19,23 @@ use Rattle.g1_handles.specs.Counting.{no_counts, with_store, with_refined_card}
 pub record Racing : Type 0 where
   pub race : Race
   pub racer : Racer
-  pub counts : StoreCounts
+  pub counts : MemberCounts
 
 -- a sweeper with its race, and what it has counted
 pub record Sweeping : Type 0 where
   pub race : Race
   pub sweeper : Sweeper
-  pub counts : SweepCounts
+  pub counts : MemberCounts
 
-abbrev pub racing : Race → Racer → StoreCounts → Racing
+abbrev pub racing : Race → Racer → MemberCounts → Racing
 racing race racer counts = record { race = race; racer = racer; counts = counts }
 
 abbrev pub racing_in : RacerMember → Racer → Racing
-racing_in m racer = racing (arc_value m.race) racer m.counts.stores
+racing_in m racer = racing (arc_value m.race) racer m.counts
 
 abbrev pub sweeping_in : SweeperMember → Sweeper → Sweeping
 sweeping_in m sweeper =
-    record { race = arc_value m.race; sweeper = sweeper; counts = m.counts.sweeps }
+    record { race = arc_value m.race; sweeper = sweeper; counts = m.counts }
 
 module _ {P : Type 0} {g : Ghosts P} {T : Type 0} (seen : Member P g → P → T) where
   -- the handle has a racer, a sweeper or a reader, and what is seen of it is so
@@ -91,14 +89,15 @@ pub record TakesLog (a : Racing) (log : List ℕ) (b : Racing) : Type 0 where
   pub empty : b.racer.log.items ≡ []
   pub counts : b.counts ≡ a.counts
 
--- a sweeper before and after it refined a card: its counts go up by whether it made the card clean
--- and by how many references into other regions it read
+-- a sweeper before and after it refined a card: it made the card clean, and its counts go up by
+-- whether the card was dirty and by how many references into other regions it read
 pub record Sweeps (a : Sweeping) (card : ℕ) (b : Sweeping) : Type 0 where
   pub race : b.race ≡ a.race
   pub begin : sweeper_start b.sweeper ≡ sweeper_start a.sweeper
   pub swept : (sweeper_view b.sweeper).swept ≡ card ∷ (sweeper_view a.sweeper).swept
   pub was_dirty : Bool
   pub references : ℕ
+  pub clean : HasCleaned (sweeper_view a.sweeper) card was_dirty
   pub cleaned : (sweeper_view b.sweeper).cleanings
       ≡ (if was_dirty then card ∷ (sweeper_view a.sweeper).cleanings
       else (sweeper_view a.sweeper).cleanings)
@@ -133,7 +132,7 @@ module _ {P : Type 0} {g : Ghosts P} where
 
   -- what the member behind a handle has counted
   abbrev pub counts_of : Option (Member P g) → MemberCounts
-  counts_of None = no_counts
+  counts_of None = no_counts 0
   counts_of (Some m) = m.counts
 
   -- the handle has a member with its role, whose race has this many members

@@ -1,5 +1,5 @@
 -- Several threads that read one pause, each by a reader.
-use Rattle.std.specs.Prelude.{◌≡◌, ◌⊎◌, ◌<◌, ◌↔◌}
+use Rattle.std.specs.Prelude.{◌≡◌, ◌⊎◌, ◌<◌, ◌↔◌, ◌++◌, IsPermutation}
 use Rattle.g1_handles.specs.Prelude.{ℕ, Bool, List, length, All, Any, Option}
 use Rattle.g1_handles.specs.Prelude.{IsTrue, arc_value, card_count, Shape, Table}
 use Rattle.g1_handles.specs.Prelude.{IsRecorded, Race, race_layout, race_shape, Pause}
@@ -11,7 +11,7 @@ use Rattle.g1_handles.specs.declared.heap.racing_heap.BeingRead.{BeingRead}
 use Rattle.g1_handles.specs.declared.heap.racing_heap.RacingHeap.{RacingHeap}
 use Rattle.g1_handles.specs.Own.{ReaderMember}
 use Rattle.g1_handles.specs.Life.{OfPaused, OfRead, HasRacers, HasReaders, SaysNoHeap}
-use Rattle.g1_handles.specs.Life.{SaysNotPaused, AreFor, OfAtPause}
+use Rattle.g1_handles.specs.Life.{SaysNotPaused, AreFor, OfAtPause, boxed_counts}
 use Rattle.g1_handles.specs.Racing.{OfRole, AreClosed, IsAmong, IsOfWith}
 use Rattle.g1_handles.specs.Refusals.{SaysNoMember, IsRoleRefused}
 
@@ -61,6 +61,11 @@ pub record AreOut (count : ℕ) (b : BeingRead) : Type 0 where
   pub boxes : AreFor (arc_value b.race) count b.readers.out.boxes b.readers.out.roles
   pub readers : All (IsReaderOf b.reading) b.readers.out.roles.items
 
+-- of the readers of a heap at a pause each is out or in no handle, by its number
+abbrev pub AreShared : AtPause → BeingRead → Type 0
+AreShared a b = IsPermutation (boxed_counts a.readers.idle)
+    (boxed_counts b.readers.out.boxes ++ boxed_counts b.readers.idle)
+
 -- this many readers read the heap
 abbrev pub IsReadBy : Option RacingHeap → ℕ → Type 0
 IsReadBy h count = OfRead h (λ b. count ≡ b.readers.out.count)
@@ -78,7 +83,7 @@ AreReadersLike h readers =
 abbrev pub IsReadRefused : Option RacingHeap → List (Option ReaderMember) → Reason → Type 0
 IsReadRefused h readers r =
     SaysNoHeap h r ⊎ SaysNotPaused h r
-    ⊎ ((r ≡ refusal.BadMembers) × OfPaused h (λ p. p.shape.members < length readers))
+    ⊎ ((r ≡ refusal.BadHandles) × OfPaused h (λ p. p.shape.members < length readers))
     ⊎ ((r ≡ refusal.AlreadyOpen) × (AreClosed readers → ⊥))
 
 -- the readers of these handles are to end their reading of the heap; whether they are of its race,
@@ -87,7 +92,7 @@ abbrev pub IsReadEndRefused : Option RacingHeap → List (Option ReaderMember) �
 IsReadEndRefused h readers r =
     SaysNoHeap h r
     ⊎ ((r ≡ refusal.NotPaused) × HasRacers h)
-    ⊎ ((r ≡ refusal.BadMembers) × (OfPaused h (λ p. Unit {0}) ⊎ HasReaders h)
+    ⊎ ((r ≡ refusal.BadHandles) × (OfPaused h (λ p. Unit {0}) ⊎ HasReaders h)
     × (IsReadBy h (length readers) → ⊥))
     ⊎ (IsReadBy h (length readers)
     × (Any (λ m. SaysNoMember m r) readers ⊎ (r ≡ refusal.OtherRace)))

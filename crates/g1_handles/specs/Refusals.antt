@@ -2,13 +2,15 @@
 use Rattle.std.specs.Prelude.{◌≡◌, ◌⊎◌, ◌<◌, ◌≤◌}
 use Rattle.g1_handles.specs.Prelude.{All, ℕ, List, length, Option, None}
 use Rattle.g1_handles.specs.Prelude.{IsSome, array_vec_len, Shape, IsShape, card_count, Settings}
-use Rattle.g1_handles.specs.Prelude.{AreSettings, Machine, race_layout, Race, Racer}
+use Rattle.g1_handles.specs.Prelude.{AreSettings, Machine, race_layout, race_shape, Race, Racer}
+use Rattle.g1_handles.specs.Prelude.{true, crosses, word_of}
+use Rattle.g1_race.specs.Exchanging.{HasRoomToStore}
 use Rattle.g1_handles.specs.declared.code.Reason.{Reason}
 use Rattle.g1_handles.specs.declared.code.Reason.TheVariants as refusal
 use Rattle.g1_handles.specs.declared.member.Role.{Ghosts}
 use Rattle.g1_handles.specs.declared.member.Member.{Member}
 use Rattle.g1_handles.specs.Own.{RacerMember, SweeperMember}
-use Rattle.g1_handles.specs.Codes.{OfOpen}
+use Rattle.g1_handles.specs.Codes.{IsStoreOf, OfOpen, reference_of}
 use Rattle.g1_handles.specs.Lacks.{LacksCard, LacksRegion, LacksPlace, SaysNoData, SaysNoMove}
 use Rattle.g1_handles.specs.Racing.{Racing, role_in, OfRole, racing_in, sweeping_in}
 
@@ -36,11 +38,23 @@ SaysTooMany given r = (r ≡ refusal.TooManyCards) × (256 < given)
 abbrev pub SaysNoMember : {P : Type 0} {g : Ghosts P} → Option (Member P g) → Reason → Type 0
 SaysNoMember m r = (r ≡ refusal.NotOpen) × (role_in m ≡ None)
 
--- the racer's log is full, or the heap lacks the slot, or the place of the target
+-- the racer can store the target to the slot: the heap has both, and the log has room if the
+-- reference crosses regions
+pub record CanStore (race : Race) (racer : Racer) (slot target : ℕ) : Type 0 where
+  pub within : IsStoreOf (race_layout race) slot target
+  pub room : HasRoomToStore (race_shape race) slot (word_of (reference_of target)) racer
+
+-- the racer's log is full, and the word refers from the slot into another region
+abbrev pub SaysFullLog : Race → Racer → ℕ → ℕ → Reason → Type 0
+SaysFullLog race racer slot word r = (r ≡ refusal.LogFull)
+    × (crosses (race_shape race) slot word ≡ true) × (256 ≤ array_vec_len racer.log)
+
+-- the heap lacks the slot, or the place of the target; or it has both, and the log is full
 abbrev pub SaysNoStore : Race → Racer → ℕ → ℕ → Reason → Type 0
 SaysNoStore race racer slot target r =
-    ((r ≡ refusal.LogFull) × (256 ≤ array_vec_len racer.log))
-    ⊎ LacksPlace (race_layout race) slot target r
+    LacksPlace (race_layout race) slot target r
+    ⊎ (IsStoreOf (race_layout race) slot target
+    × SaysFullLog race racer slot (word_of (reference_of target)) r)
 
 -- a call by the member of a handle, which is refused of what is seen of it for this
 abbrev pub IsRoleRefused : {P : Type 0} {g : Ghosts P} {T : Type 0} → (Member P g → P → T)

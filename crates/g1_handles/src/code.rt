@@ -59,7 +59,7 @@ pub enum Reason {
     LogFull,
     /// The number of racers or sweepers is not the heap's, or more readers were given than it has
     /// members, or another number than read it; or a heap may not have so many.
-    BadMembers,
+    BadHandles,
     /// The handles are not those of all members, or of all readers, of the heap, each given once.
     OtherRace,
     /// The heap's members are out, or readers read it.
@@ -91,7 +91,7 @@ impl Reason {
             Reason::StillPending => 19,
             Reason::StillReferenced => 20,
             Reason::LogFull => 22,
-            Reason::BadMembers => 23,
+            Reason::BadHandles => 23,
             Reason::OtherRace => 24,
             Reason::NotPaused => 25,
             Reason::NotRacing => 26,

@@ -5,8 +5,8 @@
 //! - [`open`] begins and ends it, [`resume`] hands its members out, and [`pause`] takes them in.
 //!   Before anything changes, a pause checks that it was given all members of the heap
 //!   (`one_race`).
-//! - [`queries`], [`sets`], [`drains`], [`stores`], [`copy`], [`evacuation`], [`words`] and
-//!   [`verify`] are the collector's calls at a pause, on an [`at_pause::PausedHeap`].
+//! - [`queries`], [`scan`], [`sets`], [`drains`], [`stores`], [`row`], [`copy`], [`evacuation`],
+//!   [`words`] and [`verify`] are the collector's calls at a pause, on an [`at_pause::PausedHeap`].
 //! - [`reading`] lends a heap at a pause to readers, one for each thread that reads it, and
 //!   [`reading_end`] takes them in.
 #![tactic(auto, using(crate::proofs::Kept::kept_same))]
@@ -24,6 +24,8 @@ pub mod racing_heap;
 pub mod reading;
 pub mod reading_end;
 pub mod resume;
+pub mod row;
+pub mod scan;
 pub mod sets;
 pub mod stores;
 pub mod verify;

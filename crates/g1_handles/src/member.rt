@@ -4,8 +4,8 @@
 //! - [`store`], [`log`] and [`refine`] are the path of a card while members are out, and [`counts`]
 //!   tells what a member has done.
 //! - [`exchange`] has the stores that return what a slot referred to or depend on it, [`batch`]
-//!   several stores by one call, [`data`] a store of data, and [`words`] the stores of any word
-//!   that return or compare the one before.
+//!   several stores by one call, [`data`] a store of data, [`words`] the stores of any word that
+//!   return or compare the one before, and [`row`] a row of words by one call.
 //! - [`reader_queries`] has what a reader answers.
 #![tactic(auto, using(crate::proofs::MemberLemmas::same_members))]
 
@@ -18,6 +18,7 @@ pub mod racer_handle;
 pub mod reader_handle;
 pub mod reader_queries;
 pub mod refine;
+pub mod row;
 pub mod store;
 pub mod sweeper_handle;
 pub mod words;
@@ -61,8 +62,6 @@ impl Role for Reader {
 #[derive(Drop)]
 pub struct Member<P: Role> {
     pub(crate) race: Arc<Race, Global>,
-    // Its number among the racers, the sweepers or the readers of its race.
-    pub(crate) number: usize,
     // None while it waits, in no handle: a racer or a sweeper at a pause, a reader outside a
     // reading.
     pub(crate) role: Option<P>,
@@ -77,7 +76,6 @@ impl<P: Role> Member<P> {
     /// Takes its role, and leaves it waiting.
     pub(crate) fn park(&mut self) -> Option<P>
         ensures role { result ≡ self.old.role }
-        ensures number { self.new.number ≡ self.old.number }
         ensures counts { self.new.counts ≡ self.old.counts }
         ensures race { arc_value self.new.race ≡ arc_value self.old.race }
     {
@@ -88,7 +86,6 @@ impl<P: Role> Member<P> {
     pub(crate) fn seat(&mut self, role: P)
         requires { P.of role ≡ race_id (arc_value self.old.race) }
         ensures role { self.new.role ≡ Some role }
-        ensures number { self.new.number ≡ self.old.number }
         ensures counts { self.new.counts ≡ self.old.counts }
         ensures race { arc_value self.new.race ≡ arc_value self.old.race }
     {

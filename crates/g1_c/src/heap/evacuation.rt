@@ -78,6 +78,7 @@ pub extern "C" fn g1_heap_wipe(alloc: Global, heap: &mut HeapHandle, region: u32
 pub extern "C" fn g1_heap_forget(alloc: Global, heap: &mut HeapHandle, region: u32) -> u32
     ensures forgotten { result ≡ 0 → IsSameHeap heap.old.value heap.new.value (λ old new.
         Forgets old region new) }
+    ensures closed { result ≡ 0 → OfPaused heap.old.value (λ old. RefersOut old region → ⊥) }
     ensures told { TellsRefusal 0 result heap.old.value heap.new.value (Unit {0})
         (IsHeapRefused heap.old.value (λ old r. LacksRegion old.layout region r ⊎
         ((r ≡ Reason.StillReferenced) × RefersOut old region))) }

@@ -3,7 +3,7 @@
 ghost use Rattle.std.specs.Prelude.{◌≡◌, ◌<◌};
 ghost use Rattle.g1_c.specs.{None, length, layout_of, IsRefusal, OfPaused, IsFor};
 ghost use Rattle.g1_c.specs.{IsNewHeap, IsHeapOpenRefused, IsResumeRefused, IsPauseRefused};
-ghost use Rattle.g1_c.specs.{IsCloseRefused, AreLikeOf, AreOfHeap, HasCountedNothing, ComesToPause};
+ghost use Rattle.g1_c.specs.{IsCloseRefused, AreLikeOf, AreOfHeap, HasNewMembers, ComesToPause};
 ghost use Rattle.g1_c.specs.{Resumes, held_racers, held_sweepers, TellsRefusal};
 
 use crate::tell::answer_word;
@@ -27,7 +27,7 @@ pub extern "C" fn g1_heap_open(
 ) -> u32
     ensures opened { result ≡ 0 →
         OfPaused heap.new.value (IsNewHeap (layout_of counts.now) racers sweepers) }
-    ensures counts { result ≡ 0 → HasCountedNothing heap.new.value }
+    ensures members { result ≡ 0 → HasNewMembers heap.new.value }
     ensures closed { result ≡ 0 → heap.old.value ≡ None }
     ensures told { TellsRefusal 0 result heap.old.value heap.new.value (Unit {0})
         (IsHeapOpenRefused heap.old.value (layout_of counts.now) racers sweepers) }

@@ -1,8 +1,8 @@
 //! Several stores in a race by one call.
-ghost use Rattle.std.specs.Prelude.{◌≡◌, ◌⊎◌, ◌<◌, ◌≤◌};
-ghost use Rattle.g1_c.specs.{length, take, array_vec_len, race_layout};
-ghost use Rattle.g1_c.specs.{IsFaultAt, StoresAll, CanStoreAll, OfRacer, IfRacer, SaysNoMember};
-ghost use Rattle.g1_c.specs.{TellsRefusal};
+ghost use Rattle.std.specs.Prelude.{◌≡◌, ◌⊎◌, ◌≤◌};
+ghost use Rattle.g1_c.specs.{length, take, race_layout};
+ghost use Rattle.g1_c.specs.{IsFaultAt, IsFullAt, StoresAll, CanStoreAll, OfRacer, IfRacer};
+ghost use Rattle.g1_c.specs.{SaysNoMember, TellsRefusal};
 
 use crate::calling::on_racer;
 use g1_handles::code::{DONE, FULL, STOPPED};
@@ -24,8 +24,8 @@ pub extern "C" fn g1_race_store_all(
     ensures whole { result ≡ 0 → stored.new ≡ length stores.now }
     ensures stopped { result ≡ 3 → OfRacer racer.old.value (λ a.
         IsFaultAt (race_layout a.race) stores.now stored.new) }
-    ensures full { result ≡ 4 → (stored.new < length stores.now)
-        × OfRacer racer.new.value (λ b. 256 ≤ array_vec_len b.racer.log) }
+    ensures full { result ≡ 4 → OfRacer racer.old.value (λ a.
+        OfRacer racer.new.value (λ b. IsFullAt a.race stores.now stored.new b.racer)) }
     ensures done { result ≤ 4 → (result ≡ 0) ⊎ (result ≡ 3) ⊎ (result ≡ 4) }
     ensures taken { IfRacer racer.old.value (λ a. CanStoreAll a stores.now → result ≡ 0) }
     ensures told { TellsRefusal 4 result racer.old.value racer.new.value (stored.new ≡ 0)

@@ -21,10 +21,10 @@ pub extern "C" fn g1_racer_counts(
     logged: &mut u64,
 ) -> u32
     ensures counts { result ≡ 0 → OfRacer racer.old.value (λ a.
-        (null.new ≡ stored_as a.counts Kind.Null)
-        × (same_region.new ≡ stored_as a.counts Kind.SameRegion)
-        × (already_dirty.new ≡ stored_as a.counts Kind.AlreadyDirty)
-        × (logged.new ≡ stored_as a.counts Kind.Logged)) }
+        (null.new ≡ stored_as a.counts.stores Kind.Null)
+        × (same_region.new ≡ stored_as a.counts.stores Kind.SameRegion)
+        × (already_dirty.new ≡ stored_as a.counts.stores Kind.AlreadyDirty)
+        × (logged.new ≡ stored_as a.counts.stores Kind.Logged)) }
     ensures told { TellsRefusal 0 result racer.old.value racer.new.value
         ((null.new ≡ 0) × (same_region.new ≡ 0) × (already_dirty.new ≡ 0) × (logged.new ≡ 0))
         (SaysNoMember racer.old.value) }
@@ -55,8 +55,8 @@ pub extern "C" fn g1_sweeper_counts(
     references: &mut u64,
 ) -> u32
     ensures counts { result ≡ 0 → OfSweeper sweeper.old.value (λ a.
-        (refined.new ≡ a.counts.refined) × (cleaned.new ≡ a.counts.cleaned)
-        × (references.new ≡ a.counts.references)) }
+        (refined.new ≡ a.counts.sweeps.refined) × (cleaned.new ≡ a.counts.sweeps.cleaned)
+        × (references.new ≡ a.counts.sweeps.references)) }
     ensures told { TellsRefusal 0 result sweeper.old.value sweeper.new.value
         ((refined.new ≡ 0) × (cleaned.new ≡ 0) × (references.new ≡ 0))
         (SaysNoMember sweeper.old.value) }

@@ -1,6 +1,6 @@
 //! Stores in a race that tell what the slot referred to before, or depend on it.
 ghost use Rattle.std.specs.Prelude.{◌≡◌, ◌⊎◌, ◌<◌, ◌≤◌};
-ghost use Rattle.g1_c.specs.{array_vec_len, race_layout, IsStoreOf, OfKind};
+ghost use Rattle.g1_c.specs.{race_layout, IsStoreOf, CanStore, OfKind};
 ghost use Rattle.g1_c.specs.{reference_of, Swaps, Exchanges, FindsOther, OfRacer, IfRacer};
 ghost use Rattle.g1_c.specs.{IsRaceStoreRefused, IsRaceExchangeRefused, TellsRefusal};
 
@@ -23,8 +23,10 @@ pub extern "C" fn g1_race_swap(
     ensures swapped { result ≡ 0 → OfRacer racer.old.value (λ a.
         OfRacer racer.new.value (λ b. OfKind kind.new (λ k.
         Swaps a slot (reference_of target) (reference_of old.new) k b))) }
-    ensures taken { IfRacer racer.old.value (λ a. array_vec_len a.racer.log < 256
-        → IsStoreOf (race_layout a.race) slot target → result ≡ 0) }
+    ensures can { result ≡ 0 → OfRacer racer.old.value (λ a.
+        CanStore a.race a.racer slot target) }
+    ensures taken { IfRacer racer.old.value (λ a.
+        CanStore a.race a.racer slot target → result ≡ 0) }
     ensures told { TellsRefusal 0 result racer.old.value racer.new.value
         ((old.new ≡ 4294967295) × (kind.new ≡ 0)) (IsRaceStoreRefused racer.old.value slot target) }
 {
@@ -60,13 +62,13 @@ pub extern "C" fn g1_race_compare_exchange(
     ensures differs { result ≡ 2 → OfRacer racer.old.value (λ a.
         OfRacer racer.new.value (λ b.
         FindsOther a slot (reference_of expected) (reference_of found.new) b)) }
-    ensures within { result ≤ 2 → OfRacer racer.old.value (λ a.
+    ensures can { result ≤ 2 → OfRacer racer.old.value (λ a.
         IsStoreOf (race_layout a.race) slot expected
-        × IsStoreOf (race_layout a.race) slot target) }
+        × CanStore a.race a.racer slot target) }
     ensures done { result ≤ 2 → (result ≡ 0) ⊎ (result ≡ 2) }
-    ensures taken { IfRacer racer.old.value (λ a. array_vec_len a.racer.log < 256
-        → IsStoreOf (race_layout a.race) slot expected
-        → IsStoreOf (race_layout a.race) slot target → result ≤ 2) }
+    ensures taken { IfRacer racer.old.value (λ a.
+        IsStoreOf (race_layout a.race) slot expected
+        → CanStore a.race a.racer slot target → result ≤ 2) }
     ensures none { 0 < result → kind.new ≡ 0 }
     ensures told { TellsRefusal 2 result racer.old.value racer.new.value (found.new ≡ 4294967295)
         (IsRaceExchangeRefused racer.old.value slot expected target) }

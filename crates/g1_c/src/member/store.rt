@@ -1,6 +1,6 @@
 //! Lock-free stores in a race.
-ghost use Rattle.std.specs.Prelude.{◌≡◌, ◌<◌};
-ghost use Rattle.g1_c.specs.{array_vec_len, race_layout, IsStoreOf, OfKind, reference_of};
+ghost use Rattle.std.specs.Prelude.{◌≡◌};
+ghost use Rattle.g1_c.specs.{CanStore, OfKind, reference_of};
 ghost use Rattle.g1_c.specs.{OfRacer, IfRacer, Stores, IsRaceStoreRefused, TellsRefusal};
 
 use crate::calling::on_racer;
@@ -21,8 +21,10 @@ pub extern "C" fn g1_race_store(
     ensures stored { result ≡ 0 → OfRacer racer.old.value (λ a.
         OfRacer racer.new.value (λ b. OfKind kind.new (λ k.
         Stores a slot (reference_of target) k b))) }
-    ensures taken { IfRacer racer.old.value (λ a. array_vec_len a.racer.log < 256
-        → IsStoreOf (race_layout a.race) slot target → result ≡ 0) }
+    ensures can { result ≡ 0 → OfRacer racer.old.value (λ a.
+        CanStore a.race a.racer slot target) }
+    ensures taken { IfRacer racer.old.value (λ a.
+        CanStore a.race a.racer slot target → result ≡ 0) }
     ensures told { TellsRefusal 0 result racer.old.value racer.new.value (kind.new ≡ 0)
         (IsRaceStoreRefused racer.old.value slot target) }
 {

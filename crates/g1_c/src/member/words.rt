@@ -22,6 +22,8 @@ pub extern "C" fn g1_race_swap_word(
 ) -> u32
     ensures swapped { result ≡ 0 → OfRacer racer.old.value (λ a.
         OfRacer racer.new.value (λ b. OfKind kind.new (λ k. SwapsWord a slot word old.new k b))) }
+    ensures can { result ≡ 0 → OfRacer racer.old.value (λ a.
+        CanStoreWord a.race a.racer slot word) }
     ensures taken { IfRacer racer.old.value (λ a.
         CanStoreWord a.race a.racer slot word → result ≡ 0) }
     ensures told { TellsRefusal 0 result racer.old.value racer.new.value

@@ -1,6 +1,6 @@
 //! Checks of a core for a debug build.
 ghost use Rattle.std.specs.Prelude.{◌≡◌, ◌+◌, ◌≤◌};
-ghost use Rattle.g1_c.specs.{IfSome, length, slot_count, IsOnlyRead, Between, Finds};
+ghost use Rattle.g1_c.specs.{IfSome, length, slot_count, Between, Checks};
 ghost use Rattle.g1_c.specs.{LacksRanges, IsCallRefused, TellsRefusal};
 
 use crate::calling::on_core;
@@ -21,8 +21,7 @@ pub extern "C" fn g1_verify(
     missing: &mut u32,
 ) -> u32
     ensures found { result ≡ 0 → Between handle.old.value handle.new.value (λ old new.
-        Finds old.state.table first count references.now differing.new missing.new
-        × IsOnlyRead old new) }
+        Checks old first count references.now differing.new missing.new new) }
     ensures answered { IfSome handle.old.value (λ old.
         first + count ≤ slot_count old.state.table.layout
         → first + length references.now ≤ slot_count old.state.table.layout → result ≡ 0) }

@@ -58,6 +58,7 @@ pub fn wipe_at(heap: &mut PausedHeap, region: u32) -> Result<(), Reason>
 /// slot of the region refers out of it: nothing has changed.
 pub fn forget_at(heap: &mut PausedHeap, region: u32) -> Result<(), Reason>
     ensures forgotten { OnOk result (Forgets heap.old region heap.new) }
+    ensures closed { OnOk result (RefersOut heap.old region → ⊥) }
     ensures why { IfErr result (λ refusal. LacksRegion heap.old.layout region refusal
         ⊎ ((refusal ≡ Reason.StillReferenced) × RefersOut heap.old region)) }
     ensures refused { OnErr result (heap.new ≡ heap.old) }

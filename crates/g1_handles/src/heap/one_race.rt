@@ -58,7 +58,7 @@ fn check_member<P: Role, H: AnyHandle<Value = Member<P>>>(
     } else if member.race.member_count() != race.member_count() || !is_same(&member.race, race) {
         Err(Reason::OtherRace)
     } else {
-        Ok(member.number)
+        Ok(member.counts.number)
     };
     *handle = opened(member);
     answer

@@ -3,7 +3,7 @@ ghost use Rattle.std.specs.Prelude.{◌≡◌, ◌<◌};
 ghost use Rattle.g1_handles.specs.{IsTrue, Some, None, All, IfOk, IfErr, OnOk, OnErr, ℕ};
 ghost use Rattle.g1_handles.specs.{slice_index_or, vec_len, arc_value, layout_of, IsNewHeap};
 ghost use Rattle.g1_handles.specs.{IsHeapOpenRefused, AreHeapCounts, OfPaused, IsCloseRefused};
-ghost use Rattle.g1_handles.specs.{HasCountedNothing, no_counts};
+ghost use Rattle.g1_handles.specs.{HasNewMembers, AreNew, boxed_counts};
 
 use crate::any_handle::{closed, into_box, is_closed, opened};
 use crate::code::Reason;
@@ -21,7 +21,7 @@ use std::sync::Arc;
 /// Opens a heap at a pause in a closed handle, for this many racers and sweepers, 1 to 64 of each.
 /// Its slots are all null and its cards are all clean. Takes all memory that the heap ever takes.
 ///
-/// Returns `AlreadyOpen`, whatever else is so, `BadMembers`, `BadLayout` or `NoMemory`: the handle
+/// Returns `AlreadyOpen`, whatever else is so, `BadHandles`, `BadLayout` or `NoMemory`: the handle
 /// has not changed.
 pub fn open_heap(
     alloc: Global,
@@ -32,7 +32,7 @@ pub fn open_heap(
 ) -> Result<(), Reason>
     ensures opened { OnOk result
         (OfPaused handle.new.value (IsNewHeap (layout_of counts.now) racers sweepers)) }
-    ensures counts { OnOk result (HasCountedNothing handle.new.value) }
+    ensures members { OnOk result (HasNewMembers handle.new.value) }
     ensures closed { OnOk result (handle.old.value ≡ None) }
     ensures why { IfErr result (λ refusal.
         IsHeapOpenRefused handle.old.value (layout_of counts.now) racers sweepers refusal) }
@@ -42,7 +42,7 @@ pub fn open_heap(
         return Err(Reason::AlreadyOpen);
     }
     if !are_heap_counts(racers, sweepers) {
-        return Err(Reason::BadMembers);
+        return Err(Reason::BadHandles);
     }
     let layout = Layout::large(counts.regions, counts.cards, counts.slots);
     let layout = layout.ok_or(Reason::BadLayout)?;
@@ -68,7 +68,7 @@ fn new_heap(
     requires { AreHeapCounts racers sweepers }
     ensures opened { IfOk result (λ heap.
         OfPaused (Some heap.value) (IsNewHeap layout racers sweepers)) }
-    ensures counts { IfOk result (λ heap. HasCountedNothing (Some heap.value)) }
+    ensures members { IfOk result (λ heap. HasNewMembers (Some heap.value)) }
 {
     let paused = Paused::open(alloc, layout, racers, sweepers)?;
     let (pause, race) = paused.shared(alloc)?;
@@ -90,6 +90,7 @@ fn idle_readers(alloc: Global, race: &Arc<Race, Global>, count: usize) -> Result
     ensures count { IfOk result (λ readers. vec_len readers.idle ≡ count) }
     ensures race { IfOk result (λ readers.
         All (λ m. arc_value m.value.race ≡ arc_value race.now) readers.idle.items) }
+    ensures counts { IfOk result (λ readers. AreNew (boxed_counts readers.idle)) }
 {
     let idle = waiting(alloc, race, count)?;
     let out = Room {
@@ -110,19 +111,15 @@ fn waiting<P: Role>(
     ensures count { IfOk result (λ members. vec_len members ≡ count) }
     ensures race { IfOk result (λ members.
         All (λ m. arc_value m.value.race ≡ arc_value race.now) members.items) }
-    ensures counts { IfOk result (λ members.
-        All (λ m. m.value.counts ≡ no_counts) members.items) }
-    ensures numbers { IfOk result (λ members. (i : ℕ) (m : _) → i < vec_len members →
-        (slice_index_or members.items i m).value.number ≡ i) }
+    ensures counts { IfOk result (λ members. AreNew (boxed_counts members)) }
 {
     let mut members = Vec::with_capacity(alloc, count)?;
     for number in 0..count {
         let race = Arc::try_clone(race)?;
         let member = Member {
             race,
-            number,
             role: None,
-            counts: MemberCounts::none(),
+            counts: MemberCounts::none(number),
             apart: [0; 8],
         };
         members.push(Box::new(alloc, member)?)?;

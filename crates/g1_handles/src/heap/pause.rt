@@ -4,8 +4,8 @@ ghost use Rattle.g1_handles.specs.{Some, All, IfErr, OnOk, OnErr, IsSome, length
 ghost use Rattle.g1_handles.specs.{vec_capacity, arc_value, Race, racer_view, sweeper_view};
 ghost use Rattle.g1_handles.specs.{racer_log, OfPaused, OfRacing, IsFor, IsPauseOf, IsPauseRefused};
 ghost use Rattle.g1_handles.specs.{AreOfHeap, AreLikeOf, AreFor, heap_race, heap_counts};
-ghost use Rattle.g1_handles.specs.{boxed_counts, waiting_counts, ComesToPause, held_racers};
-ghost use Rattle.g1_handles.specs.{held_sweepers, role_in, AreClosed, IsOf, counts_of};
+ghost use Rattle.g1_handles.specs.{idle_counts, boxed_counts, waiting_counts, ComesToPause};
+ghost use Rattle.g1_handles.specs.{held_racers, held_sweepers, role_in, AreClosed, IsOf, counts_of};
 
 use crate::any_handle::{AnyHandle, closed, into_box, opened};
 use crate::code::Reason;
@@ -23,7 +23,7 @@ use std::sync::Arc;
 /// Brings the heap of a handle to a pause. All its racers and sweepers must be handed in, and their
 /// handles are closed. What each member has counted stays with the heap. Takes no memory.
 ///
-/// Returns `NotOpen`, also for a member's handle, `NotRacing`, `BadMembers` if there are not as
+/// Returns `NotOpen`, also for a member's handle, `NotRacing`, `BadHandles` if there are not as
 /// many handles as the heap was opened for, or `OtherRace` for a member of another heap or one that
 /// is given twice: nothing has changed. Members of other heaps are refused before anything relies
 /// on the condition `one`.
@@ -75,7 +75,7 @@ fn pause_of(
         return Err(Reason::NotRacing);
     };
     if racers.len() != under_way.racers.count || sweepers.len() != under_way.sweepers.count {
-        return Err(Reason::BadMembers);
+        return Err(Reason::BadHandles);
     }
     check_members(alloc, &under_way.race, racers)?;
     check_members(alloc, &under_way.race, sweepers)?;
@@ -104,6 +104,7 @@ fn enter_pause(heap: RacingHeap, share: Arc<Race, Global>) -> (RacingHeap, ())
     ensures race { heap_race (Some result.0) ≡ heap_race (Some heap) }
     ensures counts { OfRacing (Some heap) (λ b.
         heap_counts (Some result.0) ≡ waiting_counts b) }
+    ensures idle { idle_counts (Some result.0) ≡ idle_counts (Some heap) }
 {
     let RacingHeap::Racing(under_way) = heap else {
         unreachable!()

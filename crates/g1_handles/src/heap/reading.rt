@@ -1,8 +1,9 @@
 //! How a heap at a pause is lent to several threads, each of which reads it by a reader.
-ghost use Rattle.std.specs.Prelude.{◌≡◌, ◌+◌, ◌≤◌};
+ghost use Rattle.std.specs.Prelude.{◌≡◌, ◌+◌, ◌≤◌, ◌++◌, IsPermutation};
 ghost use Rattle.g1_handles.specs.{Some, All, IfErr, OnOk, OnErr, length, vec_len};
 ghost use Rattle.g1_handles.specs.{vec_capacity, arc_value, Race, OfPaused, OfRead, BeginsReading};
-ghost use Rattle.g1_handles.specs.{held_readers, IsLentHeap, IsReadRefused, AreOut};
+ghost use Rattle.g1_handles.specs.{held_readers, IsLentHeap, IsReadRefused, AreOut, AreShared};
+ghost use Rattle.g1_handles.specs.{OfAtPause};
 
 use crate::any_handle::{are_closed, closed, into_box, opened};
 use crate::code::Reason;
@@ -18,7 +19,7 @@ use std::alloc::Global;
 /// these closed handles. A reader reads what the pause has. Nothing changes until the reading ends.
 /// Takes no memory.
 ///
-/// Returns `NotOpen`, `NotPaused`, `BadMembers` if there are more handles than the heap has racers
+/// Returns `NotOpen`, `NotPaused`, `BadHandles` if there are more handles than the heap has racers
 /// and sweepers, or `AlreadyOpen` for a reader's handle: nothing has changed.
 pub fn read_heap(
     alloc: Global,
@@ -48,7 +49,7 @@ fn read_of(alloc: Global, heap: &mut RacingHeap, readers: &mut [ReaderHandle]) -
         return Err(Reason::NotPaused);
     };
     if readers.len() > at.readers.idle.len() {
-        return Err(Reason::BadMembers);
+        return Err(Reason::BadHandles);
     }
     if !are_closed(alloc, readers) {
         return Err(Reason::AlreadyOpen);
@@ -67,6 +68,7 @@ fn lend(heap: RacingHeap, count: usize) -> (RacingHeap, ())
     requires { OfPaused (Some heap) (λ p. count ≤ p.shape.members) }
     ensures lent { IsLentHeap (Some heap) (Some result.0) }
     ensures out { OfRead (Some result.0) (AreOut count) }
+    ensures shared { OfAtPause (Some heap) (λ a. OfRead (Some result.0) (AreShared a)) }
 {
     let RacingHeap::Paused(at) = heap else {
         unreachable!()
@@ -115,6 +117,7 @@ pub(crate) fn move_boxes<P: Role>(
     ensures to { vec_len to.new ≡ vec_len to.old + count }
     ensures room { (vec_capacity from.new ≡ vec_capacity from.old)
         × (vec_capacity to.new ≡ vec_capacity to.old) }
+    ensures same { IsPermutation (to.old.items ++ from.old.items) (to.new.items ++ from.new.items) }
     ensures race { (race : Race) → All (λ m. arc_value m.value.race ≡ race) from.old.items →
         All (λ m. arc_value m.value.race ≡ race) to.old.items →
         All (λ m. arc_value m.value.race ≡ race) from.new.items

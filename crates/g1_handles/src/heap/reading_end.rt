@@ -2,7 +2,7 @@
 ghost use Rattle.std.specs.Prelude.{◌≡◌};
 ghost use Rattle.g1_handles.specs.{Some, IfErr, OnOk, OnErr, length, OfRead, EndsReading};
 ghost use Rattle.g1_handles.specs.{held_readers, AreReadersOf, AreReadersLike, IsLentHeap};
-ghost use Rattle.g1_handles.specs.{IsReadBy, IsReadEndRefused, AreOut};
+ghost use Rattle.g1_handles.specs.{IsReadBy, IsReadEndRefused, AreOut, AreShared, OfAtPause};
 
 use crate::any_handle::{closed, into_box, opened};
 use crate::code::Reason;
@@ -19,7 +19,7 @@ use std::alloc::Global;
 /// must be handed in, and their handles are closed. Takes no memory.
 ///
 /// Returns `NotOpen`, also for a reader's handle, `NotPaused` if the heap's members are out,
-/// `BadMembers` if not as many readers read it, or `OtherRace` for a reader of another heap or one
+/// `BadHandles` if not as many readers read it, or `OtherRace` for a reader of another heap or one
 /// that is given twice: nothing has changed. Readers of other heaps are refused before anything
 /// relies on the condition `one`.
 pub fn end_read_of_heap(
@@ -58,11 +58,11 @@ fn end_read_of(
 {
     let being_read = match &*heap {
         RacingHeap::Read(being_read) => being_read,
-        RacingHeap::Paused(_) => return Err(Reason::BadMembers),
+        RacingHeap::Paused(_) => return Err(Reason::BadHandles),
         RacingHeap::Racing(_) => return Err(Reason::NotPaused),
     };
     if readers.len() != being_read.readers.out.count {
-        return Err(Reason::BadMembers);
+        return Err(Reason::BadHandles);
     }
     check_members(alloc, &being_read.race, readers)?;
     let RacingHeap::Read(being_read) = heap else {
@@ -77,7 +77,8 @@ fn end_read_of(
 /// The heap is at its pause again once its readers are in.
 fn end(heap: RacingHeap, _nothing: ()) -> (RacingHeap, ())
     requires { OfRead (Some heap) (λ b. AreOut b.readers.out.count b) }
-    ensures { IsLentHeap (Some result.0) (Some heap) }
+    ensures lent { IsLentHeap (Some result.0) (Some heap) }
+    ensures shared { OfAtPause (Some result.0) (λ a. OfRead (Some heap) (AreShared a)) }
 {
     let RacingHeap::Read(being_read) = heap else {
         unreachable!()

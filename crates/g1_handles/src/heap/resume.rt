@@ -20,7 +20,7 @@ use std::alloc::Global;
 /// empty if all was refined. Each member has what the one at its index had counted. Takes no
 /// memory.
 ///
-/// Returns `NotOpen`, `NotPaused`, `BadMembers` if there are not as many handles as the heap was
+/// Returns `NotOpen`, `NotPaused`, `BadHandles` if there are not as many handles as the heap was
 /// opened for, or `AlreadyOpen` for a member's handle: nothing has changed.
 pub fn resume_heap(
     alloc: Global,
@@ -64,7 +64,7 @@ fn resume_of(
         return Err(Reason::NotPaused);
     };
     if racers.len() != at.racers.len() || sweepers.len() != at.sweepers.len() {
-        return Err(Reason::BadMembers);
+        return Err(Reason::BadHandles);
     }
     if !are_closed(alloc, racers) || !are_closed(alloc, sweepers) {
         return Err(Reason::AlreadyOpen);

@@ -8,7 +8,7 @@ ghost use Rattle.g1_handles.specs.Refusals.{SaysNoMember};
 
 use crate::code::Reason;
 use crate::member::Member;
-use crate::member::counts::StoreCounts;
+use crate::member::counts::MemberCounts;
 use crate::member::store::store_next;
 use crate::one_core::batch::Store;
 use g1_race::{Race, Racer};
@@ -46,13 +46,13 @@ pub fn store_all_by(member: &mut Member<Racer>, stores: &[Store]) -> Result<Race
     let Some(racer) = &mut member.role else {
         return Err(Reason::NotOpen);
     };
-    Ok(store_each(&member.race, racer, &mut member.counts.stores, stores))
+    Ok(store_each(&member.race, racer, &mut member.counts, stores))
 }
 
 fn store_each(
     race: &Race,
     racer: &mut Racer,
-    counts: &mut StoreCounts,
+    counts: &mut MemberCounts,
     stores: &[Store],
 ) -> RaceBatch
     requires same { racer_race racer.old ≡ race_id race.now }

@@ -1,7 +1,8 @@
 //! What the racers and the sweepers of a heap have done, in numbers.
 ghost use Rattle.std.specs.Prelude.{◌≡◌};
 ghost use Rattle.g1_handles.specs.Prelude.{IfOk, IfErr};
-ghost use Rattle.g1_handles.specs.Counting.{no_counts, with_store, with_refined_card};
+ghost use Rattle.g1_handles.specs.Counting.{no_counts, one_more_of, and_swept, with_store};
+ghost use Rattle.g1_handles.specs.Counting.{with_refined_card};
 ghost use Rattle.g1_handles.specs.Racing.{OfRacer, OfSweeper};
 ghost use Rattle.g1_handles.specs.Refusals.{SaysNoMember};
 
@@ -23,7 +24,7 @@ impl StoreCounts {
     /// Counts one more store.
     #[inline(always)]
     pub(crate) fn add(&mut self, kind: Kind)
-        ensures { self.new ≡ with_store self.old kind }
+        ensures { self.new ≡ one_more_of self.old kind }
     {
         // (By a match, a store would take a jump more.)
         let index = kind_word(kind) as usize;
@@ -47,7 +48,7 @@ impl SweepCounts {
     /// The counts after one more card.
     #[inline(always)]
     pub(crate) fn and(self, swept: Swept) -> SweepCounts
-        ensures { result ≡ with_refined_card self swept.was_dirty swept.references }
+        ensures { result ≡ and_swept self swept.was_dirty swept.references }
     {
         SweepCounts {
             refined: self.refined.wrapping_add(1),
@@ -57,10 +58,13 @@ impl SweepCounts {
     }
 }
 
-/// What a member of a heap has done. A racer refines nothing, a sweeper stores nothing, and a
-/// reader does neither.
+/// Which member of its heap it is, and what it has done. A racer refines nothing, a sweeper stores
+/// nothing, and a reader does neither.
 #[derive(Clone, Copy)]
 pub struct MemberCounts {
+    /// Its number among the racers, the sweepers or the readers of its heap, by which a pause sees
+    /// one that is given twice. It never changes.
+    pub number: usize,
     /// What it has stored.
     pub stores: StoreCounts,
     /// What it has refined.
@@ -69,10 +73,11 @@ pub struct MemberCounts {
 
 impl MemberCounts {
     /// The counts of a member that has done nothing.
-    pub(crate) fn none() -> MemberCounts
-        ensures { result ≡ no_counts }
+    pub(crate) fn none(number: usize) -> MemberCounts
+        ensures { result ≡ no_counts number }
     {
         MemberCounts {
+            number,
             stores: StoreCounts { by_kind: [0; 4] },
             sweeps: SweepCounts {
                 refined: 0,
@@ -81,12 +86,28 @@ impl MemberCounts {
             },
         }
     }
+
+    /// Counts one more store.
+    #[inline(always)]
+    pub(crate) fn add_store(&mut self, kind: Kind)
+        ensures { self.new ≡ with_store self.old kind }
+    {
+        self.stores.add(kind);
+    }
+
+    /// Counts one more card.
+    #[inline(always)]
+    pub(crate) fn add_card(&mut self, swept: Swept)
+        ensures { self.new ≡ with_refined_card self.old swept.was_dirty swept.references }
+    {
+        self.sweeps = self.sweeps.and(swept);
+    }
 }
 
 /// Returns what a racer has stored, or `NotOpen`. Nothing changes.
 pub fn store_counts_by(member: &Member<Racer>) -> Result<StoreCounts, Reason>
     ensures counts { IfOk result (λ counts.
-        OfRacer (Some member.now) (λ a. counts ≡ a.counts)) }
+        OfRacer (Some member.now) (λ a. counts ≡ a.counts.stores)) }
     ensures why { IfErr result (SaysNoMember (Some member.now)) }
 {
     match member.role {
@@ -98,7 +119,7 @@ pub fn store_counts_by(member: &Member<Racer>) -> Result<StoreCounts, Reason>
 /// Returns what a sweeper has refined, or `NotOpen`. Nothing changes.
 pub fn sweep_counts_by(member: &Member<Sweeper>) -> Result<SweepCounts, Reason>
     ensures counts { IfOk result (λ counts.
-        OfSweeper (Some member.now) (λ a. counts ≡ a.counts)) }
+        OfSweeper (Some member.now) (λ a. counts ≡ a.counts.sweeps)) }
     ensures why { IfErr result (SaysNoMember (Some member.now)) }
 {
     match member.role {

@@ -28,7 +28,7 @@ pub fn store_data_by(member: &mut Member<Racer>, slot: u32, word: u64) -> Result
     };
     let slot = data_slot(member.race.layout(), slot, word)?;
     let old = racer.store_data(&member.race, slot, word);
-    member.counts.stores.add(Kind::Null);
+    member.counts.add_store(Kind::Null);
     Ok(old)
 }
 

@@ -1,11 +1,11 @@
 //! Stores in a race that return what the slot referred to before, or depend on it.
-ghost use Rattle.std.specs.Prelude.{◌≡◌, ◌<◌};
-ghost use Rattle.g1_handles.specs.Prelude.{Some, IfOk, IfErr, IsOk, OnErr, array_vec_len};
+ghost use Rattle.std.specs.Prelude.{◌≡◌};
+ghost use Rattle.g1_handles.specs.Prelude.{Some, IfOk, IfErr, IsOk, OnErr};
 ghost use Rattle.g1_handles.specs.Prelude.{race_layout};
 ghost use Rattle.g1_handles.specs.Codes.{IsStoreOf, reference_of};
 ghost use Rattle.g1_handles.specs.RaceStores.{Swaps, IsExchange};
 ghost use Rattle.g1_handles.specs.Racing.{OfRacer, IfRacer};
-ghost use Rattle.g1_handles.specs.Refusals.{IsRaceStoreRefused, IsRaceExchangeRefused};
+ghost use Rattle.g1_handles.specs.Refusals.{CanStore, IsRaceStoreRefused, IsRaceExchangeRefused};
 
 use crate::code::Reason;
 use crate::member::Member;
@@ -35,15 +35,17 @@ pub enum Exchange {
 }
 
 /// Stores a target into a slot by a racer, and returns also what the slot referred to. Returns
-/// `NotOpen`, `LogFull`, or `NoSlot` for the slot or the target, if the call was refused: nothing
+/// `NotOpen`, `NoSlot` for the slot or the target, or `LogFull`, if the call was refused: nothing
 /// has changed.
 #[inline(always)]
 pub fn swap_by(member: &mut Member<Racer>, slot: u32, target: u32) -> Result<Swapped, Reason>
     ensures swapped { IfOk result (λ swapped. OfRacer (Some member.old) (λ a.
         OfRacer (Some member.new) (λ b. Swaps a slot (reference_of target)
         (reference_of swapped.old) swapped.kind b))) }
-    ensures taken { IfRacer (Some member.old) (λ a. array_vec_len a.racer.log < 256
-        → IsStoreOf (race_layout a.race) slot target → IsOk result) }
+    ensures can { IsOk result → OfRacer (Some member.old) (λ a.
+        CanStore a.race a.racer slot target) }
+    ensures taken { IfRacer (Some member.old) (λ a.
+        CanStore a.race a.racer slot target → IsOk result) }
     ensures why { IfErr result (IsRaceStoreRefused (Some member.old) slot target) }
     ensures refused { OnErr result (member.new ≡ member.old) }
 {
@@ -53,13 +55,14 @@ pub fn swap_by(member: &mut Member<Racer>, slot: u32, target: u32) -> Result<Swa
     let (slot, target) = may_store(&member.race, racer, slot, target)?;
     let layout = member.race.layout();
     let (kind, old) = racer.swap(&member.race, slot, target);
-    member.counts.stores.add(kind);
+    member.counts.add_store(kind);
     let old = reference_word(layout, old);
     Ok(Swapped { kind, old })
 }
 
 /// Stores a target into a slot by a racer, if the slot has what is expected. Returns `NotOpen`,
-/// `LogFull`, or `NoSlot` for one of the words, if the call was refused: nothing has changed.
+/// `NoSlot` for one of the words, or `LogFull` for the target, if the call was refused: nothing has
+/// changed.
 #[inline(always)]
 pub fn compare_exchange_by(
     member: &mut Member<Racer>,
@@ -70,26 +73,26 @@ pub fn compare_exchange_by(
     ensures exchange { IfOk result (λ exchange. OfRacer (Some member.old) (λ a.
         OfRacer (Some member.new) (λ b. IsExchange a slot (reference_of expected)
         (reference_of target) exchange b))) }
-    ensures within { IsOk result → OfRacer (Some member.old) (λ a.
+    ensures can { IsOk result → OfRacer (Some member.old) (λ a.
         IsStoreOf (race_layout a.race) slot expected
-        × IsStoreOf (race_layout a.race) slot target) }
-    ensures taken { IfRacer (Some member.old) (λ a. array_vec_len a.racer.log < 256
-        → IsStoreOf (race_layout a.race) slot expected
-        → IsStoreOf (race_layout a.race) slot target → IsOk result) }
+        × CanStore a.race a.racer slot target) }
+    ensures taken { IfRacer (Some member.old) (λ a.
+        IsStoreOf (race_layout a.race) slot expected
+        → CanStore a.race a.racer slot target → IsOk result) }
     ensures why { IfErr result (IsRaceExchangeRefused (Some member.old) slot expected target) }
     ensures refused { OnErr result (member.new ≡ member.old) }
 {
     let Some(racer) = &mut member.role else {
         return Err(Reason::NotOpen);
     };
-    let (slot, target) = may_store(&member.race, racer, slot, target)?;
     let layout = member.race.layout();
     let Some(expected) = reference(layout, expected) else {
         return Err(Reason::NoSlot);
     };
+    let (slot, target) = may_store(&member.race, racer, slot, target)?;
     match racer.compare_exchange(&member.race, slot, expected, target) {
         Ok(kind) => {
-            member.counts.stores.add(kind);
+            member.counts.add_store(kind);
             Ok(Exchange::Stored(kind))
         }
         Err(found) => Ok(Exchange::Differs(reference_word(layout, found))),

@@ -25,6 +25,6 @@ pub fn refine_by(member: &mut Member<Sweeper>, card: u32) -> Result<(), Reason>
         return Err(Reason::NoCard);
     };
     let swept = sweeper.sweep(&member.race, card);
-    member.counts.sweeps = member.counts.sweeps.and(swept);
+    member.counts.add_card(swept);
     Ok(())
 }

@@ -1,41 +1,44 @@
 //! Lock-free stores in a race.
-ghost use Rattle.std.specs.Prelude.{◌≡◌, ◌<◌};
-ghost use Rattle.g1_handles.specs.{Some, IfOk, IfErr, IsOk, OnErr, array_vec_len};
-ghost use Rattle.g1_handles.specs.{race_id, race_layout, racer_race, IsStoreOf, reference_of};
+ghost use Rattle.std.specs.Prelude.{◌≡◌};
+ghost use Rattle.g1_handles.specs.{Some, IfOk, IfErr, IsOk, OnErr};
+ghost use Rattle.g1_handles.specs.{race_id, racer_race, reference_of};
 ghost use Rattle.g1_handles.specs.{OfRacer, IfRacer, Stores, racing, IsRaceStoreRefused};
-ghost use Rattle.g1_handles.specs.{SaysNoStore};
+ghost use Rattle.g1_handles.specs.{CanStore, SaysNoStore};
 
 use crate::code::Reason;
 use crate::member::Member;
-use crate::member::counts::StoreCounts;
+use crate::member::counts::MemberCounts;
 use crate::one_core::store::store_of;
 use g1_layout::{Kind, Slot};
 use g1_race::{Race, Racer};
 
-/// Stores a target into a slot by a racer. Returns the kind of the store, or `NotOpen`, `LogFull`,
-/// or `NoSlot` for the slot or the target: nothing has changed.
+/// Stores a target into a slot by a racer. Returns the kind of the store, or `NotOpen`, `NoSlot`
+/// for the slot or the target, or `LogFull` if the reference crosses regions and the log is full:
+/// nothing has changed.
 #[inline(always)]
 pub fn store_by(member: &mut Member<Racer>, slot: u32, target: u32) -> Result<Kind, Reason>
     ensures stored { IfOk result (λ kind. OfRacer (Some member.old) (λ a.
         OfRacer (Some member.new) (λ b. Stores a slot (reference_of target) kind b))) }
-    ensures taken { IfRacer (Some member.old) (λ a. array_vec_len a.racer.log < 256
-        → IsStoreOf (race_layout a.race) slot target → IsOk result) }
+    ensures can { IsOk result → OfRacer (Some member.old) (λ a.
+        CanStore a.race a.racer slot target) }
+    ensures taken { IfRacer (Some member.old) (λ a.
+        CanStore a.race a.racer slot target → IsOk result) }
     ensures why { IfErr result (IsRaceStoreRefused (Some member.old) slot target) }
     ensures refused { OnErr result (member.new ≡ member.old) }
 {
     let Some(racer) = &mut member.role else {
         return Err(Reason::NotOpen);
     };
-    store_next(&member.race, racer, &mut member.counts.stores, slot, target)
+    store_next(&member.race, racer, &mut member.counts, slot, target)
 }
 
 /// Makes one store by a racer of the race, and counts it. Returns the kind of the store, or
-/// `LogFull`, or `NoSlot` for the slot or the target: nothing has changed.
+/// `NoSlot` for the slot or the target, or `LogFull`: nothing has changed.
 #[inline(always)]
 pub(crate) fn store_next(
     race: &Race,
     racer: &mut Racer,
-    counts: &mut StoreCounts,
+    counts: &mut MemberCounts,
     slot: u32,
     target: u32,
 ) -> Result<Kind, Reason>
@@ -43,18 +46,18 @@ pub(crate) fn store_next(
     ensures same { racer_race racer.new ≡ racer_race racer.old }
     ensures stored { IfOk result (λ kind. Stores (racing race.now racer.old counts.old) slot
         (reference_of target) kind (racing race.now racer.new counts.new)) }
-    ensures taken { array_vec_len racer.old.log < 256
-        → IsStoreOf (race_layout race.now) slot target → IsOk result }
+    ensures can { IsOk result → CanStore race.now racer.old slot target }
+    ensures taken { CanStore race.now racer.old slot target → IsOk result }
     ensures why { IfErr result (SaysNoStore race.now racer.old slot target) }
     ensures refused { OnErr result ((racer.new ≡ racer.old) × (counts.new ≡ counts.old)) }
 {
     let (slot, target) = may_store(race, racer, slot, target)?;
     let kind = racer.store(race, slot, target);
-    counts.add(kind);
+    counts.add_store(kind);
     Ok(kind)
 }
 
-/// Returns the slot and the target of a store that a racer can make, or `LogFull` or `NoSlot`.
+/// Returns the slot and the target of a store that a racer can make, or `NoSlot` or `LogFull`.
 #[inline(always)]
 pub(crate) fn may_store(
     race: &Race,
@@ -62,15 +65,14 @@ pub(crate) fn may_store(
     slot: u32,
     target: u32,
 ) -> Result<(Slot, Option<Slot>), Reason>
-    ensures room { IsOk result → array_vec_len racer.now.log < 256 }
+    ensures can { IsOk result → CanStore race.now racer.now slot target }
     ensures store { IfOk result (λ store. (store.0 ≡ slot) × (store.1 ≡ reference_of target)) }
-    ensures within { IsOk result → IsStoreOf (race_layout race.now) slot target }
-    ensures taken { array_vec_len racer.now.log < 256
-        → IsStoreOf (race_layout race.now) slot target → IsOk result }
+    ensures taken { CanStore race.now racer.now slot target → IsOk result }
     ensures why { IfErr result (SaysNoStore race.now racer.now slot target) }
 {
-    if !racer.has_room() {
+    let (slot, target) = store_of(race.layout(), slot, target)?;
+    if !racer.has_room_for(race, &slot, &target) {
         return Err(Reason::LogFull);
     }
-    store_of(race.layout(), slot, target)
+    Ok((slot, target))
 }

@@ -1,8 +1,8 @@
 //! Checks of a core for a debug build.
 ghost use Rattle.std.specs.Prelude.{◌≡◌, ◌+◌, ◌≤◌};
 ghost use Rattle.g1_handles.specs.Prelude.{length, IfOk, IfErr, IsOk, OnErr};
-ghost use Rattle.g1_handles.specs.Prelude.{slot_count, IsOnlyRead};
-ghost use Rattle.g1_handles.specs.Queries.{Finds};
+ghost use Rattle.g1_handles.specs.Prelude.{slot_count};
+ghost use Rattle.g1_handles.specs.Queries.{Checks};
 ghost use Rattle.g1_handles.specs.Lacks.{LacksRanges};
 
 use crate::code::{NULL, Reason};
@@ -36,8 +36,7 @@ pub fn verify_in(
     memory: &[u32],
 ) -> Result<Findings, Reason>
     ensures found { IfOk result (λ f.
-        Finds core.old.state.table first count memory.now f.differing f.missing
-        × IsOnlyRead core.old core.new) }
+        Checks core.old first count memory.now f.differing f.missing core.new) }
     ensures answered { first + count ≤ slot_count core.old.state.table.layout
         → first + length memory.now ≤ slot_count core.old.state.table.layout → IsOk result }
     ensures why { IfErr result
@@ -45,6 +44,7 @@ pub fn verify_in(
     ensures refused { OnErr result (core.new ≡ core.old) }
 {
     let layout = core.layout();
+    let _reads = core.reads();
     if !has_slots(layout, first, count as usize) || !has_slots(layout, first, memory.len()) {
         return Err(Reason::NoSlot);
     }

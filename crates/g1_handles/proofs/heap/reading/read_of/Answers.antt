@@ -1,6 +1,6 @@
 -- The handles have readers of the pause, which the heap was lent to.
-use Rattle.std.specs.Prelude.{◌≡◌}
-use Rattle.g1_handles.specs.{arith, rules, ℕ, List, Some, All, length, map, ap, subst, Option, arc_value, TableId, Race, Pause, start_at, known, BeingRead, ReaderMember, held_readers, role_in, IsOf, AreOut, AreReadersAt, IsLentPause}
+use Rattle.std.specs.Prelude.{◌≡◌, ◌++◌, IsPermutation}
+use Rattle.g1_handles.specs.{arith, rules, ℕ, List, Some, All, length, map, sym, ap, subst, Option, arc_value, TableId, Race, Pause, start_at, known, BeingRead, ReaderMember, held_readers, role_in, IsOf, AreOut, AreReadersAt, IsLentPause, MemberCounts, boxed_counts}
 use Rattle.g1_handles.specs.declared.heap.racing_heap.AtPause.{AtPause}
 use Rattle.std.proofs.lemmas.Grind.{common_steps}
 use Rattle.g1_handles.proofs.ReaderLemmas.{KnowsPause, handed_out}
@@ -16,7 +16,7 @@ readers_at a b n ms lent out is of =
 
 pub hand_out_to-requires : goal.hand_out_to-requires
 hand_out_to-requires c =
-    let out = rw c.in-Read.is at c.replace_with.ensures.1 in
+    let out = rw c.in-Read.is at c.replace_with.ensures.1.0 in
     (arc_value c.in-Read.being_read.race, first_of (search rules, grind (arith, common_steps)))
 
 pub returns-clause-lent : goal.returns-clause-lent
@@ -25,11 +25,13 @@ returns-clause-lent c =
     let b = c.in-Read.being_read in
     let ms = held_readers c.hand_out_to.new.handles in
     let n = length c.are_closed.new.handles in
-    let out = rw c.in-Read.is at c.replace_with.ensures.1 in
+    let out = rw c.in-Read.is at c.replace_with.ensures.1.0 in
     let lent = rw (c.in-Paused.is, c.in-Read.is) at c.replace_with.ensures.0 in
+    let shared = rw (c.in-Paused.is, c.in-Read.is) at c.replace_with.ensures.1.1 in
     record {
       lent = search rules;
       readers_at = rw c.in-Paused.is (readers_at a b n ms lent out c.hand_out_to.ensures.roles (c.hand_out_to.ensures.race _ out.boxes.waiting));
       count = search rules;
+      counts = rw c.in-Paused.is (subst (λ (l : List MemberCounts). IsPermutation (boxed_counts a.readers.idle) (l ++ boxed_counts b.readers.idle)) (sym c.hand_out_to.ensures.counts) shared);
       closed = search rules;
     }

@@ -1,11 +1,17 @@
 -- A check of the readers finds a handle with none, or a reader of another race.
-use Rattle.std.specs.Prelude.{◌≡◌, ◌⊎◌}
-use Rattle.g1_handles.specs.{ℕ, arith, rules, All, length, refl, sym, subst, arc_value, TableId, start_at, known, AreFor, AreReadersAt, inl, inr, List, Option, Some, Any, Reason, RacingHeap, ReaderMember, SaysNoMember, held_readers, IsReadBy, IsReadEndRefused}
+use Rattle.std.specs.Prelude.{◌≡◌, ◌⊎◌, ◌++◌, IsPermutation}
+use Rattle.g1_handles.specs.{ℕ, arith, rules, All, length, refl, sym, subst, arc_value, TableId, start_at, known, AreFor, AreReadersAt, inl, inr, List, Option, Some, Any, Reason, RacingHeap, ReaderMember, SaysNoMember, held_readers, IsReadBy, IsReadEndRefused, boxed_counts, idle_counts, counts_of, MemberCounts, map, ap, ◌∙◌, OfAtPause}
 use Rattle.g1_handles.specs.declared.code.Reason.TheVariants as refusal
+use Rattle.g1_handles.specs.declared.heap.racing_heap.RacingHeap.TheVariants as heap
 use Rattle.std.proofs.lemmas.Grind.{common_steps}
 use Rattle.g1_handles.proofs.{passed}
 use Rattle.g1_handles.proofs.ReaderLemmas.{all_know, all_of_race}
 use Rattle.g1_handles.proofs.heap.reading_end.end_read_of.Goals as goal
+
+back_at_pause : (h : RacingHeap) (l : List MemberCounts) → OfAtPause (Some h) (λ a. IsPermutation (boxed_counts a.readers.idle) l) → IsPermutation (idle_counts (Some h)) l
+back_at_pause (heap.Paused a) l same = same
+back_at_pause (heap.Read r) l same = absurd same
+back_at_pause (heap.Racing b) l same = absurd same
 
 of_readers : (h : Option RacingHeap) (rs : List (Option ReaderMember)) (r : Reason)
     → IsReadBy h (length rs) → (r ≡ refusal.OtherRace) ⊎ Any (λ m. SaysNoMember m r) rs → IsReadEndRefused h rs r
@@ -33,4 +39,17 @@ replace_with-requires c =
       counted = refl;
       boxes = subst (λ (n : ℕ). AreFor race n c.gather.new.boxes c.gather.new.roles) count (came.members race (all_of_race race p ms there));
       readers = subst (λ (t : TableId). All (λ r. r ≡ known t (start_at p)) c.gather.new.roles.items) (sym b.table) (all_know race p ms _ came.roles there);
+    }
+
+pub returns-clause-ended : goal.returns-clause-ended
+returns-clause-ended c =
+    let b = c.in-Read-heap.being_read in
+    let ms = held_readers c.args.readers.now in
+    let came : boxed_counts c.gather.new.boxes ≡ map counts_of ms = c.gather.ensures.counts ∙ ap (map counts_of) c.check_members.ensures.same in
+    record {
+      ended = first_of (search rules, grind (arith, common_steps));
+      count = first_of (search rules, grind (arith, common_steps));
+      counts = rw c.in-Read-heap.is (subst (λ (l : List MemberCounts). IsPermutation (idle_counts (Some c.replace_with.new.dest)) (l ++ boxed_counts b.readers.idle)) came (back_at_pause c.replace_with.new.dest _ c.replace_with.ensures.1));
+      like = first_of (search rules, grind (arith, common_steps));
+      closed = first_of (search rules, grind (arith, common_steps));
     }

@@ -1,7 +1,8 @@
 -- The race goes on as the pause left it, with the members that are handed out.
 use Rattle.std.specs.Prelude.{◌≡◌}
-use Rattle.g1_handles.specs.{arith, rules, List, Some, All, map, sym, ap, ◌∙◌, refl, Option, arc_value, racer_log, IsNewRacer, IsNewSweeper, start_at, UnderWay, RacingHeap, RacerMember, SweeperMember, GoesOn, LeavesPause, boxed_counts, heap_counts, log_of, held_racers, held_sweepers, role_in, IsOf}
+use Rattle.g1_handles.specs.{arith, rules, List, Some, All, map, sym, ap, ◌∙◌, refl, Option, arc_value, racer_log, IsNewRacer, IsNewSweeper, start_at, UnderWay, RacingHeap, RacerMember, SweeperMember, GoesOn, LeavesPause, boxed_counts, heap_counts, log_of, held_racers, held_sweepers, role_in, IsOf, idle_counts}
 use Rattle.g1_handles.specs.declared.heap.racing_heap.AtPause.{AtPause}
+use Rattle.g1_handles.specs.declared.heap.racing_heap.Readers.{Readers}
 use Rattle.std.proofs.lemmas.Grind.{common_steps}
 use Rattle.g1_handles.proofs.{found, seen_alike}
 use Rattle.g1_handles.proofs.heap.resume.resume_of.Goals as goal
@@ -40,6 +41,7 @@ returns-clause-resumed c =
       resumed = rw c.in-Paused.is on;
       race = search rules;
       counts = (λ i. (out.counts i, too.counts i)) ∙ ((λ i. (boxed_counts (go.racers_waited i), boxed_counts (go.sweepers_waited i))) ∙ sym (ap (λ (h : RacingHeap). heap_counts (Some h)) c.in-Paused.is));
+      idle = ap (λ (r : Readers). boxed_counts r.idle) go.idle ∙ sym (ap (λ (h : RacingHeap). idle_counts (Some h)) c.in-Paused.is);
       members = search rules;
       closed = search rules;
     }

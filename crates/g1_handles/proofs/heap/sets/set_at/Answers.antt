@@ -10,7 +10,7 @@ pub returns-in-Recorded-clause-called : goal.returns-in-Recorded-clause-called
 returns-in-Recorded-clause-called c =
     let old : Pause = c.args.heap.now in
     let region = c.in-Some.region in
-    let below = subst (λ (l : Shape). c.args.region < l.regions) c.layout.ensures c.in-Some.ensures.0 in
+    let below = subst (λ (l : Shape). c.args.region < l.regions) c.layout.ensures.value c.in-Some.ensures.0 in
     let lt = subst (λ (r : ℕ). r < old.layout.regions) (sym c.in-Some.ensures.1) below in
     rw c.in-Recorded.is (record {
       told = tells_so (AreMembers (table_at old) region) (TellsMembers (table_at old) c.args.region) c.args.cards.now c.write_set.result c.write_set.new.array
@@ -28,7 +28,7 @@ returns-in-Refined-clause-called c =
     let new : Pause = c.write_set-in-Refined.new.heap in
     let region = c.in-Some.region in
     let done = marked_cards old.shape old.words in
-    let below = subst (λ (l : Shape). c.args.region < l.regions) c.layout.ensures c.in-Some.ensures.0 in
+    let below = subst (λ (l : Shape). c.args.region < l.regions) c.layout.ensures.value c.in-Some.ensures.0 in
     let lt = subst (λ (r : ℕ). r < old.layout.regions) (sym c.in-Some.ensures.1) below in
     rw c.in-Refined.is (record {
       told = tells_so (AreMembers (table_at mid) region) (DrainsRegion old c.args.region new) c.args.cards.now c.write_set-in-Refined.result c.write_set-in-Refined.new.array

@@ -1,5 +1,5 @@
 -- One store more, or why there is none.
-use Rattle.g1_handles.specs.{subst, sym, ◌∙◌, racing, StoresFirst, IsEnd}
+use Rattle.g1_handles.specs.{refl, subst, sym, ◌∙◌, racing, StoresFirst, IsEnd}
 use Rattle.g1_handles.specs.Racing.{Racing}
 use Rattle.g1_handles.proofs.BatchLemmas.{stores_next, stores_end, stores_whole}
 use Rattle.g1_handles.proofs.member.batch.store_each.Goals as goal
@@ -9,7 +9,7 @@ loop-i-preserved c =
     let race = c.args.race.now in (
       c.store_next.ensures.same ∙ c.loop-i.invariant.0,
       stores_next (racing race c.args.racer.now c.args.counts.now) (racing race c.loop-i.racer c.loop-i.counts) (racing race c.store_next.new.racer c.store_next.new.counts)
-          c.args.stores.now c.loop-i.i _ c.in-Ok.field-0 c.loop-i-test.true c.loop-i.invariant.1 c.in-Ok.ensures.stored,
+          c.args.stores.now c.loop-i.i _ c.in-Ok.field-0 c.loop-i-test.true c.loop-i.invariant.1 (c.in-Ok.ensures.can refl) c.in-Ok.ensures.stored,
     )
 
 pub returns-in-Err : goal.returns-in-Err
