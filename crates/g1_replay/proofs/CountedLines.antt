@@ -1,6 +1,6 @@
 -- A trace has no more commands than lines, so the numbers of its lines bound how many commands it has.
 use Rattle.std.specs.Prelude.{◌≡◌, ◌≤◌, ◌+◌, ◌∷◌, ◌++◌, ◌==◌, if◌then◌else◌}
-use Rattle.g1_replay.specs.{ℕ, List, [], length, nat_lt, refl, ap, subst, arith, length-append, Option, Some, None, unwrap_or, option_to_list, Bool, true, false, Result, Ok, Err, IfOk, count_by, sum_by, count_by-le-length, Shape, Command, Dialect, TraceFault, TooLong, Cut, NoHeader, read_command, read_line, read_on, after_line, at_end, before, faulty, Stop, Step, AreScripts, Passes, Reads, is_store_command, stores_in}
+use Rattle.g1_replay.specs.{ℕ, List, [], length, nat_lt, refl, ap, subst, arith, length-append, Option, Some, None, unwrap_or, option_to_list, Bool, true, false, Result, Ok, Err, IfOk, count_by, sum_by, count_by-le-length, Shape, Command, Dialect, TraceFault, TooLong, Cut, NoHeader, read_command, read_line, read_on, after_line, at_end, faulty, Stop, Step, AreScripts, Passes, Reads, is_store_command, stores_in}
 use Rattle.g1_trace.specs.Grammar.{read_header}
 use Rattle.g1_trace.specs.Trace.{Trace}
 use Rattle.g1_trace.specs.Words.{◌>>=◌}

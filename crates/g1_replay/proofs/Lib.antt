@@ -18,6 +18,7 @@ pub mod LeftLemmas
 pub mod CoreDrainLemmas
 pub mod RaceLemmas
 pub mod JobLemmas
+pub mod PlayedLemmas
 use AnswerLemmas.*
 use CrewScriptLemmas.*
 use PartLemmas.*

@@ -1,17 +1,16 @@
 -- What the jobs of a crew come to, by its book.
 use Rattle.std.specs.Prelude.{◌≡◌, ◌≢◌, ◌≤◌, ◌==◌, ◌++◌}
-use Rattle.g1_replay.specs.{ℕ, List, [], length, refl, sym, subst, ap, ◌∙◌, append-nil, Option, inl, inr, arith, Result, Ok, Err, IfErr, cases_Bool, eqb-true, count_by, Shape, opening, Entry, IsPermitted, is_store, History, IsHistory, BookTerms, Refusal, Command, is_store_command, layout_in, AppendsFront, stores_text, front_more, puts_none, puts_then, Stop, BookFull, NoThread, WriteFailed, CrewRan, crew_stop, drains, HasDrained, played_none, entries_of, HasPlayed, IsBookFull, MayStop, Prints, written_by, IsRunEnd, IsUnstarted, Appends}
+use Rattle.g1_replay.specs.{ℕ, List, [], length, refl, sym, subst, ap, ◌∙◌, append-nil, Option, inl, inr, arith, Result, Ok, Err, IfErr, IfSome, cases_Bool, eqb-true, count_by, Shape, opening, Entry, IsPermitted, is_store, History, IsHistory, BookTerms, Refusal, Command, is_store_command, layout_in, AppendsFront, stores_text, front_more, puts_none, puts_then, Stop, BookFull, NoThread, WriteFailed, CrewRan, CrewDrained, AreOfCallers, Options, Some, None, crew_stop, drains, HasDrained, played_none, entries_of, HasPlayed, IsBookFull, MayStop, Prints, written_by, IsRunEnd, IsUnstarted, Appends}
 use Rattle.g1_history.specs.declared.refusal.Refusal.TheVariants as refusal
 
 -- a book with drains behind it is a run, and its text counts the stores in front of them
 ran_book : (asked : List Command) (old new : History) (k : ℕ) (r : Result (Unit {0}) Stop) (text : List ℕ) → count_by is_store old.entries ≡ count_by is_store_command asked → HasPlayed old (drains k) text new → IsHistory new → IsRunEnd r → r ≢ Err NoThread → (r ≡ Err BookFull → IsBookFull new) → (r ≡ Ok tt → k ≡ (layout_in old).regions)
-    → CrewRan old.limit (layout_in old) asked r (stores_text (count_by is_store old.entries) ++ text)
+    → CrewDrained old.limit (layout_in old) None old.entries asked r (stores_text (count_by is_store old.entries) ++ text)
 ran_book asked old new k r text many p h ends alone full all =
     let es : new.entries ≡ old.entries ++ entries_of p.pieces = p.grows.entries in
     let most : new.limit ≡ old.limit = ap (λ (t : BookTerms). t.limit) p.grows.terms in
     let shape : layout_in new ≡ layout_in old = ap (λ (t : BookTerms). t.layout) p.grows.terms in
     record {
-      entries = old.entries;
       drained = k;
       pieces = p.pieces;
       ends = ends;
@@ -20,7 +19,8 @@ ran_book asked old new k r text many p h ends alone full all =
       within = subst (λ (xs : List Entry). length xs ≤ old.limit) es (subst (λ (n : ℕ). length new.entries ≤ n) most h.within);
       full = λ e. ap (λ (xs : List Entry). length xs) (sym es) ∙ full e ∙ most;
       all = all;
-      said = inr (alone, many, ap (λ t. stores_text (count_by is_store old.entries) ++ t) p.said);
+      stopped = tt;
+      said = inr (alone, refl, many, ap (λ t. stores_text (count_by is_store old.entries) ++ t) p.said);
     }
 
 pub may_end : (r : Result (Unit {0}) Stop) → IfErr r MayStop → IsRunEnd r
@@ -33,35 +33,39 @@ drains_alone r h e = subst (λ r. IfErr r MayStop) e h
 
 -- the count could not be written
 pub stores_failed : (asked : List Command) (h : History) (out out' : Option (List ℕ)) → IsHistory h → count_by is_store h.entries ≡ count_by is_store_command asked → AppendsFront out out' (stores_text (count_by is_store h.entries))
-    → (text : List ℕ) × CrewRan h.limit (layout_in h) asked (Err WriteFailed) text × Prints {V = Unit {0}} out out' (Err WriteFailed) text
+    → (text : List ℕ) × CrewDrained h.limit (layout_in h) None h.entries asked (Err WriteFailed) text × Prints {V = Unit {0}} out out' (Err WriteFailed) text
 stores_failed asked h out out' history many w =
     (stores_text (count_by is_store h.entries) ++ [], ran_book asked h h 0 (Err WriteFailed) [] many (played_none h) history (inr tt) (λ e. cc) (λ e. cc) (λ e. cc), front_more out out' (stores_text (count_by is_store h.entries)) [] w)
 
 -- the count was written, and drains behind it
 pub book_written : (asked : List Command) (old new : History) (out mid_out out' : Option (List ℕ)) (r : Result (Unit {0}) Stop) → IfErr r MayStop → IsHistory new → count_by is_store old.entries ≡ count_by is_store_command asked → Appends out mid_out (stores_text (count_by is_store old.entries))
-    → HasDrained HasPlayed IsBookFull (layout_in old).regions old new mid_out out' r → (text : List ℕ) × CrewRan old.limit (layout_in old) asked r text × Prints out out' r text
+    → HasDrained HasPlayed IsBookFull (layout_in old).regions old new mid_out out' r → (text : List ℕ) × CrewDrained old.limit (layout_in old) None old.entries asked r text × Prints out out' r text
 book_written asked old new out mid_out out' r stops history many w d =
     (stores_text (count_by is_store old.entries) ++ d.text, ran_book asked old new d.drained r d.text many d.played history (may_end r stops) (drains_alone r stops) d.filled d.all, puts_then out mid_out out' (written_by r) (stores_text (count_by is_store old.entries)) d.text w d.written)
 
--- nothing was drained or written
-stopped_with : (asked : List Command) (l : Shape) (history : ℕ) (entries : List Entry) (stop : Stop) (out : Option (List ℕ)) → IsRunEnd (Err stop) → IsPermitted (opening l) entries → length entries ≤ history → (stop ≡ BookFull → length entries ≡ history)
-    → (text : List ℕ) × CrewRan history l asked (Err stop) text × Prints {V = Unit {0}} out out (Err stop) text
-stopped_with asked l history entries stop out ends permitted within full = (
-  [],
-  record {
-    entries = entries;
-    drained = 0;
-    pieces = [];
-    ends = ends;
-    walked = tt;
-    permitted = subst (λ (xs : List Entry). IsPermitted (opening l) xs) (sym (append-nil entries)) permitted;
-    within = subst (λ (xs : List Entry). length xs ≤ history) (sym (append-nil entries)) within;
-    full = λ e. ap (λ (xs : List Entry). length xs) (append-nil entries) ∙ full cc;
-    all = λ e. cc;
-    said = inl (stop, refl, refl, refl);
-  },
-  puts_none out (written_by {V = Unit {0}} (Err stop)),
-)
+abbrev ends_with : Stop → Result (Unit {0}) Stop
+ends_with stop = Err stop
+
+stopped_by : (refused : Option Refusal) (made history : ℕ) (stop : Stop) (text : List ℕ) → text ≡ [] → IfSome refused (λ why. stop ≡ crew_stop made history why)
+    → IfSome refused (λ why. (ends_with stop ≡ ends_with (crew_stop made history why)) × (text ≡ []))
+stopped_by None made history stop text none h = tt
+stopped_by (Some why) made history stop text none h = (ap (λ (s : Stop). ends_with s) h, none)
+
+-- nothing was drained
+stopped_with : (asked : List Command) (l : Shape) (history : ℕ) (refused : Option Refusal) (entries : List Entry) (stop : Stop) → IsRunEnd (Err stop) → IsPermitted (opening l) entries → length entries ≤ history → (stop ≡ BookFull → length entries ≡ history)
+    → IfSome refused (λ why. stop ≡ crew_stop (length entries) history why) → CrewDrained history l refused entries asked (Err stop) []
+stopped_with asked l history refused entries stop ends permitted within full why = record {
+  drained = 0;
+  pieces = [];
+  ends = ends;
+  walked = tt;
+  permitted = subst (λ (xs : List Entry). IsPermitted (opening l) xs) (sym (append-nil entries)) permitted;
+  within = subst (λ (xs : List Entry). length xs ≤ history) (sym (append-nil entries)) within;
+  full = λ e. ap (λ (xs : List Entry). length xs) (append-nil entries) ∙ full cc;
+  all = λ e. cc;
+  stopped = stopped_by refused (length entries) history stop [] refl why;
+  said = inl (stop, refl, refl, refl);
+}
 
 -- a crew that was refused a call may end so, and with a full book only if it is full
 crew_may : (made history : ℕ) (refused : Refusal) → MayStop (crew_stop made history refused) × (crew_stop made history refused ≡ BookFull → made ≡ history)
@@ -72,11 +76,27 @@ crew_may made history refusal.BookFull = elim (cases_Bool (made == history)) [
 ]
 
 -- a job was refused
-pub job_refused : (asked : List Command) (h : History) (refused : Refusal) (out : Option (List ℕ)) → IsHistory h → (text : List ℕ) × CrewRan h.limit (layout_in h) asked (Err (crew_stop (length h.entries) h.limit refused)) text × Prints {V = Unit {0}} out out (Err (crew_stop (length h.entries) h.limit refused)) text
+pub job_refused : (asked : List Command) (h : History) (refused : Refusal) (out : Option (List ℕ)) → IsHistory h
+    → (text : List ℕ) × CrewDrained h.limit (layout_in h) (Some refused) h.entries asked (Err (crew_stop (length h.entries) h.limit refused)) text × Prints {V = Unit {0}} out out (Err (crew_stop (length h.entries) h.limit refused)) text
 job_refused asked h refused out history =
     let may = crew_may (length h.entries) h.limit refused in
-    stopped_with asked (layout_in h) h.limit h.entries (crew_stop (length h.entries) h.limit refused) out (inr may.0) history.run history.within may.1
+    let stop = crew_stop (length h.entries) h.limit refused in
+    ([], stopped_with asked (layout_in h) h.limit (Some refused) h.entries stop (inr may.0) history.run history.within may.1 refl, puts_none out (written_by {V = Unit {0}} (Err stop)))
 
 -- no job was run
-pub not_started : (asked : List Command) (l : Shape) (history : ℕ) (stop : Stop) (out : Option (List ℕ)) → IsUnstarted stop → (text : List ℕ) × CrewRan history l asked (Err stop) text × Prints {V = Unit {0}} out out (Err stop) text
-not_started asked l history stop out h = stopped_with asked l history [] stop out (inl h) tt (omega arith) (λ e. absurd (subst IsUnstarted e h))
+pub not_started : (asked : List Command) (o : Options) (l : Shape) (stop : Stop) (out : Option (List ℕ)) → IsUnstarted stop → (text : List ℕ) × CrewRan o l asked (Err stop) text × Prints {V = Unit {0}} out out (Err stop) text
+not_started asked o l stop out h = (
+  [],
+  record {
+    refused = None;
+    entries = [];
+    made = inl (h, refl, refl);
+    ended = stopped_with asked l o.history None [] stop (inl h) tt (omega arith) (λ e. absurd (subst IsUnstarted e h)) tt;
+  },
+  puts_none out (written_by {V = Unit {0}} (Err stop)),
+)
+
+-- the jobs came back, and what they left was drained
+pub crew_ran : (asked : List Command) (o : Options) (l : Shape) (refused : Option Refusal) (entries : List Entry) (out out' : Option (List ℕ)) (r : Result (Unit {0}) Stop) → AreOfCallers o asked refused entries
+    → (text : List ℕ) × CrewDrained o.history l refused entries asked r text × Prints out out' r text → (text : List ℕ) × CrewRan o l asked r text × Prints out out' r text
+crew_ran asked o l refused entries out out' r made d = (d.0, record { refused = refused; entries = entries; made = inr made; ended = d.1 }, d.2)

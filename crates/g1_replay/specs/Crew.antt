@@ -1,30 +1,37 @@
 -- What a crew writes: how many stores its run has, and the drains that end it.
-use Rattle.std.specs.Prelude.{◌≡◌, ◌≢◌, ◌≤◌, ◌==◌, ◌⊎◌, ◌++◌, if◌then◌else◌}
+use Rattle.std.specs.Prelude.{◌≡◌, ◌≢◌, ◌≤◌, ◌==◌, ◌⊎◌, ◌+◌, ◌++◌, if◌then◌else◌}
 use Rattle.g1_replay.specs.Prelude.{ℕ, List, [], Result, Ok, Err, length, count_by, Shape, opening}
 use Rattle.g1_replay.specs.Prelude.{Entry, IsPermitted, is_store, Refusal, Command, stores_text}
+use Rattle.g1_replay.specs.Prelude.{Option, None, IfSome, IsErrAnd, Options}
 use Rattle.g1_history.specs.declared.refusal.Refusal.TheVariants as refusal
 use Rattle.g1_replay.specs.declared.stop.Stop.{Stop}
 use Rattle.g1_replay.specs.declared.stop.Stop.TheVariants.{BookFull, NoMemory, NoThread}
 use Rattle.g1_replay.specs.Drains.{drains}
 use Rattle.g1_replay.specs.Pieces.{Piece, Walks, lines_of, entries_of}
-use Rattle.g1_replay.specs.Scripted.{IsRunEnd}
-use Rattle.g1_replay.specs.Scripts.{is_store_command}
+use Rattle.g1_replay.specs.Scripted.{IsRunEnd, IsUnstarted}
+use Rattle.g1_replay.specs.Scripts.{is_store_command, HasCome, IsScriptFor}
 
--- Nothing was drained or written, since something stopped the crew; or how many stores a run has
--- was, which is how many the commands have, and the lines of the drains behind it.
-abbrev pub IsCrewText : List Command → List Entry → List Command → List Piece
+-- Nothing was drained or written, since something stopped the crew; or no job was refused, and how
+-- many stores a run has was, which is how many the commands have, and the lines of the drains
+-- behind it.
+abbrev pub IsCrewText : List Command → Option Refusal → List Entry → List Command → List Piece
     → Result (Unit {0}) Stop → List ℕ → Type 0
-IsCrewText commands entries ds pieces r text =
+IsCrewText commands refused entries ds pieces r text =
     ((stop : Stop) × (r ≡ Err stop) × (ds ≡ []) × (text ≡ []))
-    ⊎ ((r ≢ Err NoThread) × (count_by is_store entries ≡ count_by is_store_command commands)
+    ⊎ ((r ≢ Err NoThread) × (refused ≡ None)
+    × (count_by is_store entries ≡ count_by is_store_command commands)
     × (text ≡ stores_text (count_by is_store entries) ++ lines_of ds pieces))
 
--- The scripts of these commands came to a permitted run, which drains of the first regions end; at
--- the whole end those of all regions. The run has at most `history` entries, and just as many where
--- the book is full.
-pub record CrewRan (history : ℕ) (l : Shape) (commands : List Command)
-    (r : Result (Unit {0}) Stop) (text : List ℕ) : Type 0 where
-  pub entries : List Entry
+-- why a crew ends one of whose calls was refused, by a book of this many entries
+abbrev pub crew_stop : (made history : ℕ) → Refusal → Stop
+crew_stop made history refusal.BookFull = if made == history then BookFull else NoMemory
+crew_stop made history refusal.NoMemory = NoMemory
+
+-- A permitted run has these entries and then drains of the first regions, with none between; at the
+-- whole end those of all regions. The run has at most `history` entries, and just as many where the
+-- book is full. A job that was refused ends the crew, with nothing written.
+pub record CrewDrained (history : ℕ) (l : Shape) (refused : Option Refusal) (entries : List Entry)
+    (commands : List Command) (r : Result (Unit {0}) Stop) (text : List ℕ) : Type 0 where
   pub drained : ℕ
   pub pieces : List Piece
   pub ends : IsRunEnd r
@@ -33,9 +40,26 @@ pub record CrewRan (history : ℕ) (l : Shape) (commands : List Command)
   pub within : length (entries ++ entries_of pieces) ≤ history
   pub full : r ≡ Err BookFull → length (entries ++ entries_of pieces) ≡ history
   pub all : r ≡ Ok tt → drained ≡ l.regions
-  pub said : IsCrewText commands entries (drains drained) pieces r text
+  pub stopped : IfSome refused (λ why. (r ≡ Err (crew_stop (length entries) history why))
+      × (text ≡ []))
+  pub said : IsCrewText commands refused entries (drains drained) pieces r text
 
--- why a crew ends one of whose calls was refused, by a book of this many entries
-abbrev pub crew_stop : (made history : ℕ) → Refusal → Stop
-crew_stop made history refusal.BookFull = if made == history then BookFull else NoMemory
-crew_stop made history refusal.NoMemory = NoMemory
+-- No job was run, and nothing written.
+abbrev pub IsUnrun : Result (Unit {0}) Stop → List Entry → List ℕ → Type 0
+IsUnrun r entries text = IsErrAnd r IsUnstarted × (entries ≡ []) × (text ≡ [])
+
+-- The entries are those of the callers of a crew: their jobs came back from the scripts of these
+-- commands, and they count just as many, and as many stores.
+abbrev pub AreOfCallers : Options → List Command → Option Refusal → List Entry → Type 0
+AreOfCallers o commands refused entries =
+    HasCome (IsScriptFor o commands) (o.mutators + o.refiners) o.config.limit refused
+    (count_by is_store entries) (length entries)
+
+-- The scripts of these commands were run, and came to entries of a permitted run, which drains of
+-- the first regions end. There are as many entries before these drains as the callers count.
+pub record CrewRan (o : Options) (l : Shape) (commands : List Command)
+    (r : Result (Unit {0}) Stop) (text : List ℕ) : Type 0 where
+  pub refused : Option Refusal
+  pub entries : List Entry
+  pub made : IsUnrun r entries text ⊎ AreOfCallers o commands refused entries
+  pub ended : CrewDrained o.history l refused entries commands r text

@@ -15,6 +15,8 @@ pub mod RaceJobs
 pub mod Scripts
 pub mod Still
 pub mod Members
+pub mod Played
+pub mod Opened
 unfoldable pub use Prelude.*
 pub use Lines.*
 pub use Reading.*
@@ -31,6 +33,8 @@ pub use RaceJobs.*
 pub use Scripts.*
 pub use Still.*
 pub use Members.*
+pub use Played.*
+pub use Opened.*
 pub use declared.end.End.{End}
 pub use declared.end.End.TheVariants.{Refused, Whole}
 pub use declared.lines.line.Byte.{Byte}
@@ -40,6 +44,8 @@ pub use declared.lines.source.Commands.{Commands}
 pub use declared.races.desk.Member.{Member}
 pub use declared.races.desk.Member.TheVariants.{Racing, Sweeping}
 pub use declared.races.members.Returned.{Returned}
+pub use declared.races.opening.OpenRace.{OpenRace}
+pub use declared.runs.machinery.Machinery.{Machinery}
 pub use declared.stop.Stop.{Stop}
 pub use declared.stop.Stop.TheVariants.{BookFull, Fault, NoMemory, NoThread, ReadFailed}
 pub use declared.stop.Stop.TheVariants.{WriteFailed}

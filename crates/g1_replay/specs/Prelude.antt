@@ -46,6 +46,7 @@ pub use Rattle.g1_core.specs.declared.reply.Fill.{Fill}
 pub use Rattle.g1_core.specs.declared.reply.Fill.TheVariants.{Full, Helped, No}
 pub use Rattle.g1_core.specs.declared.reply.RefineReply.{RefineReply}
 pub use Rattle.g1_core.specs.declared.reply.StoreReply.{StoreReply}
+pub use Rattle.g1_history.specs.Asked.{MakesAsked}
 pub use Rattle.g1_history.specs.History.{BookTerms, History, IsHistory, is_store, layout_in, opened}
 pub use Rattle.g1_history.specs.History.{terms_of}
 pub use Rattle.g1_history.specs.declared.refusal.Refusal.{Refusal}
@@ -53,9 +54,10 @@ pub use Rattle.g1_layout.specs.Shape.{card_count, card_of, region_of, region_of_
 pub use Rattle.g1_layout.specs.Shape.{slot_count}
 pub use Rattle.g1_layout.specs.declared.kind.Kind.{Kind}
 pub use Rattle.g1_layout.specs.declared.kind.Kind.TheVariants.{Logged}
-pub use Rattle.g1_log.specs.Ends.{capacity_of, IsSameSender, IsSenderOf, IsTakerOf, line_home}
-pub use Rattle.g1_log.specs.Ends.{put_of, sender_home, sender_rights, taken_of, taker_home}
-pub use Rattle.g1_log.specs.Ends.{taker_rights}
+pub use Rattle.g1_log.specs.Ends.{capacity_of, IsSameSender, IsSameTaker, IsSenderOf, IsTakerOf}
+pub use Rattle.g1_log.specs.Ends.{line_home, put_of, sender_home, sender_rights, taken_of}
+pub use Rattle.g1_log.specs.Ends.{taker_home, taker_rights}
+pub use Rattle.g1_log.specs.Line.{whole as line_rights}
 pub use Rattle.g1_log.specs.declared.ends.Sender.{Sender}
 pub use Rattle.g1_log.specs.declared.ends.Taker.{Taker}
 pub use Rattle.g1_log.specs.declared.line.Line.{Line}
@@ -64,7 +66,7 @@ pub use Rattle.g1_race.specs.Members.{AreFreshRacers, AreFreshSweepers, HaveBegu
 pub use Rattle.g1_race.specs.Members.{IsFreshSweeper, null_begun, race_begun, race_id, race_layout}
 pub use Rattle.g1_race.specs.Members.{race_shape, racer_race, racer_start, racer_view, sweeper_race}
 pub use Rattle.g1_race.specs.Members.{sweeper_start, sweeper_view}
-pub use Rattle.g1_race.specs.Over.{Ended, refs_of, table_of, target_of_word}
+pub use Rattle.g1_race.specs.Over.{core_of, Ended, refs_of, table_of, target_of_word}
 pub use Rattle.g1_race.specs.Race.{Among, AmongStores, IsKnown, IsOver, shape_of, word_of}
 pub use Rattle.g1_race.specs.declared.race.Race.{Race}
 pub use Rattle.g1_race.specs.declared.race.Racer.{Racer}
@@ -78,14 +80,17 @@ pub use Rattle.g1_race_words.specs.Steps.{gains_store}
 pub use Rattle.g1_race_words.specs.declared.view.View.{View}
 pub use Rattle.g1_shared.specs.Callers.{CallerState, IsCallerOf}
 pub use Rattle.g1_shared.specs.Counts.{CallerCounts, kept_terms, shared_terms}
+pub use Rattle.g1_shared.specs.Did.{most_for}
 pub use Rattle.g1_steps.proofs.StepLemmas.{grows_none, grows_then}
 pub use Rattle.g1_steps.specs.Ask.{Ask, AskFlush, asks_in, asks_of, AskStore, AskWork, is_store_ask}
 pub use Rattle.g1_steps.specs.Ask.{JobRan, Ran, ScriptFits, StepFits}
 pub use Rattle.g1_steps.specs.Lent.{Grows, IsBookCall}
 pub use Rattle.g1_steps.specs.Made.{AreCalls, CallMade, Refined, Stored}
-pub use Rattle.g1_steps.specs.Rounds.{IsRound, replies_of, round_calls, round_size, Turn}
+pub use Rattle.g1_steps.specs.Rounds.{IsRound, IsWorkStep, replies_of, round_calls, round_size}
+pub use Rattle.g1_steps.specs.Rounds.{Turn}
 pub use Rattle.g1_steps.specs.Steps.{called, Empties, filled, flush_answer, Help, help_calls}
-pub use Rattle.g1_steps.specs.Steps.{IsStored, nothing_flushed, PutsBy, store_answer}
+pub use Rattle.g1_steps.specs.Steps.{IsFlushStep, IsRefineStep, IsStopped, IsStored, IsStoreStep}
+pub use Rattle.g1_steps.specs.Steps.{nothing_flushed, PutsBy, store_answer}
 pub use Rattle.g1_steps.specs.declared.crew.desk.Script.{Script}
 pub use Rattle.g1_steps.specs.declared.crew.desk.Script.TheVariants.{Mutate, Refine}
 pub use Rattle.g1_steps.specs.declared.crew.desk.Step.{Step}

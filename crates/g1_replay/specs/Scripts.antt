@@ -5,7 +5,8 @@ use Rattle.g1_replay.specs.Prelude.{slice_index_or, Option, Some, None, Result, 
 use Rattle.g1_replay.specs.Prelude.{subst, ap, ◌∙◌, append-nil, append_assoc, filter_map-append}
 use Rattle.g1_replay.specs.Prelude.{add_assoc, add-zero, sum_by-append, sum_by, cond, filter_map}
 use Rattle.g1_replay.specs.Prelude.{option_or, Ask, asks_in, asks_of, is_store_ask, Step, Script}
-use Rattle.g1_replay.specs.Prelude.{Mutate, Refine, Refusal, Command, Store, Flush}
+use Rattle.g1_replay.specs.Prelude.{Mutate, Refine, Refusal, Command, Store, Flush, Options}
+use Rattle.g1_replay.specs.Prelude.{most_for}
 use Rattle.g1_steps.specs.declared.crew.desk.Step.TheVariants as step
 
 -- the call that a command asks of a mutator, and of which
@@ -107,10 +108,19 @@ abbrev pub first_refusal : List (Option (Result ℕ (ℕ × Refusal))) → Optio
 first_refusal [] = None
 first_refusal (outcome ∷ outcomes) = option_or (refusal_in outcome) (first_refusal outcomes)
 
--- A job of a crew as it came back: what it was to do, and its outcome.
+-- The script of the caller of this number in a crew of these commands: those of its mutator, or
+-- rounds of refinement.
+abbrev pub IsScriptFor : Options → List Command → ℕ → Script → Type 0
+IsScriptFor o cs number (Mutate made) =
+    (number < o.mutators) × (made.items ≡ filter_map (step_for number) cs)
+IsScriptFor o cs number (Refine made) = (o.mutators ≤ number) × (made ≡ o.rounds)
+
+-- A job of a crew as it came back: what it was to do, its outcome, and how many entries its caller
+-- has made.
 pub record JobEnd : Type 0 where
   pub script : Script
   pub outcome : Option (Result ℕ (ℕ × Refusal))
+  pub made : ℕ
 
 -- what it asked for: all of its script, or what stands before the call that was refused
 abbrev pub asked_by : Script → Option (Result ℕ (ℕ × Refusal)) → List Ask
@@ -121,14 +131,23 @@ asked_by script outcome = asks_in script
 abbrev pub stored_by : JobEnd → ℕ
 stored_by job = count_by is_store_ask (asked_by job.script job.outcome)
 
+-- Its caller made an entry for each store, and no more than the calls can have, where a round makes
+-- at most `limit`.
+abbrev pub HasEntered : ℕ → JobEnd → Type 0
+HasEntered limit job =
+    (stored_by job ≤ job.made)
+    × (job.made ≤ sum_by (most_for limit) (asked_by job.script job.outcome))
+
 -- The jobs of a crew came back, one a caller, in order. Each had the script of its caller,
 -- `refused` is why the first of those that were refused was, and as many stores were entered as all
--- of them asked for.
-pub record HasCome {E : Type 0} (steps : E → List Step) (rounds callers : ℕ) (asked : List E)
-    (refused : Option Refusal) (stores : ℕ) : Type 0 where
+-- of them asked for, and as many entries made as their callers count.
+pub record HasCome (IsAt : ℕ → Script → Type 0) (callers limit : ℕ) (refused : Option Refusal)
+    (stores made : ℕ) : Type 0 where
   pub jobs : List JobEnd
   pub many : length jobs ≡ callers
-  pub scripts : (k : ℕ) (d : JobEnd) → k < length jobs
-      → IsScriptAt steps rounds asked k (slice_index_or jobs k d).script
+  pub scripts : (k : ℕ) (d : JobEnd) → k < length jobs → IsAt k (slice_index_or jobs k d).script
+  pub entered : (k : ℕ) (d : JobEnd) → k < length jobs
+      → HasEntered limit (slice_index_or jobs k d)
   pub first : refused ≡ first_refusal (map (λ job. job.outcome) jobs)
   pub stored : stores ≡ sum_by stored_by jobs
+  pub made_are : made ≡ sum_by (λ job. job.made) jobs

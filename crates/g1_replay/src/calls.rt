@@ -2,7 +2,9 @@
 //! and its line.
 ghost use Rattle.std.specs.Prelude.{◌∷◌};
 ghost use Rattle.g1_replay.specs.{[], IfErr, layout_in, Puts, IsCommandCall, call_line, Does};
-ghost use Rattle.g1_replay.specs.{HasPlayed, IsBookFull, MayStop, more_may_come};
+ghost use Rattle.g1_replay.specs.{HasPlayed, IsBookFull, MayStop, more_may_come, said_of, IsSaid};
+ghost use Rattle.g1_replay.specs.{MakesAsked, true};
+ghost use Rattle.g1_replay.specs.Prelude.{Result, Reply as R, Refusal};
 
 use crate::stop::Stop;
 use g1_core::{Call, Reply};
@@ -18,6 +20,9 @@ pub(crate) fn play_call<W: Write>(book: &mut Book, call: Call, output: &mut W) -
     requires { IsCommandCall (layout_in book.old) call }
     ensures played { Does HasPlayed IsBookFull (Command.Call call ∷ []) book.old book.new
         (W.contents output.old) (W.contents output.new) (more_may_come result) }
+    ensures asked { (reply : Result R Refusal) × MakesAsked true book.old 0 call reply book.new
+        × IsSaid (said_of (call_line call) reply) (W.contents output.old) (W.contents output.new)
+        result }
     ensures stops { IfErr result MayStop }
 {
     let reply = book.ask(0, call)?;

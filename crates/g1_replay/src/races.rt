@@ -1,11 +1,12 @@
 //! A replay by threads whose stores race.
 //!
 //! - `play` runs it to its end.
-//! - `members` and `desk` are those of the threads, `jobs` makes their calls, and `output` prints
-//!   what they leave.
+//! - `opening` opens it, `members` and `desk` are those of the threads, `jobs` makes their calls,
+//!   and `output` prints what they leave.
 
 mod desk;
 mod jobs;
 mod members;
+mod opening;
 mod output;
 pub(crate) mod play;

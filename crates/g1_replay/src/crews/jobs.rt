@@ -1,9 +1,10 @@
 //! The jobs of a crew, and the book that they leave.
 ghost use Rattle.std.specs.Prelude.{◌≡◌, ◌+◌, ◌≤◌, ◌^◌, ◌<◌};
-ghost use Rattle.g1_replay.specs.{[], true, IfErr, IfOk, All, map, count_by, sum_by};
+ghost use Rattle.g1_replay.specs.{[], true, length, IfErr, IfOk, All, map, count_by, sum_by};
 ghost use Rattle.g1_replay.specs.{vec_len, vec_capacity, IsCallerOf, is_store, kept_terms};
 ghost use Rattle.g1_replay.specs.{shared_terms, terms_of, slot_count, StepFits, AllFrom};
 ghost use Rattle.g1_replay.specs.{IsUnstarted, first_refusal, HasCome, IsScriptAt};
+ghost use Rattle.g1_replay.specs.{layout_in, IsOpened};
 
 use crate::scripts::{next_script, refusal_of};
 use crate::stop::Stop;
@@ -35,6 +36,8 @@ fn jobs_of<'a, T, M: Terms, S: Ledger>(
         job.desk.caller.counts.number job.script) jobs.items) }
     ensures callers { IfOk result (λ jobs.
         map (λ job. job.desk.caller) jobs.items ≡ callers.items) }
+    ensures shared { IfOk result (λ jobs.
+        All (λ job. job.desk.shared.now ≡ shared.now) jobs.items) }
     ensures len { IfOk result (λ jobs. vec_len jobs ≡ vec_len callers) }
 {
     let mut jobs = Vec::with_capacity(alloc, callers.len())?;
@@ -75,9 +78,11 @@ fn callers_of<'a, T, M: Terms, S: Ledger>(
     (callers, stores, refused)
 }
 
-/// Runs one job for each mutator, with its script, and one for each refinement thread. Returns the
-/// book, how many of its entries are stores, and why the first of the jobs that were refused was,
-/// in the order of the callers. The stores are those of the scripts, of each up to its refusal.
+/// Runs one job for each mutator, with its script, and one for each refinement thread, over a book
+/// that was opened by the options. Returns the book, how many of its entries are stores, and why
+/// the first of the jobs that were refused was, in the order of the callers. The stores are those
+/// of the scripts, of each up to its refusal. The book has as many entries as the callers count,
+/// and none beside.
 ///
 /// Returns `NoMemory` if a growth for callers, jobs or scripts was refused, and `NoThread` if a
 /// thread could not be started. The book is then given up.
@@ -95,14 +100,17 @@ pub(crate) fn run_jobs<T: Threads + Wait + Sync, M: Terms + Send + Sync, S: Ledg
         × (blanks.1.parts ≡ options.now.mutators + options.now.refiners) }
     requires terms { shared_terms book ≡ M.terms }
     requires mutators { options.now.mutators ≡ M.terms.mutators }
+    requires opened { IsOpened (layout_in book) options.now book }
     requires empty { book.entries ≡ [] }
     requires count { vec_len scripts ≡ M.terms.mutators }
     requires fits { All (λ steps. All (StepFits (slot_count M.terms.layout) true) steps.items)
         scripts.items }
     ensures terms { IfOk result (λ done. terms_of done.0 ≡ kept_terms M.terms) }
     ensures stores { IfOk result (λ done. done.1 ≡ count_by is_store done.0.entries) }
-    ensures came { IfOk result (λ done. HasCome (λ steps. steps.items) options.now.rounds
-        (options.now.mutators + options.now.refiners) scripts.items done.2 done.1) }
+    ensures came { IfOk result (λ done. HasCome
+        (IsScriptAt (λ steps. steps.items) options.now.rounds scripts.items)
+        (options.now.mutators + options.now.refiners) M.terms.settings.limit
+        done.2 done.1 (length done.0.entries)) }
     ensures stops { IfErr result IsUnstarted }
 {
     let (made, stored) = blanks;

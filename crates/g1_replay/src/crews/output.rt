@@ -2,7 +2,7 @@
 ghost use Rattle.std.specs.Prelude.{◌≡◌};
 ghost use Rattle.g1_replay.specs.{List, [], Err, None, IfSome, length, count_by, Appends};
 ghost use Rattle.g1_replay.specs.{is_store, is_store_command, Command, IsHistory};
-ghost use Rattle.g1_replay.specs.{layout_in, CrewRan, crew_stop, played_in, played_none};
+ghost use Rattle.g1_replay.specs.{layout_in, CrewDrained, crew_stop, played_in, played_none};
 ghost use Rattle.g1_replay.specs.{played_then, HasPlayed, IsBookFull, PrintsSome};
 
 use crate::calls::play_call;
@@ -36,7 +36,8 @@ impl Drains for Book {
 fn put_book<W: Write>(book: &mut Book, stores: u64, output: &mut W) -> Result<(), Stop>
     requires { stores ≡ count_by is_store book.old.entries }
     ensures { (commands : List Command) → stores ≡ count_by is_store_command commands
-        → PrintsSome (CrewRan book.old.limit (layout_in book.old) commands)
+        → PrintsSome
+        (CrewDrained book.old.limit (layout_in book.old) None book.old.entries commands)
         (W.contents output.old) (W.contents output.new) result }
 {
     let layout = book.layout();
@@ -59,8 +60,8 @@ fn crew_stop(book: &Book, refusal: Refusal, history: u32) -> Stop
     Stop::NoMemory
 }
 
-/// Prints the crew's result: the number of stores and the drains. If a call was refused, it prints
-/// nothing, and returns why the crew ends.
+/// Prints the crew's result: the number of stores, and the drains that follow the entries of the
+/// book. If a call was refused, it prints nothing, and returns why the crew ends.
 pub(crate) fn put_crew<W: Write>(
     book: &mut Book,
     stores: u64,
@@ -72,7 +73,7 @@ pub(crate) fn put_crew<W: Write>(
     requires stores { stores ≡ count_by is_store book.old.entries }
     ensures ran { (commands : List Command)
         → (refused ≡ None → stores ≡ count_by is_store_command commands)
-        → PrintsSome (CrewRan history (layout_in book.old) commands)
+        → PrintsSome (CrewDrained history (layout_in book.old) refused book.old.entries commands)
         (W.contents output.old) (W.contents output.new) result }
     ensures refused { IfSome refused (λ r.
         (result ≡ Err (crew_stop (length book.old.entries) history r))

@@ -1,9 +1,8 @@
 //! Reads a trace to its end, makes the calls of each mutator in a thread of its own, and prints the
 //! result.
 ghost use Rattle.std.specs.Prelude.{◌≡◌};
-ghost use Rattle.g1_replay.specs.{List, true, vec_len, All, count_by, sum_by, slot_count};
+ghost use Rattle.g1_replay.specs.{List, true, vec_len, All, slot_count, AreScripts, PrintsSome};
 ghost use Rattle.g1_replay.specs.{StepFits, Command, CrewRan, IsScriptReplayed, dialect_in};
-ghost use Rattle.g1_replay.specs.{PrintsSome, is_store_command, stores_in};
 ghost use Rattle.g1_replay.specs.Scripted.{Scripted};
 ghost use Rattle.g1_trace.specs.declared.mode.Mode.TheVariants.{Crew};
 
@@ -38,9 +37,8 @@ fn run_scripts<T: Threads + Wait + Sync, W: Write>(
     requires fits { All (λ steps.
         All (StepFits (slot_count layout) true) steps.items) scripts.items }
     ensures { (commands : List Command)
-        → sum_by (λ steps. stores_in steps.items) scripts.items
-        ≡ count_by is_store_command commands
-        → PrintsSome (CrewRan options.now.history layout commands)
+        → AreScripts (λ steps. steps.items) scripts.items commands
+        → PrintsSome (CrewRan options.now layout commands)
         (W.contents output.old) (W.contents output.new) result }
 {
     let count = u64::from(options.mutators + options.refiners);
@@ -67,7 +65,7 @@ fn play_crew<T: Threads + Wait + Sync, R: BufRead, W: Write>(
     output: &mut W,
     options: &Options,
 ) -> Result<(), Stop>
-    ensures { PrintsSome (Scripted (CrewRan options.now.history) (dialect_in Crew options.now)
+    ensures { PrintsSome (Scripted (CrewRan options.now) (dialect_in Crew options.now)
         source.old.number source.new.number (R.remaining input.old) (R.remaining input.new))
         (W.contents output.old) (W.contents output.new) result }
 {
@@ -81,13 +79,13 @@ fn play_crew<T: Threads + Wait + Sync, R: BufRead, W: Write>(
 ///
 /// It writes how many stores the trace has, then the lines of the drains of each region in order,
 /// and then the line of the end, if it has one. Some permitted run of the plain table has as many
-/// stores and ends with these drains. Returns
-/// `Whole` only if the trace has no fault and all regions were drained, and `Refused` only if the
-/// trace has a fault: then nothing was run, and only the fault's line was written. With `Stopped`,
-/// either the threads were refused a call, memory or a thread, and that line is all that was
-/// written, or a drain was refused, and its line follows those of the drains before it. `book full`
-/// is written only if the run has as many entries as `options` allows. With `ReadFailed` nothing
-/// was run. With `WriteFailed` a beginning of such a text was written.
+/// stores and ends with these drains, and before them it has as many entries as the callers count.
+/// Returns `Whole` only if the trace has no fault and all regions were drained, and `Refused` only
+/// if the trace has a fault: then nothing was run, and only the fault's line was written. With
+/// `Stopped`, either the threads were refused a call, memory or a thread, and that line is all that
+/// was written, or a drain was refused, and its line follows those of the drains before it. `book
+/// full` is written only if the run has as many entries as `options` allows. With `ReadFailed`
+/// nothing was run. With `WriteFailed` a beginning of such a text was written.
 ///
 /// Which cards are refined between two stores is free. So two runs may write different text for a
 /// trace that stores to a slot twice.
@@ -102,7 +100,7 @@ pub fn crew<T: Threads + Wait + Sync, R: BufRead, W: Write>(
     output: &mut W,
     options: &Options,
 ) -> End
-    ensures { IsScriptReplayed (CrewRan options.now.history) (dialect_in Crew options.now)
+    ensures { IsScriptReplayed (CrewRan options.now) (dialect_in Crew options.now)
         (R.remaining input.old) (R.remaining input.new)
         (W.contents output.old) (W.contents output.new) result }
 {

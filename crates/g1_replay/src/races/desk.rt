@@ -65,6 +65,7 @@ impl<'a, R> RaceDesk<'a, R> {
         requires empty { member_logged member ≡ 0 }
         ensures member { result.member ≡ member }
         ensures race { result.race.now ≡ race.now }
+        ensures fill { result.fill ≡ fill }
     {
         RaceDesk {
             rt,

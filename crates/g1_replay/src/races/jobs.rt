@@ -4,12 +4,14 @@ ghost use Rattle.g1_replay.specs.{ℕ, List, drop, true, All, IfErr, IfOk, OnOk,
 ghost use Rattle.g1_replay.specs.{slot_count, race_layout, ScriptFits, StepFits, Command, is_racer};
 ghost use Rattle.g1_replay.specs.{AllFrom, AreScripts, HasBack, IsNewMember, IsRaceJob, IsScriptAt};
 ghost use Rattle.g1_replay.specs.{IsTableLeftBy, IsUnstarted, first_refusal, with_flush};
+ghost use Rattle.g1_replay.specs.{IsOpenedBy, capacity_of};
 
 use crate::races::desk::{Member, RaceDesk};
-use crate::races::members::{Returned, members_of};
+use crate::races::members::Returned;
+use crate::races::opening::OpenRace;
 use crate::scripts::{append, next_script, refusal_of};
 use crate::stop::Stop;
-use g1_layout::{Layout, NoMemory};
+use g1_layout::NoMemory;
 use g1_log::Line;
 use g1_options::Options;
 use g1_race::{Closed, Race};
@@ -46,11 +48,15 @@ fn jobs_of<'a, T>(
 ) -> Result<Vec<Job<RaceDesk<'a, T>>>, NoMemory>
     requires members { AllFrom (IsNewMember race.now line.now options.now.mutators) 0
         members.items }
+    requires many { vec_len members ≡ options.now.mutators + options.now.refiners }
+    requires capacity { capacity_of line.now ≡ options.now.config.limit }
     requires count { vec_len scripts ≡ options.now.mutators }
     requires fits { All (λ steps. All (StepFits (slot_count (race_layout race.now)) true)
         steps.items) scripts.items }
     ensures members { IfOk result (λ jobs.
         map (λ job. job.desk.member) jobs.items ≡ members.items) }
+    ensures logs { IfOk result (λ jobs.
+        All (λ job. job.desk.fill ≡ options.now.config.log) jobs.items) }
     ensures jobs { IfOk result (λ jobs.
         AllFrom (λ k job. IsRaceJob (λ steps. steps.items) race.now line.now options.now.mutators
         options.now.rounds scripts.items k job.desk.member job.script) 0 jobs.items) }
@@ -89,32 +95,34 @@ fn returned_by<'a, T>(alloc: Global, jobs: Vec<Job<RaceDesk<'a, T>>>) -> Result<
     Ok(returned)
 }
 
-/// Runs a race: one job for each mutator, with its script and one flush, and one for each
-/// refinement thread. Returns the closed race.
+/// Runs a race that was opened by the options: one job for each mutator, with its script and one
+/// flush, and one for each refinement thread. As many cards fill a log as the options say. Returns
+/// the closed race.
 ///
-/// Returns `NoMemory` if a growth for race, queue, jobs or scripts was refused, or a job was, and
-/// `NoThread` if a thread could not be started. The race is then given up. All threads have been
-/// joined.
+/// Returns `NoMemory` if a growth for jobs or scripts was refused, or a job was, and `NoThread` if
+/// a thread could not be started. The race is then given up. All threads have been joined.
 pub(crate) fn run_race<T: Threads + Wait + Sync>(
     rt: &T,
     alloc: Global,
-    layout: Layout,
+    opened: OpenRace,
     scripts: Vec<Vec<Step>>,
     options: &Options,
 ) -> Result<Closed, Stop>
+    requires opened { IsOpenedBy (race_layout opened.race) options.now opened }
     requires count { vec_len scripts ≡ options.now.mutators }
     requires fits { All (λ steps.
-        All (StepFits (slot_count layout) true) steps.items) scripts.items }
-    ensures layout { IfOk result (λ closed. closed.layout ≡ layout) }
+        All (StepFits (slot_count (race_layout opened.race)) true) steps.items) scripts.items }
+    ensures layout { IfOk result (λ closed. closed.layout ≡ race_layout opened.race) }
     ensures left { IfOk result (λ closed. (commands : List Command)
         → AreScripts (λ steps. steps.items) scripts.items commands
         → IsTableLeftBy options.now.mutators commands closed) }
     ensures stops { IfErr result IsUnstarted }
 {
-    let (mutators, refiners) = (options.mutators, options.refiners);
-    let (race, racers, sweepers) = Race::open(alloc, layout, mutators, refiners)?;
-    let (line, senders, takers) = Line::new(alloc, options.config.limit(), mutators, refiners)?;
-    let members = members_of(alloc, &race, &line, (racers, senders), (sweepers, takers))?;
+    let OpenRace {
+        race,
+        line,
+        members,
+    } = opened;
     let jobs = jobs_of(rt, alloc, &race, &line, members, scripts, options)?;
     let done = run_crew(rt, alloc, jobs)?;
     let returned = returned_by(alloc, done)?;

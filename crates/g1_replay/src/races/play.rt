@@ -3,7 +3,7 @@
 ghost use Rattle.std.specs.Prelude.{◌≡◌, ◌<◌, ◌^◌};
 ghost use Rattle.g1_replay.specs.{List, true, All, vec_len, sum_by, slot_count, StepFits, Command};
 ghost use Rattle.g1_replay.specs.{AreScripts, RaceRan, IsScriptReplayed, PrintsSome, dialect_in};
-ghost use Rattle.g1_replay.specs.{stores_in};
+ghost use Rattle.g1_replay.specs.{IfOk, core_of, stores_in};
 ghost use Rattle.g1_replay.specs.Scripted.{Scripted};
 ghost use Rattle.g1_trace.specs.declared.mode.Mode.TheVariants.{Race};
 
@@ -11,16 +11,29 @@ use crate::end::{End, put_end};
 use crate::lines::source::Source;
 use crate::lines::whole::read_scripts;
 use crate::races::jobs::run_race;
+use crate::races::opening::open_race;
 use crate::races::output::put_race;
 use crate::scripts::{Scripts, count_stores};
 use crate::stop::Stop;
-use g1_layout::Layout;
+use g1_core::Core;
+use g1_layout::{Layout, NoMemory};
 use g1_options::Options;
+use g1_race::Closed;
 use g1_trace::Mode;
 use std::alloc::Global;
 use std::io::{BufRead, Write};
 use std::sync::Wait;
 use std::thread::Threads;
+
+// The core that the race has become, with the settings of the options.
+fn adopted(alloc: Global, closed: Closed, options: &Options) -> Result<Core, NoMemory>
+    ensures { IfOk result (λ core. core ≡ core_of closed options.now.config) }
+{
+    match closed.into_core(alloc, options.config) {
+        Ok(core) => Ok(core),
+        Err((_, refusal)) => Err(refusal),
+    }
+}
 
 // Races the scripts, and prints the result.
 fn race_scripts<T: Threads + Wait + Sync, W: Write>(
@@ -41,10 +54,9 @@ fn race_scripts<T: Threads + Wait + Sync, W: Write>(
         (W.contents output.old) (W.contents output.new) result }
 {
     let stores = count_stores(&scripts.steps);
-    let closed = run_race(rt, alloc, layout, scripts.steps, options)?;
-    let Ok(mut core) = closed.into_core(alloc, options.config) else {
-        return Err(Stop::NoMemory);
-    };
+    let opened = open_race(alloc, layout, options)?;
+    let closed = run_race(rt, alloc, opened, scripts.steps, options)?;
+    let mut core = adopted(alloc, closed, options)?;
     put_race(&mut core, stores, output)
 }
 

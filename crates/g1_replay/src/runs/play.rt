@@ -1,11 +1,13 @@
 //! The calls of a command, and its output line.
-ghost use Rattle.std.specs.Prelude.{◌≡◌, ◌<◌, ◌≤◌, ◌∷◌};
-ghost use Rattle.g1_replay.specs.{ℕ, [], true, IfOk, IfSome, IfErr, OnOk, vec_len, slot_count};
-ghost use Rattle.g1_replay.specs.{layout_in, round_size, capacity_of, IsCommandCall, IsCommandOf};
+ghost use Rattle.std.specs.Prelude.{◌≡◌, ◌<◌, ◌∷◌};
+ghost use Rattle.g1_replay.specs.{[], true, IfSome, IfErr, OnOk, vec_len, slot_count};
+ghost use Rattle.g1_replay.specs.{layout_in, capacity_of, IsCommandCall, IsCommandOf};
 ghost use Rattle.g1_replay.specs.{store_text, refine_text, work_text, flush_text, played_none};
 ghost use Rattle.g1_replay.specs.{played_then, Does, IsAnswered, IsDone, IsBookFull, IsReady};
-ghost use Rattle.g1_replay.specs.{HasPlayed, MayStop, more_may_come, is_pause, pauses, AreStill};
-ghost use Rattle.g1_replay.specs.{FirstEmpties};
+ghost use Rattle.g1_replay.specs.{HasPlayed, MayStop, more_may_come, is_pause, AreStill, IsPlayed};
+ghost use Rattle.g1_replay.specs.{StoresAt, FlushesAt, RefinesAt, WorksAt, IsSaid, said_of};
+ghost use Rattle.g1_replay.specs.{MakesAsked, StandIf, StandStill, call_line};
+ghost use Rattle.g1_replay.specs.Prelude.{Result, Reply, Refusal as R};
 
 use crate::calls::play_call;
 use crate::lines::player::Player;
@@ -47,9 +49,8 @@ impl Player for Machinery {
         ensures stops { IfErr result MayStop }
         ensures takes { OnOk result
             (IsReady self.new.book (vec_len self.new.mutators) self.new.line _layout _dialect) }
-        ensures still { pauses command ≡ true → AreStill self.new.mutators.items
-            × FirstEmpties self.old.takers.items (capacity_of self.old.line)
-            self.new.takers.items }
+        ensures made { IsPlayed command self.old self.new
+            (W.contents output.old) (W.contents output.new) result }
     {
         match command {
             Command::Store {
@@ -91,8 +92,30 @@ fn is_pause(call: &Call) -> bool
     matches!(call, Call::Drain(_) | Call::Redirect { .. })
 }
 
-// The mutators are stopped for a drain and a redirect: their logs are emptied first, and the queue
-// of completed buffers by the taker of the first caller.
+// The mutators are stopped for a drain and a redirect.
+#[inline(always)]
+#[tactic(auto, using(crate::proofs::PlayedLemmas::stand_paused))]
+fn stand_for<T: Wait>(rt: &T, machinery: &mut Machinery, call: &Call)
+    ensures stand { StandIf (is_pause call.now) machinery.old machinery.new }
+    ensures still { is_pause call.now ≡ true → AreStill machinery.new.mutators.items }
+    ensures book { machinery.new.book ≡ machinery.old.book }
+{
+    if is_pause(call) {
+        stop_all(rt, machinery);
+    }
+}
+
+// The log of each mutator is emptied, and the queue of completed buffers by the taker of the first
+// caller.
+fn stop_all<T: Wait>(rt: &T, machinery: &mut Machinery)
+    ensures stand { StandStill machinery.old machinery.new }
+    ensures still { AreStill machinery.new.mutators.items }
+    ensures book { machinery.new.book ≡ machinery.old.book }
+{
+    let mutators = machinery.mutators.as_mut_slice();
+    stand_still(rt, &machinery.line, &mut machinery.takers[0], mutators);
+}
+
 fn one_call<T: Wait, W: Write>(
     rt: &T,
     machinery: &mut Machinery,
@@ -102,17 +125,13 @@ fn one_call<T: Wait, W: Write>(
     requires { IsCommandCall (layout_in machinery.old.book) call }
     ensures played { Does HasPlayed IsBookFull (Command.Call call ∷ []) machinery.old.book
         machinery.new.book (W.contents output.old) (W.contents output.new) (more_may_come result) }
+    ensures made { IsPlayed (Command.Call call) machinery.old machinery.new
+        (W.contents output.old) (W.contents output.new) result }
     ensures stops { IfErr result MayStop }
     ensures mutators { vec_len machinery.new.mutators ≡ vec_len machinery.old.mutators }
     ensures line { machinery.new.line ≡ machinery.old.line }
-    ensures still { is_pause call ≡ true → AreStill machinery.new.mutators.items
-        × FirstEmpties machinery.old.takers.items (capacity_of machinery.old.line)
-        machinery.new.takers.items }
 {
-    if is_pause(&call) {
-        let mutators = machinery.mutators.as_mut_slice();
-        stand_still(rt, &machinery.line, &mut machinery.takers[0], mutators);
-    }
+    stand_for(rt, machinery, &call);
     answer_call(machinery, call, output)
 }
 
@@ -123,6 +142,10 @@ fn answer_call<W: Write>(machinery: &mut Machinery, call: Call, output: &mut W) 
     ensures played { Does HasPlayed IsBookFull (Command.Call call ∷ []) machinery.old.book
         machinery.new.book (W.contents output.old) (W.contents output.new) (more_may_come result) }
     ensures stops { IfErr result MayStop }
+    ensures asked { (reply : Result Reply R)
+        × MakesAsked true machinery.old.book 0 call reply machinery.new.book
+        × IsSaid (said_of (call_line call) reply) (W.contents output.old) (W.contents output.new)
+        result }
     ensures mutators { machinery.new.mutators ≡ machinery.old.mutators }
     ensures line { (machinery.new.line ≡ machinery.old.line)
         × (machinery.new.takers ≡ machinery.old.takers) }
@@ -145,6 +168,7 @@ fn store<T: Wait>(
     requires mutators { vec_len machinery.old.mutators ≡ machinery.old.book.mutators }
     ensures answered { IsAnswered store_text machinery.old.book machinery.new.book
         (Command.Store mutator slot target) result }
+    ensures made { StoresAt machinery.old mutator slot target result machinery.new }
     ensures mutators { vec_len machinery.new.mutators ≡ vec_len machinery.old.mutators }
     ensures line { machinery.new.line ≡ machinery.old.line }
 {
@@ -159,6 +183,7 @@ fn flush<T: Wait>(rt: &T, machinery: &mut Machinery, mutator: u32) -> FlushReply
     requires mutators { vec_len machinery.old.mutators ≡ machinery.old.book.mutators }
     ensures answered { IsDone flush_text machinery.old.book machinery.new.book
         (Command.Flush mutator) result }
+    ensures made { FlushesAt machinery.old mutator result machinery.new }
     ensures mutators { vec_len machinery.new.mutators ≡ vec_len machinery.old.mutators }
     ensures line { machinery.new.line ≡ machinery.old.line }
 {
@@ -171,6 +196,7 @@ fn flush<T: Wait>(rt: &T, machinery: &mut Machinery, mutator: u32) -> FlushReply
 fn refine<T: Wait>(rt: &T, machinery: &mut Machinery) -> Result<RefineReply, Refusal>
     ensures answered { IsAnswered refine_text machinery.old.book machinery.new.book Command.Refine
         result }
+    ensures made { RefinesAt machinery.old result machinery.new }
     ensures mutators { vec_len machinery.new.mutators ≡ vec_len machinery.old.mutators }
     ensures line { machinery.new.line ≡ machinery.old.line }
 {
@@ -184,8 +210,7 @@ fn work<T: Wait>(rt: &T, machinery: &mut Machinery) -> Result<RefineReply, Refus
     requires line { capacity_of machinery.old.line ≡ machinery.old.book.machine.settings.limit }
     ensures answered { IsAnswered work_text machinery.old.book machinery.new.book Command.Work
         result }
-    ensures within { IfOk result (λ reply. (seen : ℕ) × (seen ≤ capacity_of machinery.old.line)
-        × (reply.taken ≤ round_size machinery.old.book.machine.settings.start seen)) }
+    ensures made { WorksAt machinery.old result machinery.new }
     ensures mutators { vec_len machinery.new.mutators ≡ vec_len machinery.old.mutators }
     ensures line { machinery.new.line ≡ machinery.old.line }
 {

@@ -21,6 +21,7 @@ loop-caller-preserved g c =
       callers = started_more (λ job. job.desk.caller) _ _ _ _ _ _ _ was.callers steps.0 c.push_reserved.ensures.items c.new.ensures.caller;
       jobs = rw c.push_reserved.ensures.items (All-push (λ job. IsScriptAt (λ steps. steps.items) c.args.rounds scripts job.desk.caller.counts.number job.script) _ _ was.jobs
           (subst (λ (n : ℕ). IsScriptAt (λ steps. steps.items) c.args.rounds scripts n c.next_script-script.result) number next.0));
+      shared = rw c.push_reserved.ensures.items (All-push (λ job. job.desk.shared.now ≡ c.args.shared.now) _ _ was.shared c.new.ensures.shared);
       left = next.1 ∙ ap (λ n. drop n scripts) more;
     }
 
@@ -39,5 +40,6 @@ loop-caller-init g c =
       callers = ap (λ jobs. map (λ job. job.desk.caller) jobs ++ into_iter_items c.into_iter-caller-iterator.result) none ∙ given;
       jobs = subst (λ jobs. All (λ job. IsScriptAt (λ steps. steps.items) c.args.rounds c.args.scripts.items job.desk.caller.counts.number job.script) jobs) (sym none)
           (All-nil (λ job. IsScriptAt (λ steps. steps.items) c.args.rounds c.args.scripts.items job.desk.caller.counts.number job.script));
+      shared = subst (λ jobs. All (λ job. job.desk.shared.now ≡ c.args.shared.now) jobs) (sym none) (All-nil (λ job. job.desk.shared.now ≡ c.args.shared.now));
       left = ap (λ n. drop n c.args.scripts.items) empty;
     }

@@ -10,5 +10,6 @@ invariant-loop-caller g l = record {
   rest : AllFrom (λ k caller. IsCallerOf l.shared caller × (caller.counts.number ≡ k)) (vec_len l.jobs) (into_iter_items l.caller-iterator);
   callers : map (λ job. job.desk.caller) l.jobs.items ++ into_iter_items l.caller-iterator ≡ l.fn.callers.items;
   jobs : All (λ job. IsScriptAt (λ steps. steps.items) l.rounds l.fn.scripts.items job.desk.caller.counts.number job.script) l.jobs.items;
+  shared : All (λ job. job.desk.shared.now ≡ l.shared) l.jobs.items;
   left : l.left.items ≡ drop (vec_len l.jobs) l.fn.scripts.items;
 }

@@ -5,9 +5,9 @@ use Rattle.g1_replay.proofs.crews.play.play_crew.Goals as goal
 pub returns-in_err-layout : goal.returns-in_err-layout
 returns-in_err-layout g c =
     let p = err_from_is_err_and c.from_residual.result c.from_residual.ensures.1 in
-    rw (p.1, p.2) (scripts_unread (CrewRan c.args.options.now.history) _ _ _ _ _ _ _ _ c.in_err-layout.ensures.read c.in_err-layout.ensures.silent)
+    rw (p.1, p.2) (scripts_unread (CrewRan c.args.options.now) _ _ _ _ _ _ _ _ c.in_err-layout.ensures.read c.in_err-layout.ensures.silent)
 
 pub returns : goal.returns
 returns g c =
     let read = c.in_ok-layout.ensures.read in
-    scripts_run (CrewRan c.args.options.now.history) _ _ _ _ _ _ _ _ _ _ c.run_scripts.result read.1 c.in_ok-layout.ensures.silent (c.run_scripts.ensures read.0 read.2.stored)
+    scripts_run (CrewRan c.args.options.now) _ _ _ _ _ _ _ _ _ _ c.run_scripts.result read.1 c.in_ok-layout.ensures.silent (c.run_scripts.ensures read.0 read.2)

@@ -1,18 +1,24 @@
-use Rattle.std.specs.Prelude.{◌≡◌}
-use Rattle.g1_replay.specs.{All, true, ap, arith, subst, sym, ◌∙◌, err_from_is_err_and, Shape, slot_count, StepFits, History, BookTerms, layout_in, NoMemory, CrewRan, PrintsSome}
-use Rattle.g1_replay.proofs.{not_started}
-use Rattle.g1_replay.proofs.JobLemmas.{all_stored}
+use Rattle.std.specs.Prelude.{◌≡◌, ◌+◌}
+use Rattle.g1_replay.specs.{ℕ, All, true, length, ap, arith, subst, sym, ◌∙◌, count_by, is_store, err_from_is_err_and, Shape, slot_count, StepFits, History, BookTerms, layout_in, opened, NoMemory, CrewDrained, AreOfCallers, HasCome, IsScriptFor, PrintsSome}
+use Rattle.g1_replay.proofs.{not_started, crew_ran}
+use Rattle.g1_replay.proofs.JobLemmas.{all_stored, come_for}
 use Rattle.g1_replay.proofs.crews.play.run_scripts.Goals as goal
 
 pub returns-in_err-book : goal.returns-in_err-book
 returns-in_err-book g c commands many =
     let p = err_from_is_err_and c.from_residual.result c.from_residual.ensures.1 in
-    rw (p.1, p.2) (not_started commands c.args.layout c.args.options.now.history NoMemory (g.W.Write.contents c.args.output.now) tt)
+    rw (p.1, p.2) (not_started commands c.args.options.now c.args.layout NoMemory (g.W.Write.contents c.args.output.now) tt)
 
 pub returns-in_err-book-2 : goal.returns-in_err-book-2
 returns-in_err-book-2 g c commands many =
     let p = err_from_is_err_and c.from_residual-in_err-book-2.result c.from_residual-in_err-book-2.ensures.1 in
-    rw (p.1, p.2) (not_started commands c.args.layout c.args.options.now.history _ (g.W.Write.contents c.args.output.now) c.in_err-book-2.ensures.stops)
+    rw (p.1, p.2) (not_started commands c.args.options.now c.args.layout _ (g.W.Write.contents c.args.output.now) c.in_err-book-2.ensures.stops)
+
+pub run_jobs-requires-clause-opened : goal.run_jobs-requires-clause-opened
+run_jobs-requires-clause-opened g c lts lives =
+    let o = c.args.options.now in
+    let same : layout_in c.in_ok-book.book ≡ c.args.layout = ap (λ (h : History). layout_in h) c.in_ok-book.ensures in
+    c.in_ok-book.ensures ∙ ap (λ (l : Shape). opened l o.config o.mutators o.history) (sym same)
 
 pub run_jobs-requires-clause-fits : goal.run_jobs-requires-clause-fits
 run_jobs-requires-clause-fits g c lts lives =
@@ -20,7 +26,15 @@ run_jobs-requires-clause-fits g c lts lives =
     subst (λ (l : Shape). All (λ steps. All (StepFits (slot_count l) true) steps.items) c.args.scripts.items) (sym same) c.requires.fits
 
 pub returns : goal.returns
-returns g c commands many =
+returns g c commands are =
+    let o = c.args.options.now in
     let same : layout_in c.in_ok-book-2.book ≡ c.args.layout = ap (λ (t : BookTerms). t.layout) c.in_ok-book-2.ensures.terms ∙ ap (λ (h : History). layout_in h) c.in_ok-book.ensures in
-    subst (λ (l : Shape). PrintsSome (CrewRan c.args.options.now.history l commands) (g.W.Write.contents c.args.output.now) (g.W.Write.contents c.put_crew.new.output) c.put_crew.result) same
-    (c.put_crew.ensures.ran commands (λ none. all_stored (λ steps. steps.items) c.args.options.now.rounds c.args.scripts.items _ _ _ c.in_ok-book-2.ensures.came none (omega (arith, c.requires.count, c.args.scripts.ok.0)) ∙ many))
+    let limit : c.in_ok-book.book.machine.settings.limit ≡ o.config.limit = ap (λ (h : History). h.machine.settings.limit) c.in_ok-book.ensures in
+    let all : length c.args.scripts.items ≡ o.mutators = omega (arith, c.requires.count, c.args.scripts.ok.0) in
+    let came = come_for (λ steps. steps.items) o c.args.scripts.items commands _ _ _ _ _ are all c.in_ok-book-2.ensures.came in
+    let made : AreOfCallers o commands c.in_ok-book-2.refused c.in_ok-book-2.book.entries =
+    subst (λ (n : ℕ). HasCome (IsScriptFor o commands) (o.mutators + o.refiners) n c.in_ok-book-2.refused (count_by is_store c.in_ok-book-2.book.entries) (length c.in_ok-book-2.book.entries)) limit
+    (subst (λ (n : ℕ). HasCome (IsScriptFor o commands) (o.mutators + o.refiners) c.in_ok-book.book.machine.settings.limit c.in_ok-book-2.refused n (length c.in_ok-book-2.book.entries)) c.in_ok-book-2.ensures.stores came) in
+    crew_ran commands o c.args.layout c.in_ok-book-2.refused c.in_ok-book-2.book.entries _ _ _ made
+    (subst (λ (l : Shape). PrintsSome (CrewDrained o.history l c.in_ok-book-2.refused c.in_ok-book-2.book.entries commands) (g.W.Write.contents c.args.output.now) (g.W.Write.contents c.put_crew.new.output) c.put_crew.result) same
+    (c.put_crew.ensures.ran commands (λ none. all_stored (λ steps. steps.items) o.rounds c.args.scripts.items _ _ _ _ _ c.in_ok-book-2.ensures.came none (omega (arith, all)) ∙ are.stored)))

@@ -34,6 +34,8 @@ loop-member-preserved g c =
           (All-push (λ job. ScriptFits (slot_count (race_layout job.desk.race.now)) (is_racer job.desk.member) job.script) _ _ was.fits
           (subst (λ (m : Member). ScriptFits (slot_count (race_layout c.new.result.race.now)) (is_racer m) script) (sym c.new.ensures.member)
           (subst (λ (r : Race). ScriptFits (slot_count (race_layout r)) (is_racer c.in-Some.member) script) (sym c.new.ensures.race) fits)));
+      logs = All-same (λ job. job.desk.fill ≡ c.args.options.now.config.log) _ _ c.push_reserved.ensures.items
+          (All-push (λ job. job.desk.fill ≡ c.args.options.now.config.log) _ _ was.logs (c.new.ensures.fill ∙ c.log.ensures.cards));
       left = next.1 ∙ ap (λ n. drop n scripts) past;
     }
 
@@ -52,6 +54,7 @@ loop-member-init g c =
           (subst (AllFrom (IsNewMember c.args.race.now c.args.line.now c.args.options.now.mutators) 0) (sym given) c.requires.members);
       jobs = subst (λ jobs. AllFrom (λ i job. IsRaceJob (λ steps. steps.items) c.args.race.now c.args.line.now c.args.options.now.mutators c.args.options.now.rounds c.args.scripts.items i job.desk.member job.script) 0 jobs) (sym none) tt;
       fits = subst (λ jobs. All (λ job. ScriptFits (slot_count (race_layout job.desk.race.now)) (is_racer job.desk.member) job.script) jobs) (sym none) (All-nil (λ job. ScriptFits (slot_count (race_layout job.desk.race.now)) (is_racer job.desk.member) job.script));
+      logs = subst (λ jobs. All (λ job. job.desk.fill ≡ c.args.options.now.config.log) jobs) (sym none) (All-nil (λ job. job.desk.fill ≡ c.args.options.now.config.log));
       left = ap (λ n. drop n c.args.scripts.items) empty;
     }
 

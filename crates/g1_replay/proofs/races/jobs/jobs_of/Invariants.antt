@@ -11,5 +11,6 @@ invariant-loop-member g l = record {
   rest : AllFrom (IsNewMember l.race l.line l.options.mutators) (vec_len l.jobs) (into_iter_items l.member-iterator);
   jobs : AllFrom (λ k job. IsRaceJob (λ steps. steps.items) l.race l.line l.options.mutators l.options.rounds l.fn.scripts.items k job.desk.member job.script) 0 l.jobs.items;
   fits : All (λ job. ScriptFits (slot_count (race_layout job.desk.race.now)) (is_racer job.desk.member) job.script) l.jobs.items;
+  logs : All (λ job. job.desk.fill ≡ l.options.config.log) l.jobs.items;
   left : l.left.items ≡ drop (vec_len l.jobs) l.fn.scripts.items;
 }

@@ -12,34 +12,30 @@ use Rattle.g1_replay.proofs.races.jobs.run_race.Goals as goal
 use Rattle.g1_replay.proofs.races.jobs.run_race.Goals.{In_ok-returned}
 
 -- the jobs were run
-run : (g : _) (c : In_ok-returned g) → AreRun (λ d. d.member) c.in_ok-race.race c.in_ok-line.line c.args.options.now.mutators (stored_at (λ steps. steps.items) c.args.scripts.items) 0 c.in_ok-jobs.jobs.items c.in_ok-done.done.items
-run g c = are_run (λ d. d.member) (λ steps. steps.items) c.in_ok-race.race c.in_ok-line.line c.args.options.now.mutators c.args.options.now.rounds c.args.scripts.items (omega (arith, c.requires.count, c.args.scripts.ok.0)) 0 c.in_ok-jobs.jobs.items c.in_ok-done.done.items c.in_ok-jobs.ensures.jobs c.in_ok-done.ensures c.in_ok-returned.ensures.whole
-
-pub members_of-requires-clause-begun : goal.members_of-requires-clause-begun
-members_of-requires-clause-begun g c =
-    subst (λ (k : RaceShape). HaveBegun (null_of k) c.in_ok-race.racers c.in_ok-race.sweepers) (sym c.in_ok-race.ensures.shape) c.in_ok-race.ensures.begun
+run : (g : _) (c : In_ok-returned g) → AreRun (λ d. d.member) c.args.opened.race c.args.opened.line c.args.options.now.mutators (stored_at (λ steps. steps.items) c.args.scripts.items) 0 c.in_ok-jobs.jobs.items c.in_ok-done.done.items
+run g c = are_run (λ d. d.member) (λ steps. steps.items) c.args.opened.race c.args.opened.line c.args.options.now.mutators c.args.options.now.rounds c.args.scripts.items (omega (arith, c.requires.count, c.args.scripts.ok.0)) 0 c.in_ok-jobs.jobs.items c.in_ok-done.done.items c.in_ok-jobs.ensures.jobs c.in_ok-done.ensures.ran c.in_ok-returned.ensures.whole
 
 pub settle-requires-clause-senders : goal.settle-requires-clause-senders
 settle-requires-clause-senders g c =
-    subst (λ (xs : List Sender). All (IsSenderOf c.in_ok-line.line) xs) (sym c.in_ok-returned.ensures.back.senders) (all_chosen (IsMemberOf c.in_ok-race.race c.in_ok-line.line) (IsSenderOf c.in_ok-line.line) sender_in (sender_of c.in_ok-race.race c.in_ok-line.line) _ (run g c).of)
+    subst (λ (xs : List Sender). All (IsSenderOf c.args.opened.line) xs) (sym c.in_ok-returned.ensures.back.senders) (all_chosen (IsMemberOf c.args.opened.race c.args.opened.line) (IsSenderOf c.args.opened.line) sender_in (sender_of c.args.opened.race c.args.opened.line) _ (run g c).of)
 
 pub settle-requires-clause-takers : goal.settle-requires-clause-takers
 settle-requires-clause-takers g c =
-    subst (λ (xs : List Taker). All (IsTakerOf c.in_ok-line.line) xs) (sym c.in_ok-returned.ensures.back.takers) (all_chosen (IsMemberOf c.in_ok-race.race c.in_ok-line.line) (IsTakerOf c.in_ok-line.line) taker_in (taker_of c.in_ok-race.race c.in_ok-line.line) _ (run g c).of)
+    subst (λ (xs : List Taker). All (IsTakerOf c.args.opened.line) xs) (sym c.in_ok-returned.ensures.back.takers) (all_chosen (IsMemberOf c.args.opened.race c.args.opened.line) (IsTakerOf c.args.opened.line) taker_in (taker_of c.args.opened.race c.args.opened.line) _ (run g c).of)
 
 pub settle-requires-clause-all : goal.settle-requires-clause-all
 settle-requires-clause-all g c =
     let senders = ap (λ (xs : List Sender). sum_by sender_rights xs) c.in_ok-returned.ensures.back.senders in
     let takers = ap (λ (xs : List Taker). sum_by taker_rights xs) c.in_ok-returned.ensures.back.takers in
     let members = ap (λ (ms : List Member). sum_by member_rights ms) c.in_ok-jobs.ensures.members in
-    omega (arith, senders, takers, sorted_rights (map (λ job. job.desk.member) c.in_ok-done.done.items), (run g c).rights, members, c.in_ok-members.ensures.rights, c.in_ok-line.ensures.all)
+    omega (arith, senders, takers, sorted_rights (map (λ job. job.desk.member) c.in_ok-done.done.items), (run g c).rights, members, c.requires.opened.ends)
 
 pub close-requires-clause-racers : goal.close-requires-clause-racers
 close-requires-clause-racers g c =
     let racers = ap (λ (xs : List Racer). length xs) c.in_ok-returned.ensures.back.racers in
     let sweepers = ap (λ (xs : List Sweeper). length xs) c.in_ok-returned.ensures.back.sweepers in
     let members = ap (λ (ms : List Member). length ms) c.in_ok-jobs.ensures.members in
-    let shape = ap (λ k. k.members) c.in_ok-race.ensures.shape in (
+    let shape = ap (λ k. k.members) c.requires.opened.shape in (
       omega (
         arith,
         racers,
@@ -47,25 +43,23 @@ close-requires-clause-racers g c =
         sorted_length (map (λ job. job.desk.member) c.in_ok-done.done.items),
         (run g (goal.at.close-requires-clause-racers g c).In_ok-returned).len,
         members,
-        c.in_ok-members.ensures.len,
-        c.in_ok-race.ensures.racers.0,
-        c.in_ok-race.ensures.sweepers.0,
+        c.requires.opened.many,
         shape,
         c.in_ok-returned.returned.racers.ok.0,
         c.in_ok-returned.returned.sweepers.ok.0,
-        c.in_ok-members.members.ok.0,
+        c.args.opened.members.ok.0,
       ),
-      subst (λ (xs : List Racer). All (λ r. racer_race r ≡ race_id c.in_ok-race.race) xs) (sym c.in_ok-returned.ensures.back.racers) (λ k d lt. (all_chosen (IsMemberOf c.in_ok-race.race c.in_ok-line.line) (λ r. (racer_race r ≡ race_id c.in_ok-race.race) × (racer_start r ≡ null_of c.in_ok-race.race.shape)) racer_in (racer_of c.in_ok-race.race c.in_ok-line.line) _ (run g (goal.at.close-requires-clause-racers g c).In_ok-returned).of k d lt).0),
+      subst (λ (xs : List Racer). All (λ r. racer_race r ≡ race_id c.args.opened.race) xs) (sym c.in_ok-returned.ensures.back.racers) (λ k d lt. (all_chosen (IsMemberOf c.args.opened.race c.args.opened.line) (λ r. (racer_race r ≡ race_id c.args.opened.race) × (racer_start r ≡ null_of c.args.opened.race.shape)) racer_in (racer_of c.args.opened.race c.args.opened.line) _ (run g (goal.at.close-requires-clause-racers g c).In_ok-returned).of k d lt).0),
     )
 
 pub close-requires-clause-sweepers : goal.close-requires-clause-sweepers
 close-requires-clause-sweepers g c =
-    subst (λ (xs : List Sweeper). All (λ w. sweeper_race w ≡ race_id c.in_ok-race.race) xs) (sym c.in_ok-returned.ensures.back.sweepers) (λ k d lt. (all_chosen (IsMemberOf c.in_ok-race.race c.in_ok-line.line) (λ w. (sweeper_race w ≡ race_id c.in_ok-race.race) × (sweeper_start w ≡ null_of c.in_ok-race.race.shape)) sweeper_in (sweeper_of c.in_ok-race.race c.in_ok-line.line) _ (run g (goal.at.close-requires-clause-sweepers g c).In_ok-returned).of k d lt).0)
+    subst (λ (xs : List Sweeper). All (λ w. sweeper_race w ≡ race_id c.args.opened.race) xs) (sym c.in_ok-returned.ensures.back.sweepers) (λ k d lt. (all_chosen (IsMemberOf c.args.opened.race c.args.opened.line) (λ w. (sweeper_race w ≡ race_id c.args.opened.race) × (sweeper_start w ≡ null_of c.args.opened.race.shape)) sweeper_in (sweeper_of c.args.opened.race c.args.opened.line) _ (run g (goal.at.close-requires-clause-sweepers g c).In_ok-returned).of k d lt).0)
 
 pub returns-clause-left : goal.returns-clause-left
 returns-clause-left g c = λ commands of.
-    let race = c.in_ok-race.race in
-    let line = c.in_ok-line.line in
+    let race = c.args.opened.race in
+    let line = c.args.opened.line in
     let mutators = c.args.options.now.mutators in
     let scripts = c.args.scripts.items in
     let fits = c.requires.fits in
@@ -80,22 +74,22 @@ returns-clause-left g c = λ commands of.
     let sweepers = map sweeper_view ws in
     let run = run g (goal.at.returns-clause-left g c).In_ok-returned in
     let members = ap (λ (xs : List Member). length xs) c.in_ok-jobs.ensures.members in
-    let laid = c.close.ensures.layout ∙ c.in_ok-race.ensures.layout in
-    let racing = subst (λ (xs : List Racer). All (λ r. racer_start r ≡ null_of race.shape) xs) (sym c.in_ok-returned.ensures.back.racers) (λ k d lt. (all_chosen (IsMemberOf race line) (λ r. (racer_race r ≡ race_id c.in_ok-race.race) × (racer_start r ≡ null_of c.in_ok-race.race.shape)) racer_in (racer_of race line) ms run.of k d lt).1) in
-    let sweeping = subst (λ (xs : List Sweeper). All (λ w. sweeper_start w ≡ null_of race.shape) xs) (sym c.in_ok-returned.ensures.back.sweepers) (λ k d lt. (all_chosen (IsMemberOf race line) (λ w. (sweeper_race w ≡ race_id c.in_ok-race.race) × (sweeper_start w ≡ null_of c.in_ok-race.race.shape)) sweeper_in (sweeper_of race line) ms run.of k d lt).1) in
-    let some : 0 < length rs + length ws = omega (arith, ap (λ (xs : List Racer). length xs) c.in_ok-returned.ensures.back.racers, ap (λ (xs : List Sweeper). length xs) c.in_ok-returned.ensures.back.sweepers, sorted_length ms, run.len, members, c.in_ok-members.ensures.len, c.in_ok-race.ensures.racers.0, c.in_ok-members.members.ok.0, c.args.options.now.mutators_in) in
+    let laid = c.close.ensures.layout in
+    let racing = subst (λ (xs : List Racer). All (λ r. racer_start r ≡ null_of race.shape) xs) (sym c.in_ok-returned.ensures.back.racers) (λ k d lt. (all_chosen (IsMemberOf race line) (λ r. (racer_race r ≡ race_id c.args.opened.race) × (racer_start r ≡ null_of c.args.opened.race.shape)) racer_in (racer_of race line) ms run.of k d lt).1) in
+    let sweeping = subst (λ (xs : List Sweeper). All (λ w. sweeper_start w ≡ null_of race.shape) xs) (sym c.in_ok-returned.ensures.back.sweepers) (λ k d lt. (all_chosen (IsMemberOf race line) (λ w. (sweeper_race w ≡ race_id c.args.opened.race) × (sweeper_start w ≡ null_of c.args.opened.race.shape)) sweeper_in (sweeper_of race line) ms run.of k d lt).1) in
+    let some : 0 < length rs + length ws = omega (arith, ap (λ (xs : List Racer). length xs) c.in_ok-returned.ensures.back.racers, ap (λ (xs : List Sweeper). length xs) c.in_ok-returned.ensures.back.sweepers, sorted_length ms, run.len, members, c.requires.opened.many, c.args.opened.members.ok.0, c.args.options.now.mutators_in) in
     let begun : race_begun race (map racer_view rs) sweepers ≡ null_begun closed.layout count =
-    begun_as race (null_of race.shape) rs ws racing sweeping refl some ∙ (ap (λ (k : RaceShape). beginning (null_of k)) (c.in_ok-race.ensures.shape ∙ ap (λ (l : layout.Shape). shape_of l count) (sym laid)) ∙ begins_null closed.layout count) in
+    begun_as race (null_of race.shape) rs ws racing sweeping refl some ∙ (ap (λ (k : RaceShape). beginning (null_of k)) (c.requires.opened.shape ∙ ap (λ (l : layout.Shape). shape_of l count) (sym laid)) ∙ begins_null closed.layout count) in
     let over = subst (λ (xs : List Racer). IsOver (null_begun closed.layout count) closed.words (map racer_view xs) sweepers) c.in_ok-returned.ensures.back.racers (subst (λ (b : Begun). IsOver b closed.words (map racer_view rs) sweepers) begun c.close.ensures.over) in
-    let low : slot_count c.args.layout < 2 ^ 32 = subst (λ (l : layout.Shape). slot_count l < 2 ^ 32) c.in_ok-race.ensures.layout (subst (λ (k : RaceShape). k.slots < 2 ^ 32) race.laid race.shaped.3) in
+    let low : slot_count race.layout < 2 ^ 32 = subst (λ (k : RaceShape). k.slots < 2 ^ 32) race.laid race.shaped.3 in
     table_left closed count mutators commands (views_of ms) sweepers over
     (λ h a. let by = each_own mutators kept 0 ms run.run h a in (by.0, by.1, by.2 ∙ same by.0 by.1))
     (λ m lt.
     let by = every_own mutators kept 0 ms run.run m (omega arith) lt
-    (omega (arith, run.len, members, c.in_ok-members.ensures.len, c.in_ok-race.ensures.racers.0, c.in_ok-race.ensures.sweepers.0, c.in_ok-members.members.ok.0)) in
+    (omega (arith, run.len, members, c.requires.opened.many, c.args.opened.members.ok.0)) in
     (by.0, by.1, by.2 ∙ same m lt))
-    (λ m slot word lt i. stores_low (slot_count c.args.layout) (steps_at (λ steps. steps.items) scripts m) low
-    (each_script (λ steps. steps.items) (All (StepFits (slot_count c.args.layout) true)) scripts fits m [] (omega (arith, length-map scripts (λ steps. steps.items), many, lt)))
+    (λ m slot word lt i. stores_low (slot_count race.layout) (steps_at (λ steps. steps.items) scripts m) low
+    (each_script (λ steps. steps.items) (All (StepFits (slot_count race.layout) true)) scripts fits m [] (omega (arith, length-map scripts (λ steps. steps.items), many, lt)))
     slot word (subst (λ (l : List (ℕ × ℕ)). In l (slot, word)) (sym (same m lt)) i))
     c.close.ensures.cover
     (λ x i. subst (λ (l : layout.Shape). IsPairOf l x) (sym c.close.ensures.layout) (c.close.ensures.within x i))

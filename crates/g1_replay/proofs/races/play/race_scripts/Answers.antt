@@ -1,16 +1,34 @@
 use Rattle.std.proofs.Common.{Vec}
 use Rattle.std.specs.Global.{Global}
-use Rattle.g1_replay.specs.{List, ap, subst, ◌∙◌, err_from_is_err_and, sum_by, Shape, Machine, Step, stores_in, PrintsSome, RaceRan}
+use Rattle.g1_replay.specs.{List, All, true, ap, sym, subst, ◌∙◌, slot_count, StepFits, NoMemory, IsOpenedBy, err_from_is_err_and, sum_by, Shape, Machine, Step, stores_in, PrintsSome, RaceRan}
 use Rattle.g1_replay.proofs.{race_stopped}
 use Rattle.g1_replay.proofs.races.play.race_scripts.Goals as goal
 
+pub returns-in_err-opened : goal.returns-in_err-opened
+returns-in_err-opened g c = λ commands of.
+    let p = err_from_is_err_and c.from_residual.result c.from_residual.ensures.1 in
+    rw (p.1, p.2) (race_stopped c.args.options.now.mutators c.args.layout commands NoMemory (g.W.Write.contents c.args.output.now) tt)
+
+pub run_race-requires-clause-opened : goal.run_race-requires-clause-opened
+run_race-requires-clause-opened g c lts lives =
+    subst (λ (l : Shape). IsOpenedBy l c.args.options.now c.in_ok-opened.opened) (sym c.in_ok-opened.ensures.layout) c.in_ok-opened.ensures
+
+pub run_race-requires-clause-fits : goal.run_race-requires-clause-fits
+run_race-requires-clause-fits g c lts lives =
+    subst (λ (l : Shape). All (λ steps. All (StepFits (slot_count l) true) steps.items) c.args.scripts.steps.items) (sym c.in_ok-opened.ensures.layout) c.requires.fits
+
 pub returns-in_err-closed : goal.returns-in_err-closed
 returns-in_err-closed g c = λ commands of.
-    let p = err_from_is_err_and c.from_residual.result c.from_residual.ensures.1 in
+    let p = err_from_is_err_and c.from_residual-in_err-closed.result c.from_residual-in_err-closed.ensures.1 in
     rw (p.1, p.2) (race_stopped c.args.options.now.mutators c.args.layout commands _ (g.W.Write.contents c.args.output.now) c.in_err-closed.ensures.stops)
+
+pub returns-in_err-core : goal.returns-in_err-core
+returns-in_err-core g c = λ commands of.
+    let p = err_from_is_err_and c.from_residual-in_err-core.result c.from_residual-in_err-core.ensures.1 in
+    rw (p.1, p.2) (race_stopped c.args.options.now.mutators c.args.layout commands NoMemory (g.W.Write.contents c.args.output.now) tt)
 
 pub returns : goal.returns
 returns g c = λ commands of.
-    let table = ap (λ (m : Machine). m.state.table) c.in-Ok.ensures.core in
+    let table = ap (λ (m : Machine). m.state.table) c.in_ok-core.ensures in
     let done = c.put_race.ensures c.args.options.now.mutators c.in_ok-closed.closed commands (c.count_stores-stores.ensures ∙ (ap (λ (steps : List (Vec Step Global)). sum_by (λ script. stores_in script.items) steps) c.deref.ensures.value ∙ of.stored)) table (c.in_ok-closed.ensures.left commands of) in
-    subst (λ (l : Shape). PrintsSome (RaceRan c.args.options.now.mutators l commands) (g.W.Write.contents c.args.output.now) (g.W.Write.contents c.put_race.new.output) c.put_race.result) c.in_ok-closed.ensures.layout done
+    subst (λ (l : Shape). PrintsSome (RaceRan c.args.options.now.mutators l commands) (g.W.Write.contents c.args.output.now) (g.W.Write.contents c.put_race.new.output) c.put_race.result) (c.in_ok-closed.ensures.layout ∙ c.in_ok-opened.ensures.layout) done

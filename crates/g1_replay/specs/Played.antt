@@ -1,0 +1,124 @@
+-- What each command of a trace does to the machinery that it is played on, and what it answers.
+use Rattle.std.specs.Prelude.{◌≡◌, ◌<◌, ◌⊎◌}
+use Rattle.g1_replay.specs.Prelude.{ℕ, Bool, true, false, List, [], length, set, slice_index_or}
+use Rattle.g1_replay.specs.Prelude.{Option, Result, Ok, Err, Appends, Puts, Reply, History}
+use Rattle.g1_replay.specs.Prelude.{layout_in, card_of, StoreReply, RefineReply, FlushReply}
+use Rattle.g1_replay.specs.Prelude.{Refusal, Mutator, Taker, CallMade, AreCalls, IsBookCall}
+use Rattle.g1_replay.specs.Prelude.{IsStoreStep, IsFlushStep, IsRefineStep, IsWorkStep, IsStopped}
+use Rattle.g1_replay.specs.Prelude.{Empties, IsSameTaker, taken_of, capacity_of, MakesAsked}
+use Rattle.g1_replay.specs.Prelude.{Command, store_text, refine_text, work_text, call_line}
+use Rattle.g1_core.specs.declared.entry.Call.{Call}
+use Rattle.g1_trace.specs.declared.command.Command.TheVariants as command
+use Rattle.g1_replay.specs.declared.runs.machinery.Machinery.{Machinery}
+use Rattle.g1_replay.specs.declared.stop.Stop.{Stop}
+use Rattle.g1_replay.specs.declared.stop.Stop.TheVariants.{WriteFailed}
+use Rattle.g1_replay.specs.Pieces.{flush_text}
+use Rattle.g1_replay.specs.Playing.{stop_of, written_by}
+use Rattle.g1_replay.specs.Still.{is_pause}
+
+-- This caller makes these calls at a book, and nobody else makes one.
+abbrev pub CallsBy : ℕ → History → List CallMade → History → Type 0
+CallsBy caller = AreCalls (IsBookCall caller)
+
+-- A mutator makes a step. No other mutator and no taker does.
+pub record MutatorSteps (by : ℕ) (Step : Mutator → Mutator → Type 0)
+    (old new : Machinery) : Type 0 where
+  pub before : Mutator
+  pub after : Mutator
+  pub there : by < length old.mutators.items
+  pub own : before ≡ slice_index_or old.mutators.items by before
+  pub step : Step before after
+  pub mutators : new.mutators.items ≡ set old.mutators.items by after
+  pub takers : new.takers ≡ old.takers
+  pub line : new.line ≡ old.line
+
+-- The first taker makes a step. No other taker does.
+pub record FirstSteps (Step : Taker → Taker → Type 0) (old new : Machinery) : Type 0 where
+  pub before : Taker
+  pub after : Taker
+  pub there : 0 < length old.takers.items
+  pub own : before ≡ slice_index_or old.takers.items 0 before
+  pub step : Step before after
+  pub takers : new.takers.items ≡ set old.takers.items 0 after
+  pub line : new.line ≡ old.line
+
+-- a store and a flush are steps of their mutator, at its own log and sender
+abbrev pub StoresAt : Machinery → ℕ → ℕ → Option ℕ → Result StoreReply Refusal → Machinery → Type 0
+StoresAt old by slot target result new =
+    MutatorSteps by (λ before after. IsStoreStep (CallsBy by) old.line old.book before slot target
+    (card_of (layout_in old.book) slot) result after new.book) old new
+
+abbrev pub FlushesAt : Machinery → ℕ → FlushReply → Machinery → Type 0
+FlushesAt old by reply new =
+    MutatorSteps by (λ before after.
+    IsFlushStep (CallsBy by) old.line old.book before reply after new.book) old new
+
+-- a refinement and a round are steps of the first taker
+abbrev pub RefinesAt : Machinery → Result RefineReply Refusal → Machinery → Type 0
+RefinesAt old result new =
+    FirstSteps (λ before after.
+    IsRefineStep (CallsBy 0) old.line old.book before result after new.book) old new
+    × (new.mutators ≡ old.mutators)
+
+abbrev pub WorksAt : Machinery → Result RefineReply Refusal → Machinery → Type 0
+WorksAt old result new =
+    FirstSteps (λ before after. IsWorkStep (CallsBy 0) old.line old.book.machine.settings.start
+    old.book before result after new.book) old new
+    × (new.mutators ≡ old.mutators)
+
+-- The mutators stand still: the log of each was emptied, and the queue by the first taker.
+pub record StandStill (old new : Machinery) : Type 0 where
+  pub many : length new.mutators.items ≡ length old.mutators.items
+  pub stopped : (k : ℕ) (d : Mutator) → k < length old.mutators.items
+      → IsStopped (slice_index_or old.mutators.items k d) (slice_index_or new.mutators.items k d)
+  pub emptied : FirstSteps (λ before after. IsSameTaker after before
+      × Empties (taken_of before) (capacity_of old.line) (taken_of after)) old new
+
+-- so it is before a pause, and before another call nothing changes
+abbrev pub StandIf : Bool → Machinery → Machinery → Type 0
+StandIf true old new = StandStill old new
+StandIf false old new =
+    (new.mutators ≡ old.mutators) × (new.takers ≡ old.takers) × (new.line ≡ old.line)
+
+-- A call of the first caller was asked of the book, for which the mutators stand still if it is a
+-- pause.
+pub record AnswersAt (call : Call) (old : Machinery) (result : Result Reply Refusal)
+    (new : Machinery) : Type 0 where
+  pub stand : StandIf (is_pause call) old new
+  pub asked : MakesAsked true old.book 0 call result new.book
+
+-- the text of an answer, if it is one
+abbrev pub said_of : {V : Type 0} → (V → List ℕ) → Result V Refusal → Result (List ℕ) Refusal
+said_of text (Ok answer) = Ok (text answer)
+said_of text (Err refusal) = Err refusal
+
+-- A command is done, and this is the text of its answer, or why it was refused.
+abbrev pub Makes : Command → Machinery → Result (List ℕ) Refusal → Machinery → Type 0
+Makes (command.Store by slot target) old said new =
+    (result : Result StoreReply Refusal) × StoresAt old by slot target result new
+    × (said ≡ said_of store_text result)
+Makes (command.Flush by) old said new =
+    (reply : FlushReply) × FlushesAt old by reply new × (said ≡ Ok (flush_text reply))
+Makes command.Refine old said new =
+    (result : Result RefineReply Refusal) × RefinesAt old result new
+    × (said ≡ said_of refine_text result)
+Makes command.Work old said new =
+    (result : Result RefineReply Refusal) × WorksAt old result new
+    × (said ≡ said_of work_text result)
+Makes (command.Call call) old said new =
+    (result : Result Reply Refusal) × AnswersAt call old result new
+    × (said ≡ said_of (call_line call) result)
+
+-- Of an answer its text is written, or a beginning of it where a write failed. A refusal writes
+-- nothing, and is what stops the replay.
+abbrev pub IsSaid : Result (List ℕ) Refusal → (out out' : Option (List ℕ))
+    → Result (Unit {0}) Stop → Type 0
+IsSaid (Ok text) out out' r =
+    ((r ≡ Ok tt) ⊎ (r ≡ Err WriteFailed)) × Puts out out' (written_by r) text
+IsSaid (Err refusal) out out' r = (r ≡ Err (stop_of refusal)) × Appends out out' []
+
+-- A command was played: it was done, and its answer was written.
+abbrev pub IsPlayed : Command → (old new : Machinery) → (out out' : Option (List ℕ))
+    → Result (Unit {0}) Stop → Type 0
+IsPlayed c old new out out' r =
+    (said : Result (List ℕ) Refusal) × Makes c old said new × IsSaid said out out' r
