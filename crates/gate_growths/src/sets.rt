@@ -17,6 +17,7 @@ static LISTS: [(&str, u32, u32, u32); 3] = [
 pub(crate) fn play<R: Print + Eprint + AllocGlobal>(rt: &R) -> Result<(), Failure> {
     told(rt, "cards recorded one by one", recorded(rt))?;
     told(rt, "cards recorded together", recorded_together(rt))?;
+    told(rt, "cards recorded again", recorded_again(rt))?;
     for (name, regions, cards, members) in LISTS {
         told(rt, name, listed(rt, regions, cards, members))?;
     }
@@ -78,6 +79,12 @@ impl Numbered {
         Ok(self.sets.record_many(&[first, second, first], region)?)
     }
 
+    fn clear(&mut self, region: u32) -> Result<(), Failure> {
+        let region = numbers::region(&self.layout, region)?;
+        self.sets.clear(region);
+        Ok(())
+    }
+
     fn cards(&self, region: u32) -> Result<Vec<Card>, Failure> {
         let region = numbers::region(&self.layout, region)?;
         Ok(self.sets.cards(region)?)
@@ -126,6 +133,24 @@ fn recorded_together<R: Eprint + AllocGlobal>(rt: &R) -> Result<(), Failure> {
     }
     check(rt, sets.has_just(1, &[], 40)?, "the set")?;
     check(rt, sets.sets.total() == 40, "another set has a card")
+}
+
+// Cards 0 to 39 go into one set, and once it is cleared again, without a growth: it kept its room.
+fn recorded_again<R: Eprint + AllocGlobal>(rt: &R) -> Result<(), Failure> {
+    let mut sets = Numbered::new(rt, 3, 64)?;
+    for card in 0..40 {
+        if let Err(Failure::NoMemory) = sets.record(card, 1, 1) {
+            refused(rt, "Sets::record");
+            sets.record(card, 1, 1)?;
+        }
+    }
+    sets.clear(1)?;
+    check(rt, sets.has_just(1, &[], 0)?, "a cleared set has a card")?;
+    for card in 0..40 {
+        let recorded = sets.record(card, 1, 1).is_ok();
+        check(rt, recorded, "a cleared set has given its room back")?;
+    }
+    check(rt, sets.has_just(1, &[], 40)?, "the set")
 }
 
 // The first region's set has `members` cards, from its neighbour's first card on; they were

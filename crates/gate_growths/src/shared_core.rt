@@ -1,4 +1,5 @@
-//! A core that is shared without a history: sharing it, and a question at its guard, take memory.
+//! A core that is shared without a history: sharing it, and a question at its guard, take memory. A
+//! drain that finds nothing takes none.
 use crate::cores::steps::Step::{Refine, Store};
 use crate::cores::steps::take;
 use crate::cores::{is_left, new_core, state_of};
@@ -7,12 +8,12 @@ use crate::outcome::{Failure, check, refused};
 use crate::race::REFERENCES;
 use crate::sharing::{Plays, share};
 use g1_book::{Book, Caller, SharedCore, Tallied, Terms};
-use g1_core::{CardList, Core};
+use g1_core::{CardList, Core, Drained};
 use std::sync::Wait;
 use std::sync::ledger::Ledger;
 
-/// A core whose three cards are recorded is shared, and asked for a region's members. It is as it
-/// was where the sharing is refused, and where it ends.
+/// A core whose three cards are recorded is shared, drained, and asked for a region's members. It
+/// is as it was where the sharing is refused, and where it ends.
 pub(crate) fn asked_and_ended<R: Wait + Eprint + AllocGlobal>(rt: &R) -> Result<(), Failure> {
     let mut core = new_core(rt, 4, 4)?;
     let steps = [Store(&REFERENCES), Refine(&[0, 1, 2], &[0, 1, 2], 0)];
@@ -30,12 +31,12 @@ pub(crate) fn asked_and_ended<R: Wait + Eprint + AllocGlobal>(rt: &R) -> Result<
             ended
         }
     };
-    let is_one = made == 1 && book.made() == 1 && book.stored() == 0;
-    check(rt, is_one, "the totals of a shared core")?;
+    let are_two = made == 2 && book.made() == 2 && book.stored() == 0;
+    check(rt, are_two, "the totals of a shared core")?;
     is_left(rt, &mut book.into_core(), &before, &[])
 }
 
-// The caller asks once.
+// The caller drains and asks once.
 #[derive(Clone, Copy)]
 struct Asks;
 
@@ -46,6 +47,8 @@ impl Plays<Tallied> for Asks {
         shared: &SharedCore<M, S>,
         mut caller: Caller<M, S>,
     ) -> Result<Caller<M, S>, Failure> {
+        let is_empty = finds_nothing(rt, shared, &mut caller)?;
+        check(rt, is_empty, "a drain that finds nothing")?;
         asked(rt, shared, &mut caller)?;
         Ok(caller)
     }
@@ -61,7 +64,7 @@ fn asked<M: Terms, S: Ledger, R: Wait + Eprint>(
     let cards = match members(rt, shared, caller) {
         Err(Failure::NoMemory) => {
             refused(rt, "Counted::members without a history");
-            let is_uncounted = caller.made() == 0 && shared.lock(rt).book().made() == 0;
+            let is_uncounted = caller.made() == 1 && shared.lock(rt).book().made() == 1;
             check(rt, is_uncounted, "a refused call was counted")?;
             members(rt, shared, caller)?
         }
@@ -80,4 +83,19 @@ fn members<M: Terms, S: Ledger, R: Wait>(
     let mut guard = shared.lock(rt);
     let of = region(&guard.book().layout(), 3)?;
     Ok(guard.members(caller, of)?)
+}
+
+// Drains region 0 at the guard. Nothing is pending, and its set is empty: no list has a card, and
+// none asks for room.
+fn finds_nothing<M: Terms, S: Ledger, R: Wait>(
+    rt: &R,
+    shared: &SharedCore<M, S>,
+    caller: &mut Caller<M, S>,
+) -> Result<bool, Failure> {
+    let mut guard = shared.lock(rt);
+    let of = region(&guard.book().layout(), 0)?;
+    match guard.drain(caller, of) {
+        Ok(Drained::Cards { cards, refined }) => Ok(cards.is_empty() && refined.is_empty()),
+        Ok(Drained::Short { .. }) | Err(_) => Ok(false),
+    }
 }

@@ -1,6 +1,8 @@
 //! Races of two racers and one sweeper.
 use crate::small::Seen::{Has, Marked, Target};
-use crate::small::Step::{First, FirstLog, FirstSwap, Refine, Second, SecondExchange, SecondLog};
+use crate::small::Step::{
+    First, FirstLog, FirstSwap, FirstWord, Refine, Second, SecondExchange, SecondLog,
+};
 use crate::small::{raced, see};
 use g1_layout::Kind::{AlreadyDirty, Logged, Null, SameRegion};
 use std::test::Fail;
@@ -119,6 +121,33 @@ fn an_exchange_stores_only_over_what_is_expected(rt: HostRuntime) -> Result<(), 
         Target(12, None),
         Marked(0, true),
         Marked(3, true),
+    ];
+    see(&rt, &closed, &seen);
+    Ok(())
+}
+
+#[test]
+fn a_full_log_takes_each_store_within_its_region(rt: HostRuntime) -> Result<(), Fail> {
+    const DATA: u64 = 1 << 32;
+    let full = [0; 256];
+    // (a card is logged as often as the log has room)
+    let mut steps = [Refine(0); 519];
+    for i in 0..256 {
+        steps[2 * i] = First(0, Some(8), Logged);
+    }
+    steps[512] = First(0, Some(5), SameRegion);
+    steps[513] = FirstSwap(0, None, (Null, Some(5)));
+    steps[514] = FirstWord(0, DATA, (Null, 0));
+    steps[515] = FirstWord(0, 2, (SameRegion, DATA));
+    steps[516] = Second(8, Some(0), Logged);
+    steps[517] = FirstLog(&full);
+    steps[518] = First(0, Some(8), Logged);
+    let closed = raced(&rt, rt.alloc(), &steps)?;
+    let seen = [
+        Target(0, Some(8)),
+        Target(8, Some(0)),
+        Marked(0, true),
+        Marked(2, true),
     ];
     see(&rt, &closed, &seen);
     Ok(())

@@ -17,6 +17,8 @@ mod cycles;
 #[cfg(test)]
 mod data;
 #[cfg(test)]
+mod free;
+#[cfg(test)]
 mod in_threads;
 #[cfg(test)]
 mod numbers;

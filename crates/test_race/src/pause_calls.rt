@@ -129,9 +129,11 @@ fn walk(rt: &impl Abort, paused: &mut Paused, number: u32, wanted: &[u32]) {
     let mut from = 0;
     for card in wanted {
         assert_equal(rt, next_member(rt, paused, number, from), Some(*card));
+        assert_equal(rt, next_into(rt, paused, number, from), Some(*card));
         from = card.wrapping_add(1);
     }
     assert_equal(rt, next_member(rt, paused, number, from), None);
+    assert_equal(rt, next_into(rt, paused, number, from), None);
     assert_equal(rt, next_member(rt, paused, number, u32::MAX), None);
 }
 
@@ -139,6 +141,12 @@ fn walk(rt: &impl Abort, paused: &mut Paused, number: u32, wanted: &[u32]) {
 fn next_member(rt: &impl Abort, paused: &mut Paused, number: u32, from: u32) -> Option<u32> {
     let region = region(rt, paused, number);
     Some(paused.next_member(region, from)?.number())
+}
+
+// The number of the next card that is recorded for a region, as for the one region of a set.
+fn next_into(rt: &impl Abort, paused: &mut Paused, number: u32, from: u32) -> Option<u32> {
+    let region = region(rt, paused, number);
+    Some(paused.next_into(&[region.number()], from)?.number())
 }
 
 fn redirect(

@@ -208,7 +208,7 @@ fn store(rt: &impl Abort, race: &Race, racer: &mut Racer, from: u32, to: Option<
 {
     let from = slot_in(rt, race, from);
     let to = place(rt, race, to);
-    assert!(rt; racer.has_room());
+    assert!(rt; racer.has_room_for(race, &from, &to));
     assert_equal(rt, racer.store(race, from, to), kind);
 }
 
@@ -225,7 +225,7 @@ fn swap(
 {
     let from = slot_in(rt, race, from);
     let to = place(rt, race, to);
-    assert!(rt; racer.has_room());
+    assert!(rt; racer.has_room_for(race, &from, &to));
     let (kind, old) = racer.swap(race, from, to);
     assert_equal(rt, (kind, number_of(old)), answer);
 }
@@ -253,7 +253,7 @@ fn exchange(
     let from = slot_in(rt, race, from);
     let expected = place(rt, race, expected);
     let to = place(rt, race, to);
-    assert!(rt; racer.has_room());
+    assert!(rt; racer.has_room_for(race, &from, &to));
     match racer.compare_exchange(race, from, expected, to) {
         Ok(kind) => Ok(kind),
         Err(found) => Err(number_of(found)),
@@ -272,7 +272,8 @@ fn swap_word(
     ensures { racer_race racer.new ≡ racer_race racer.old }
 {
     let slot = slot_in(rt, race, slot);
-    assert!(rt; racer.has_room() && race.is_word(word));
+    assert!(rt; race.is_word(word));
+    assert!(rt; racer.has_room_for_word(race, slot, word));
     assert_equal(rt, racer.swap_word(race, slot, word), answer);
 }
 
@@ -288,7 +289,8 @@ fn exchange_word(
     ensures { racer_race racer.new ≡ racer_race racer.old }
 {
     let slot = slot_in(rt, race, slot);
-    assert!(rt; racer.has_room() && race.is_word(word));
+    assert!(rt; race.is_word(word));
+    assert!(rt; racer.has_room_for_word(race, slot, word));
     racer.compare_exchange_word(race, slot, expected, word)
 }
 

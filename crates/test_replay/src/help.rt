@@ -203,8 +203,8 @@ static LINES: [(&[&str], &str); 18] = [
     (&["g1replay", "race", "-h"], OF_RACE),
     (&["g1replay", "help", "race"], OF_RACE),
     (&["g1replay", "race", "--rounds", "1", "--help"], OF_RACE),
-    (&["g1replay", "--version"], "g1replay 1.0.0\n"),
-    (&["g1replay", "-V"], "g1replay 1.0.0\n"),
+    (&["g1replay", "--version"], "g1replay 0.5.0\n"),
+    (&["g1replay", "-V"], "g1replay 0.5.0\n"),
 ];
 
 #[test]

@@ -73,6 +73,26 @@ fn a_desk_begins_a_round_at_its_start(rt: HostRuntime) -> Result<(), Fail> {
     Ok(two_flushes(&rt, rt.alloc(), &mut book)?)
 }
 
+fn one_flush<R: Abort + Wait>(rt: &R, alloc: Global, book: &mut Book) -> Result<(), Refusal>
+    requires { book.old.mutators ≡ 1 }
+{
+    let (layout, config) = (book.layout(), book.config());
+    let (line, mutator, taker) = ends(rt, alloc, config)?;
+    let mut desk = desk_at(rt, &line, mutator, taker, book, config.start());
+    let (from, to) = (slot_in(rt, layout, 0), slot_in(rt, layout, 8));
+    flush_one(rt, &mut desk, from, to)?;
+    assert_round(rt, &desk.work()?, whole(0, &[], 1));
+    Ok(())
+}
+
+/// A store, a flush and a round at the desk of caller 0, with the settings where nobody chooses
+/// otherwise: one buffer begins no round, and is left.
+#[test]
+fn a_local_desk_stores_flushes_and_works(rt: HostRuntime) -> Result<(), Fail> {
+    let mut book = plain_book(&rt, rt.alloc(), Settings::default().log, 10)?;
+    Ok(one_flush(&rt, rt.alloc(), &mut book)?)
+}
+
 /// Makes the calls of a script at a desk of caller 0, and then three rounds.
 fn worked<R: Abort + Wait>(
     rt: &R,

@@ -9,7 +9,7 @@ jobs_of-requires-clause-of g c k d h =
 
 pub callers_of-callers-requires : goal.callers_of-callers-requires
 callers_of-callers-requires g c =
-    let same = length_all_zip _ c.in_ok-jobs.jobs.items c.in_ok-done.done.items c.in_ok-done.ensures in
+    let same = length_all_zip _ c.in_ok-jobs.jobs.items c.in_ok-done.done.items c.in_ok-done.ensures.ran in
     let jobs : length c.in_ok-jobs.jobs.items ≡ 12 = search rules in
     let done : length c.in_ok-done.done.items ≡ vec_len c.in_ok-done.done = search rules in
     let room = c.in_ok-room.ensures.capacity in
@@ -17,14 +17,14 @@ callers_of-callers-requires g c =
 
 pub finish-requires-clause-some : goal.finish-requires-clause-some
 finish-requires-clause-some g c =
-    let same = length_all_zip _ c.in_ok-jobs.jobs.items c.in_ok-done.done.items c.in_ok-done.ensures in
+    let same = length_all_zip _ c.in_ok-jobs.jobs.items c.in_ok-done.done.items c.in_ok-done.ensures.ran in
     let jobs : length c.in_ok-jobs.jobs.items ≡ 12 = search rules in
     let done : length c.in_ok-done.done.items ≡ vec_len c.in_ok-done.done = search rules in
     let callers = c.callers_of-callers.ensures in omega arith
 
 pub finish-requires-clause-made : goal.finish-requires-clause-made
 finish-requires-clause-made g c =
-    let same = length_all_zip _ c.in_ok-jobs.jobs.items c.in_ok-done.done.items c.in_ok-done.ensures in
+    let same = length_all_zip _ c.in_ok-jobs.jobs.items c.in_ok-done.done.items c.in_ok-done.ensures.ran in
     let jobs : length c.in_ok-jobs.jobs.items ≡ 12 = search rules in
     let done : length c.in_ok-done.done.items ≡ vec_len c.in_ok-done.done = search rules in
     let callers = c.callers_of-callers.ensures in
@@ -32,7 +32,7 @@ finish-requires-clause-made g c =
 
 pub finish-requires-clause-stored : goal.finish-requires-clause-stored
 finish-requires-clause-stored g c =
-    let same = length_all_zip _ c.in_ok-jobs.jobs.items c.in_ok-done.done.items c.in_ok-done.ensures in
+    let same = length_all_zip _ c.in_ok-jobs.jobs.items c.in_ok-done.done.items c.in_ok-done.ensures.ran in
     let jobs : length c.in_ok-jobs.jobs.items ≡ 12 = search rules in
     let done : length c.in_ok-done.done.items ≡ vec_len c.in_ok-done.done = search rules in
     let callers = c.callers_of-callers.ensures in
