@@ -1,20 +1,22 @@
 // Evacuation: what is live in the collection set is copied into old regions, and the set is freed.
 //
-// References into the set are roots, or on the cards of its remembered sets. Workers scan these,
-// copy what they refer to, and scan the copies. They store as racers do. The header of an object
-// that was copied forwards to its copy: a compare-and-swap makes one worker the one that copies it.
+// References into the set are roots, or on the cards of its remembered sets, or on cards that are
+// dirty. Workers scan these and claim what they refer to: a compare-and-swap of an object's header,
+// which then has the place of the copy, makes one worker the one that copies it. That worker claims
+// what the object refers to before it copies it, so each word of a copy is stored once, with its
+// new value. Workers store as racers do.
 #include "runtime.h"
 
-enum { BATCH = 16, CHUNK = 512 }; // cards that a worker takes at once, and words that it shares
-#define FORWARD (2 * G1_DATA)     // plus where the copy is: data that is no header and no integer
+enum { BATCH = 16, CHUNK = 128 };   // cards that a worker takes at once, objects that it shares
+#define FORWARD (UINT64_C(1) << 63) // plus the size << 32, plus where the copy is: no header
 
-// A worker copies into an old region, whose words from `scan` on are not scanned yet.
+// A worker copies into an old region. It has claimed the objects on its stack, and copies them.
 struct worker {
     struct g1_racer racer;
     struct g1_sweeper sweeper;
-    uint32_t top, end, scan;
+    uint32_t top, end, *stack;
+    size_t length;
 };
-struct range { uint32_t first, end; };
 
 static struct worker workers[WORKERS];
 static pthread_t threads[WORKERS]; // the first worker is the thread that makes the pause
@@ -25,34 +27,39 @@ static size_t cards_length;
 static unsigned char is_listed[MOST_SLOTS / SLOTS]; // by card
 static _Atomic size_t scanned, ended;               // cards that workers took
 
-// Ranges of copies that are for any worker. The lock has them.
+// The workers' stacks, which take memory as they grow, and one of claimed objects that are for any
+// worker. The lock has that.
+static uint32_t stacks[WORKERS + 1][MOST_SLOTS / 2], *const shared = stacks[WORKERS];
 static pthread_mutex_t lock = PTHREAD_MUTEX_INITIALIZER;
 static pthread_cond_t shares = PTHREAD_COND_INITIALIZER;
-static struct range ranges[MOST_SLOTS / CHUNK + G1_MAX_REGIONS];
-static size_t ranges_length, idle; // workers are idle that wait for a range
+static size_t shared_length;
+static atomic_size_t idle; // workers that wait for some
 
-// A worker's store: of a word in place of another one. Returns 0 if another worker was first. All
-// cards that it may make dirty are refined afterwards, so no log is kept.
-static int change(struct worker *self, uint32_t slot, uint64_t old, uint64_t word) {
-    uint32_t dropped[G1_LOG], count, kind, code;
-    uint64_t found;
-    while ((code = g1_race_compare_exchange_word(&self->racer, slot, old, word, &found, &kind)) ==
-           G1_LOG_FULL) {
-        done(g1_race_take_log(&self->racer, dropped, G1_LOG, &count));
+static void store(struct worker *self, uint32_t slot, uint64_t word) {
+    uint32_t kind, code;
+    uint64_t old;
+    while ((code = word < G1_DATA
+                       ? g1_race_store(&self->racer, slot, reference_of(word), &kind)
+                       : g1_race_store_data(&self->racer, slot, word, &old)) != G1_DONE) {
+        code == G1_LOG_FULL ? drop_log(&self->racer) : done(code);
     }
-    done(code == G1_DIFFERS ? (uint32_t)G1_DONE : code);
-    return code == G1_DONE;
 }
 
-// Gives what is not scanned yet of a worker's copies to any worker, if it is this much.
-static void share(struct worker *self, uint32_t least) {
-    if (self->top - self->scan >= least) {
-        pthread_mutex_lock(&lock);
-        ranges[ranges_length++] = (struct range){self->scan, self->top};
-        pthread_cond_signal(&shares);
-        pthread_mutex_unlock(&lock);
-        self->scan = self->top;
+// Stores a forwarding header in place of a header that is still there. Returns what was there.
+static uint64_t claim(struct worker *self, uint32_t object, uint64_t header, uint64_t forward) {
+    uint64_t found = header;
+    uint32_t kind, code;
+    if (is_young(object)) {
+        __atomic_compare_exchange_n(&own[object], &found, forward, 0, __ATOMIC_ACQ_REL,
+                                    __ATOMIC_ACQUIRE);
+        return found;
     }
+    while ((code = g1_race_compare_exchange_word(&self->racer, object, header, forward, &found,
+                                                 &kind)) == G1_LOG_FULL) {
+        drop_log(&self->racer);
+    }
+    done(code == G1_DIFFERS ? (uint32_t)G1_DONE : code);
+    return found;
 }
 
 // Notes how far a worker has filled its region.
@@ -66,34 +73,26 @@ static void note_filled(const struct worker *self, int is_filling) {
 
 static uint32_t room_for(struct worker *self, uint32_t size) {
     if (self->end - self->top < size) {
-        share(self, 1);
         note_filled(self, 0);
         take_region(OLD, &self->top, &self->end) ? (void)0 : fail("there is no region for copies");
-        self->scan = self->top;
     }
     self->top += size;
     return self->top - size;
 }
 
-// The copy of an object of the set. What it refers to there is copied when the copy is scanned.
+// Where the copy of an object of the set is, or will be.
 static uint32_t evacuate(struct worker *self, uint32_t object) {
     uint64_t header = word_of(object);
-    if (header >= FORWARD) {
-        return (uint32_t)header;
-    }
-    uint32_t size = (uint32_t)header, copy = room_for(self, size);
-    if (!change(self, object, header, FORWARD + copy)) {
-        self->top -= size;
-        return (uint32_t)word_of(object);
-    }
-    for (uint32_t i = 0; i < size; i++) {
-        uint64_t word = i == 0 ? header : word_of(object + i);
-        if (word != 0) {
-            change(self, copy + i, 0, word);
+    if (header < FORWARD) {
+        uint32_t size = (uint32_t)header, copy = room_for(self, size);
+        header = claim(self, object, header, FORWARD | (uint64_t)size << 32 | copy);
+        if (header < FORWARD) {
+            self->stack[self->length++] = object;
+            return copy;
         }
+        self->top -= size;
     }
-    share(self, CHUNK);
-    return copy;
+    return (uint32_t)header;
 }
 
 static void evacuate_root(void *context, uint32_t *root) {
@@ -102,32 +101,53 @@ static void evacuate_root(void *context, uint32_t *root) {
     }
 }
 
-static void scan(struct worker *self, struct range range) {
-    for (uint32_t slot = range.first; slot < range.end; slot++) {
+static int is_in_set(uint64_t word) {
+    uint32_t target = reference_of(word);
+    return target != G1_NULL && regions[target / REGION].is_in_set;
+}
+
+static void scan(struct worker *self, uint32_t card) {
+    for (uint32_t slot = card * SLOTS; slot < card * SLOTS + SLOTS; slot++) {
         uint64_t word = word_of(slot);
-        uint32_t target = reference_of(word);
-        if (target != G1_NULL && regions[target / REGION].is_in_set) {
-            change(self, slot, word, is_dead(slot) ? 0 : of_reference(evacuate(self, target)));
+        if (is_in_set(word)) {
+            store(self, slot, is_dead(slot) ? 0 : of_reference(evacuate(self, reference_of(word))));
         }
     }
 }
 
-// The next range to scan, the worker's own or a shared one. Returns 0 when all workers are idle.
-static int next_range(struct worker *self, struct range *range) {
-    if (self->scan < self->top) {
-        *range = (struct range){self->scan, self->top};
-        self->scan = self->top;
-        return 1;
+// Copies a claimed object, and claims what it refers to. The card of each reference is refined.
+static void copy(struct worker *self, uint32_t object) {
+    const uint64_t *from = bases[object / REGION] + object;
+    uint64_t header = word_of(object);
+    uint32_t to = (uint32_t)header, size = header >> 32 & INT32_MAX;
+    store(self, to, of_integer(size));
+    for (uint32_t i = 1; i < size; i++) {
+        uint64_t word = from[i];
+        word = is_in_set(word) ? of_reference(evacuate(self, reference_of(word))) : word;
+        word != 0 ? store(self, to + i, word) : (void)0;
     }
+}
+
+// Moves claimed objects from the bottom of one stack to the top of another one.
+static void move(uint32_t *from, size_t *from_length, uint32_t *to, size_t *to_length) {
+    size_t count = *from_length < CHUNK ? *from_length : CHUNK;
+    memcpy(to + *to_length, from, count * sizeof *from);
+    memmove(from, from + count, (*from_length - count) * sizeof *from);
+    *to_length += count;
+    *from_length -= count;
+}
+
+// Gets objects that others share. Returns 0 when all workers are idle.
+static int get_shared(struct worker *self) {
     pthread_mutex_lock(&lock);
     idle++;
-    while (ranges_length == 0 && idle < WORKERS) {
+    while (shared_length == 0 && idle < WORKERS) {
         pthread_cond_wait(&shares, &lock);
     }
-    int is_any = ranges_length > 0;
+    int is_any = shared_length > 0;
     if (is_any) {
         idle--;
-        *range = ranges[--ranges_length];
+        move(shared, &shared_length, self->stack, &self->length);
     } else {
         pthread_cond_broadcast(&shares);
     }
@@ -135,41 +155,46 @@ static int next_range(struct worker *self, struct range *range) {
     return is_any;
 }
 
-static void scan_all(struct worker *self) {
-    struct range range;
-    self == workers ? for_roots(evacuate_root, self) : (void)0;
-    for (size_t i; (i = atomic_fetch_add(&scanned, BATCH)) < cards_length;) {
-        for (size_t end = i + BATCH; i < end && i < cards_length; i++) {
-            scan(self, (struct range){cards[i] * SLOTS, cards[i] * SLOTS + SLOTS});
+static void copy_all(struct worker *self) {
+    while (self->length > 0) {
+        copy(self, self->stack[--self->length]);
+        if (self->length >= 2 * CHUNK && atomic_load_explicit(&idle, memory_order_relaxed) > 0) {
+            pthread_mutex_lock(&lock);
+            move(self->stack, &self->length, shared, &shared_length);
+            pthread_cond_signal(&shares);
+            pthread_mutex_unlock(&lock);
         }
     }
-    while (next_range(self, &range)) {
-        scan(self, range);
+}
+
+static void scan_all(struct worker *self) {
+    self == workers ? for_roots(evacuate_root, self) : (void)0;
+    copy_all(self);
+    for (size_t i; (i = atomic_fetch_add(&scanned, BATCH)) < cards_length;) {
+        for (size_t end = i + BATCH; i < end && i < cards_length; i++) {
+            scan(self, cards[i]);
+            copy_all(self);
+        }
+    }
+    while (get_shared(self)) {
+        copy_all(self);
     }
     note_filled(self, 1);
 }
 
-// Makes the words of a card null, since a clear is refused while one refers into its region.
-static void wipe(struct worker *self, uint32_t first) {
-    uint32_t kind;
-    for (uint32_t slot = first; slot < first + SLOTS; slot++) {
-        if (word_of(slot) != 0 && g1_race_store(&self->racer, slot, G1_NULL, &kind) != G1_DONE) {
-            change(self, slot, word_of(slot), 0); // the log was full
-        }
-    }
-}
-
-// Wipes the set, and refines all cards to which workers have stored.
+// Wipes the old regions of the set, since a clear is refused while a slot refers into its region,
+// and refines all cards to which mutators or workers have stored.
 static void end_all(struct worker *self) {
-    self == workers ? end_step(2) : (void)0;
+    self == workers ? end_step(1) : (void)0;
     for (size_t i; (i = atomic_fetch_add(&ended, BATCH)) < regions_length * RUNTIME_CARDS;) {
-        for (uint32_t card = (uint32_t)i; card < i + BATCH; card++) {
-            const struct region *region = &regions[card / RUNTIME_CARDS];
+        const struct region *region = &regions[i / RUNTIME_CARDS];
+        for (uint32_t card = (uint32_t)i; region->state == OLD && card < i + BATCH; card++) {
             uint32_t first = card % RUNTIME_CARDS * SLOTS;
             int is_new = first + SLOTS > region->new_from && first < region->filled;
-            if (region->is_in_set) {
-                wipe(self, card * SLOTS);
-            } else if (is_listed[card] || is_new) {
+            for (uint32_t k = 0; region->is_in_set && k < SLOTS; k++) {
+                word_of(card * SLOTS + k) != 0 ? store(self, card * SLOTS + k, 0) : (void)0;
+            }
+            if (!region->is_in_set && (is_listed[card] || is_new)) {
                 done(g1_race_refine(&self->sweeper, card));
             }
         }
@@ -185,7 +210,7 @@ static void *work(void *place) {
         if (is_over) {
             break;
         }
-        *self = (struct worker){racers[i], sweepers[i], self->top, self->end, self->top};
+        *self = (struct worker){racers[i], sweepers[i], self->top, self->end, stacks[i], 0};
         scan_all(self);
         pthread_barrier_wait(&all);
         end_all(self);
@@ -196,20 +221,35 @@ static void *work(void *place) {
     return NULL;
 }
 
-// Lists the cards outside the set that are recorded to refer into it.
+static void list(uint32_t card) {
+    const struct region *region = &regions[card / RUNTIME_CARDS];
+    if (!is_listed[card] && region->state == OLD && !region->is_in_set) {
+        is_listed[card] = 1;
+        cards[cards_length++] = card;
+    }
+}
+
+// Lists the cards outside the set that are dirty, or recorded to refer into it. A recorded one may
+// be of a region that was freed.
 static void list_cards(void) {
+    uint32_t set[G1_MAX_REGIONS], set_length = 0, card = 0;
     cards_length = 0;
     memset(is_listed, 0, regions_length * RUNTIME_CARDS);
-    for (uint32_t i = 0; i < regions_length; i++) {
-        uint32_t from = regions[i].is_in_set ? 0 : G1_NULL, card;
-        for (; g1_heap_next_member(&heap, i, from, &card) == G1_DONE && card != G1_NULL;
-             from = card + 1) {
-            if (!is_listed[card] && !regions[card / RUNTIME_CARDS].is_in_set) {
-                is_listed[card] = 1;
-                cards[cards_length++] = card;
-            }
-        }
+    for (; g1_heap_next_dirty(&heap, card, &card) == G1_DONE && card != G1_NULL; card++) {
+        counts.dirty++;
+        list(card);
     }
+    for (uint32_t i = 0; i < regions_length; i++) {
+        set[set_length] = i;
+        set_length += regions[i].is_in_set != 0;
+    }
+    card = 0;
+    for (; g1_heap_next_into(&heap, set, set_length, card, &card) == G1_DONE && card != G1_NULL;
+         card++) {
+        list(card);
+    }
+    counts.scanned += cards_length;
+    check_listed(is_listed);
 }
 
 // A pause. It is repeated while free regions are few and there is garbage to collect.
@@ -219,19 +259,17 @@ void collect(void) {
     do {
         begin_steps();
         length = choose_set();
-        done(g1_heap_refine(&heap));
-        end_step(0);
         list_cards();
-        end_step(1);
+        end_step(0);
         done(g1_heap_resume(&heap, racers, MUTATORS, sweepers, WORKERS));
         scanned = ended = idle = 0;
         work(&workers[0]);
         done(g1_heap_pause(&heap, racers, MUTATORS, sweepers, WORKERS));
-        end_step(3);
+        end_step(2);
         free_set();
-        end_step(4);
+        end_step(3);
         mark_if_due();
-        end_step(5);
+        end_step(4);
     } while (most_young < regions_length / 16 && length > 0 && with_most_garbage() != NULL);
     check(1);
 }

@@ -1,12 +1,9 @@
-// Mutators: how they stop for a pause, and the refinement thread that takes their logs.
+// Mutators: how they stop for a pause.
 //
 // A pause is due when mutators may take no further region. Each stops at its next safepoint, and
 // the last one makes the pause. A mutator that has left holds nothing up.
 #include "runtime.h"
 
-enum { REFINERS = 1, LOGS = 32 }; // a pause uses more sweepers than refinement does
-
-struct g1_refiner refiner;
 atomic_int is_stopping;
 _Atomic uint64_t globals[GLOBALS];
 struct g1_racer racers[MUTATORS];
@@ -16,13 +13,17 @@ static pthread_cond_t goes_on = PTHREAD_COND_INITIALIZER;
 static struct mutator *mutators[MUTATORS]; // with the lock: those that have entered
 static size_t running;                     // how many of them have not stopped
 
-static void begin_race(void) {
-    done(g1_heap_resume(&heap, racers, MUTATORS, sweepers, WORKERS));
-    g1_refiner_resume(&refiner, sweepers);
+// Drops a full log. Its cards stay dirty, so the pause finds them, which scans and refines them.
+void drop_log(struct g1_racer *racer) {
+    uint32_t dropped[G1_LOG], count;
+    done(g1_race_take_log(racer, dropped, G1_LOG, &count));
 }
 
-static void end_race(enum g1_queued queued) {
-    done(g1_refiner_pause(&refiner, queued, sweepers));
+static void begin_race(void) {
+    done(g1_heap_resume(&heap, racers, MUTATORS, sweepers, WORKERS));
+}
+
+static void end_race(void) {
     done(g1_heap_pause(&heap, racers, MUTATORS, sweepers, WORKERS));
 }
 
@@ -31,7 +32,7 @@ static void stop(const struct mutator *self) {
     racers[self->number] = self->racer;
     if (--running == 0 && atomic_load(&is_stopping)) {
         double began = seconds();
-        end_race(G1_REFINE_QUEUED);
+        end_race();
         collect();
         begin_race();
         end_pause(began);
@@ -81,7 +82,6 @@ void enter(struct mutator *self) {
 }
 
 void leave(struct mutator *self) {
-    done(g1_refiner_hand_on(&refiner, &self->racer));
     pthread_mutex_lock(&lock);
     mutators[self->number] = NULL;
     add_stores(self->stores);
@@ -103,9 +103,7 @@ void for_roots(void (*visit)(void *context, uint32_t *root), void *context) {
 }
 
 int runtime_open(uint32_t regions) {
-    static struct g1_log logs[LOGS];
-    if (!heap_open(regions) || !evacuation_open() ||
-        g1_refiner_open(&refiner, logs, LOGS, REFINERS) != 0) {
+    if (!heap_open(regions) || !evacuation_open()) {
         return 0;
     }
     begin_race();
@@ -113,10 +111,7 @@ int runtime_open(uint32_t regions) {
 }
 
 void runtime_close(void) {
-    end_race(G1_DROP_QUEUED);
-    counts.refined = refiner.refined;
-    counts.dropped = refiner.dropped;
-    g1_refiner_close(&refiner);
+    end_race();
     evacuation_close();
-    done(g1_heap_close(&heap));
+    heap_close();
 }
