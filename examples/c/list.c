@@ -1,10 +1,10 @@
 // A list that racing mutators share without a lock: `list [PAUSES]`.
 //
-// Its nodes are in the library's words. A mutator puts a node in front of the list by
-// g1_race_compare_exchange, and takes the whole list by g1_race_swap. No node is used twice in a
-// race, so an exchange that finds the first node still there finds the list as it was. A node has a
-// label too, in memory of the program's own. At a pause each node was taken just once, or is in the
-// list, and each drain is compared with a scan.
+// Its nodes are in the library's words. A mutator puts a node in front of the list by a
+// compare-and-swap, and takes the whole list by a swap. No node is used twice in a race, so an
+// exchange that finds the first node still there finds the list as it was. A node has a label too,
+// in memory of the program's own. At a pause each node was taken just once, or is in the list, and
+// each drain is compared with a scan.
 #define _POSIX_C_SOURCE 200809L
 #include "g1_refiner.h"
 
@@ -59,14 +59,10 @@ static void push(struct g1_racer *racer, uint32_t node) {
     G1_TSAN_RELEASE(&labels[node]);
     do {
         done(g1_refiner_store(&refiner, racer, node + 1, first, &kind));
-        code = g1_race_compare_exchange(racer, HEAD, first, node, &found, &kind);
-        if (code == G1_LOG_FULL) {
-            done(g1_refiner_hand_on(&refiner, racer));
-        } else {
-            first = found;
-        }
-        differences += code == G1_DIFFERS;
-    } while (code != G1_DONE);
+        code = g1_refiner_compare_exchange(&refiner, racer, HEAD, first, node, &found, &kind);
+        code == G1_DIFFERS ? (void)differences++ : done(code);
+        first = found;
+    } while (code == G1_DIFFERS);
 }
 
 // Counts the nodes from one on as taken, each of which has its value.
@@ -81,11 +77,8 @@ static unsigned take(uint32_t node) {
 
 // Takes the whole list.
 static unsigned take_all(struct g1_racer *racer) {
-    uint32_t first, kind, code;
-    while ((code = g1_race_swap(racer, HEAD, G1_NULL, &first, &kind)) == G1_LOG_FULL) {
-        done(g1_refiner_hand_on(&refiner, racer));
-    }
-    done(code);
+    uint32_t first, kind;
+    done(g1_refiner_swap(&refiner, racer, HEAD, G1_NULL, &first, &kind));
     return take(first);
 }
 
@@ -110,7 +103,7 @@ static void *mutate(void *place) {
 static void run(void) {
     pthread_t threads[MUTATORS];
     done(g1_heap_resume(&heap, racers, MUTATORS, sweepers, SWEEPERS));
-    g1_refiner_resume(&refiner, sweepers);
+    done(g1_refiner_resume(&refiner, sweepers, SWEEPERS));
     for (uintptr_t i = 0; i < MUTATORS; i++) {
         int error = pthread_create(&threads[i], NULL, mutate, (void *)i);
         done(error == 0 ? G1_DONE : G1_NO_MEMORY);
@@ -120,7 +113,7 @@ static void run(void) {
         pthread_join(threads[i], &faults);
         wrong += (unsigned)(uintptr_t)faults;
     }
-    done(g1_refiner_pause(&refiner, G1_REFINE_QUEUED, sweepers));
+    done(g1_refiner_pause(&refiner, G1_REFINE_QUEUED, sweepers, SWEEPERS));
     done(g1_heap_pause(&heap, racers, MUTATORS, sweepers, SWEEPERS));
 }
 
@@ -163,14 +156,12 @@ int main(int number, char **arguments) {
     unsigned long pauses = number > 1 ? strtoul(arguments[1], NULL, 10) : 50;
     done(g1_heap_open(&heap, &counts, MUTATORS, SWEEPERS));
     done(g1_heap_words(&heap, &words));
-    if (g1_refiner_open(&refiner, logs, LOGS, SWEEPERS) != 0) {
-        return 1;
-    }
+    done(g1_refiner_open(&refiner, logs, LOGS, SWEEPERS, 1, 0)); // each log is refined at once
     for (unsigned long i = 0; i < pauses; i++) {
         run();
         collect();
     }
-    g1_refiner_close(&refiner);
+    done(g1_refiner_close(&refiner));
     done(g1_heap_close(&heap));
     printf("%lu pauses, %lu exchanges that differed, %lu cards refined in races, %u wrong\n",
            pauses, differences, (unsigned long)refiner.refined, wrong);

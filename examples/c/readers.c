@@ -213,14 +213,14 @@ static void refused_readers(struct g1_reader *reader) {
     check(g1_reader_next_member(&closed, 0, 0, &word) == G1_NOT_OPEN && word == G1_NULL, "a closed reader's set");
 }
 
-// Readings that can't begin or end.
+// Readings that cannot begin or end.
 static void refused(struct heap *heap, struct heap *other) {
     struct g1_reader readers[READERS + 1] = {{NULL}}, others[2] = {{NULL}}, mixed[2];
     struct g1_heap closed = {NULL};
     check(g1_heap_read(&closed, readers, 1) == G1_NOT_OPEN, "a closed heap");
     check(g1_heap_read_end(&closed, readers, 0) == G1_NOT_OPEN, "the end of a closed heap's");
-    check(g1_heap_read(&heap->handle, readers, READERS + 1) == G1_BAD_MEMBERS, "too many readers");
-    check(g1_heap_read_end(&heap->handle, readers, 1) == G1_BAD_MEMBERS, "no reading");
+    check(g1_heap_read(&heap->handle, readers, READERS + 1) == G1_BAD_HANDLES, "too many readers");
+    check(g1_heap_read_end(&heap->handle, readers, 1) == G1_BAD_HANDLES, "no reading");
     resume(other);
     check(g1_heap_read(&other->handle, others, 2) == G1_NOT_PAUSED, "no reading of a race");
     check(g1_heap_read_end(&other->handle, others, 0) == G1_NOT_PAUSED, "nor the end of one");
@@ -231,8 +231,8 @@ static void refused(struct heap *heap, struct heap *other) {
     check(g1_heap_read(&heap->handle, readers, 2) == G1_DONE, "a reading of two");
     refused_while_read(heap);
     refused_readers(&readers[0]);
-    check(g1_heap_read_end(&heap->handle, readers, 1) == G1_BAD_MEMBERS, "too few readers");
-    check(g1_heap_read_end(&heap->handle, readers, 3) == G1_BAD_MEMBERS, "more than were handed out");
+    check(g1_heap_read_end(&heap->handle, readers, 1) == G1_BAD_HANDLES, "too few readers");
+    check(g1_heap_read_end(&heap->handle, readers, 3) == G1_BAD_HANDLES, "more than were handed out");
     mixed[0] = readers[0], mixed[1] = readers[0];
     check(g1_heap_read_end(&heap->handle, mixed, 2) == G1_OTHER_RACE, "a reader twice");
     mixed[1] = others[0];

@@ -20,7 +20,9 @@ enum {
     ALL_SLOTS = ALL_CARDS * SLOTS,
     MUTATORS = 4,
     SWEEPERS = 2,
-    LOGS = 8,      // room in the queue
+    LOGS = 16,     // room in the queue
+    START = 4,     // logs in the queue when refinement begins
+    STOP = 1,      // and when it ends
     LOCKS = 64,    // slot s has the lock s % LOCKS
     BATCH = 64,    // stores between two safepoints
     DUE = 1 << 16, // stores between two pauses
@@ -172,10 +174,10 @@ static unsigned run(unsigned pauses) {
     unsigned members = 0;
     for (unsigned i = 0; i < pauses; i++) {
         wrong += g1_heap_resume(&heap, racers, MUTATORS, sweepers, SWEEPERS) != G1_DONE;
-        g1_refiner_resume(&refiner, sweepers);
+        wrong += g1_refiner_resume(&refiner, sweepers, SWEEPERS) != G1_DONE;
         run_mutators();
         enum g1_queued queued = i % 2 == 0 ? G1_REFINE_QUEUED : G1_DROP_QUEUED;
-        wrong += g1_refiner_pause(&refiner, queued, sweepers) != G1_DONE;
+        wrong += g1_refiner_pause(&refiner, queued, sweepers, SWEEPERS) != G1_DONE;
         wrong += g1_heap_pause(&heap, racers, MUTATORS, sweepers, SWEEPERS) != G1_DONE;
         members += compare();
         empty();
@@ -193,7 +195,7 @@ int main(int number, char **words) {
         pthread_mutex_init(&slot_locks[i], NULL);
     }
     if (g1_heap_open(&heap, &counts, MUTATORS, SWEEPERS) != G1_DONE ||
-        g1_refiner_open(&refiner, logs, LOGS, SWEEPERS) != 0) {
+        g1_refiner_open(&refiner, logs, LOGS, SWEEPERS, START, STOP) != G1_DONE) {
         return 1;
     }
     for (uintptr_t i = 0; i < MUTATORS; i++) {
@@ -203,7 +205,7 @@ int main(int number, char **words) {
     }
     unsigned members = run(pauses);
     end_mutators(mutators);
-    wrong += g1_refiner_close(&refiner) != 0;
+    wrong += g1_refiner_close(&refiner) != G1_DONE;
     wrong += g1_heap_close(&heap) != G1_DONE;
     printf("%u pauses, %lu logs queued, %lu dropped, %lu cards refined beside the mutators: %u "
            "cards returned, %u wrong\n",

@@ -1,10 +1,10 @@
 // A concurrent heap in C++: what its owning handles do when they are moved, refused and closed.
 #include <g1.hpp>
-#include <g1_refiner.h>
 
 #include <array>
 #include <cstddef>
 #include <cstdint>
+#include <cstring>
 #include <iostream>
 #include <thread>
 #include <type_traits>
@@ -16,6 +16,7 @@
 using garbage_first::ConcurrentHeap;
 using garbage_first::Core;
 using garbage_first::Racer;
+using garbage_first::Refiner;
 using garbage_first::Sweeper;
 
 template <typename Owner>
@@ -24,7 +25,7 @@ constexpr bool is_moved_alone = std::is_nothrow_move_constructible_v<Owner> &&
                                 !std::is_copy_constructible_v<Owner> &&
                                 !std::is_copy_assignable_v<Owner>;
 static_assert(is_moved_alone<Core> && is_moved_alone<ConcurrentHeap>);
-static_assert(is_moved_alone<Racer> && is_moved_alone<Sweeper>);
+static_assert(is_moved_alone<Racer> && is_moved_alone<Sweeper> && is_moved_alone<Refiner>);
 static_assert(!std::is_assignable_v<Racer &, Sweeper>);
 
 constexpr g1_counts counts{4, 64, 1};
@@ -96,7 +97,7 @@ static void run(std::vector<Racer> &racers, std::vector<Sweeper> &sweepers) {
             check(racer.store(slot, (slot + 64) % all_cards, kind) == G1_DONE, "a store");
             logged += kind == G1_STORED_LOGGED;
         }
-        check(racer.store(0, 1, kind) == G1_LOG_FULL, "a full log");
+        check(racer.store(0, 64, kind) == G1_LOG_FULL, "a full log");
         check(racer.take_log(cards, count) == G1_DONE && count == G1_LOG, "its cards");
         std::uint64_t null = 7, same_region = 7, already_dirty = 7, newly_dirty = 7;
         check(racer.counts(null, same_region, already_dirty, newly_dirty) == G1_DONE, "counts");
@@ -117,18 +118,56 @@ static void run(std::vector<Racer> &racers, std::vector<Sweeper> &sweepers) {
 
 // A log goes through the queue of a refiner to sweepers that are owned here between two pauses.
 static void refine(std::vector<Racer> &racers, std::vector<Sweeper> &sweepers) {
-    static g1_refiner refiner;
-    std::array<g1_log, 2> logs;
-    check(g1_refiner_open(&refiner, logs.data(), logs.size(), sweepers.size()) == 0, "open");
-    garbage_first::SweeperRow<std::vector<Sweeper>> row(sweepers);
-    g1_refiner_resume(&refiner, row.data());
-    std::uint32_t kind = 0;
-    check(g1_refiner_store(&refiner, racers[1].get(), 0, 64, &kind) == G1_DONE, "a store");
-    check(kind == G1_STORED_LOGGED, "a clean card");
-    check(g1_refiner_hand_on(&refiner, racers[1].get()) == G1_DONE, "a log of one card");
-    check(g1_refiner_pause(&refiner, G1_REFINE_QUEUED, row.data()) == G1_DONE, "a pause");
-    check(refiner.refined == 1, "its card is refined");
-    check(g1_refiner_close(&refiner) == 0, "a close");
+    Racer &racer = racers[1];
+    Refiner refiner;
+    std::vector<Sweeper> few(1), crowd(G1_SWEEPERS + 1);
+    check(refiner.resume(sweepers) == G1_NOT_OPEN && refiner.close() == G1_NOT_OPEN, "none");
+    check(refiner.hand_on(racer) == G1_NOT_OPEN && refiner.counts().queued == 0, "its counts");
+    check(refiner.open(sweepers.size(), 2, 3) == G1_BAD_SETTINGS, "a start beyond its room");
+    check(refiner.open(0) == G1_BAD_HANDLES, "no sweeper");
+    check(refiner.open(sweepers.size(), 2, 1, 0) == G1_DONE && refiner.is_open(), "open");
+    check(refiner.open(sweepers.size()) == G1_ALREADY_OPEN, "open again");
+    check(refiner.pause(G1_DROP_QUEUED, few) == G1_NOT_RACING, "a pause before the resume");
+    check(refiner.resume(crowd) == G1_BAD_HANDLES, "too many sweepers");
+    check(refiner.resume(sweepers) == G1_DONE && !sweepers[0].is_open(), "a resume");
+    g1_kind kind = G1_STORED_NULL;
+    std::uint32_t old = 0;
+    std::uint64_t word = 0;
+    std::size_t stored = 0;
+    check(refiner.store(racer, 0, 64, kind) == G1_DONE && kind == G1_STORED_LOGGED, "a store");
+    check(refiner.swap(racer, 0, 65, old, kind) == G1_DONE && old == 64, "a swap");
+    check(refiner.compare_exchange(racer, 0, 64, 1, old, kind) == G1_DIFFERS, "a difference");
+    check(refiner.swap_word(racer, 0, 67, word, kind) == G1_DONE && word == 66, "a swap of words");
+    check(refiner.compare_exchange_word(racer, 0, 67, 65, word, kind) == G1_DONE, "an exchange");
+    const std::array<g1_reference, 1> stores{{{0, 64}}};
+    check(refiner.store_all(racer, stores, stored) == G1_DONE && stored == 1, "one of one");
+    check(refiner.hand_on(racer) == G1_DONE, "a log of one card");
+    check(refiner.close() == G1_NOT_PAUSED, "a close before the pause");
+    check(refiner.pause(G1_REFINE_QUEUED, few) == G1_BAD_HANDLES, "a short row");
+    Refiner moved(std::move(refiner));
+    check(moved.pause(G1_REFINE_QUEUED, sweepers) == G1_DONE && sweepers[1].is_open(), "a pause");
+    check(moved.counts().refined == 1 && refiner.counts().refined == 0, "its card is refined");
+    refiner = std::move(moved);
+    check(refiner.close() == G1_DONE && !refiner.is_open(), "a close");
+}
+
+// A refiner that ends while it refines joins its threads, and keeps their sweepers.
+static void ends() {
+    std::vector<Racer> racers(1);
+    std::vector<Sweeper> sweepers(2);
+    ConcurrentHeap heap;
+    check(heap.open(counts, 1, 2) == G1_DONE && heap.resume(racers, sweepers) == G1_DONE, "open");
+    {
+        Refiner refiner, other;
+        check(refiner.open(2) == G1_DONE && other.open(2) == G1_DONE, "two refiners");
+        check(refiner.resume(sweepers) == G1_DONE, "one that refines");
+        refiner = std::move(other);
+        check(refiner.resume(sweepers) == G1_NOT_OPEN, "its sweepers are gone");
+    }
+    check(heap.pause(racers, sweepers) == G1_NOT_OPEN, "their heap cannot be paused");
+    static g1_heap racing; // whose memory is never freed
+    racing = heap.release();
+    check(racing.heap != nullptr, "nor closed");
 }
 
 // A racer's stores that depend on what a slot had, or are several.
@@ -168,6 +207,9 @@ static void collect(ConcurrentHeap &heap) {
         check(heap.drain(region, cards, count) == G1_DONE && count == 64, "a drain");
         check(heap.members(region, cards, count) == G1_DONE && count == 64, "the members");
     }
+    const std::array<std::uint32_t, 2> regions{0, 1};
+    check(heap.next_into(regions, 0, detail) == G1_DONE && detail == 192, "a collection set");
+    check(heap.next_dirty(0, detail) == G1_DONE && detail == G1_NULL, "no dirty card");
     const std::array<g1_reference, 2> stores{{{1, G1_NULL}, {all_cards, 0}}};
     check(heap.store_all(stores, stored) == G1_STOPPED && stored == 1, "one store of two");
     check(heap.store_all(stores.data(), 1, stored) == G1_DONE && stored == 1, "by length");
@@ -189,15 +231,15 @@ static void races() {
     std::vector<Sweeper> sweepers(2), crowd(G1_SWEEPERS + 1);
     ConcurrentHeap heap;
     check(heap.resume(racers, sweepers) == G1_NOT_OPEN, "a closed heap");
-    check(heap.open(counts, 0, 2) == G1_BAD_MEMBERS, "no racer");
+    check(heap.open(counts, 0, 2) == G1_BAD_HANDLES, "no racer");
     check(heap.open(counts, 2, 2) == G1_DONE, "open");
-    check(heap.resume(many, sweepers) == G1_BAD_MEMBERS, "too many racers");
-    check(heap.resume(none, sweepers) == G1_BAD_MEMBERS, "no racer");
+    check(heap.resume(many, sweepers) == G1_BAD_HANDLES, "too many racers");
+    check(heap.resume(none, sweepers) == G1_BAD_HANDLES, "no racer");
     check(heap.resume(racers, sweepers) == G1_DONE, "resume");
     run(racers, sweepers);
     refine(racers, sweepers);
-    check(heap.close() == G1_NOT_PAUSED, "a close while its members race");
-    check(heap.pause(racers, crowd) == G1_BAD_MEMBERS, "too many sweepers");
+    check(heap.close() == G1_NOT_PAUSED, "a close while it races");
+    check(heap.pause(racers, crowd) == G1_BAD_HANDLES, "too many sweepers");
     check(heap.pause(racers, sweepers) == G1_DONE, "pause");
     g1_kind kind = G1_STORED_NULL;
     check(racers[0].store(0, 1, kind) == G1_NOT_OPEN, "a racer at a pause");
@@ -227,8 +269,8 @@ template <typename Work> static bool terminates(Work work) {
            WEXITSTATUS(ended) == status;
 }
 
-// An open member is not lost where another one is moved into its place, nor a heap whose members
-// race. A closed one is free for that.
+// An open racer is not lost where another one is moved into its place, nor a heap that races. A
+// closed one is free for that.
 static void assignments() {
     std::vector<Racer> racers(2);
     std::vector<Sweeper> sweepers(2);
@@ -237,7 +279,7 @@ static void assignments() {
     check(heap.resume(racers, sweepers) == G1_DONE, "resume");
     check(terminates([&] { racers[0] = std::move(racers[1]); }), "a racer over an open one");
     check(terminates([&] { sweepers[0] = Sweeper(); }), "a closed sweeper over an open one");
-    check(terminates([&] { heap = std::move(other); }), "a heap over one whose members race");
+    check(terminates([&] { heap = std::move(other); }), "a heap over one that races");
     Racer &same = racers[0];
     racers[0] = std::move(same);
     check(racers[0].is_open() && racers[1].is_open() && other.is_open(), "all are open");
@@ -250,9 +292,11 @@ static void assignments() {
 }
 
 int main() {
+    check(std::strcmp(garbage_first::version(), G1_VERSION) == 0, "the version of the header");
     assignments();
     cores();
     races();
+    ends();
     std::cout << passed << " passed, " << failed << " failed\n";
     return failed != 0;
 }
