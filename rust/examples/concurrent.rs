@@ -4,7 +4,7 @@
 //! one it returns it. It hands its logs on to a refiner, which has the sweepers between the pauses.
 //! At a pause the drain of each region is compared with a scan of all slots, and one region is
 //! redirected into the next.
-use ninkoda::concurrent::{Paused, Queued, Racer, Refiner};
+use ninkoda::concurrent::{Paused, Queue, Queued, Racer, Refiner};
 use ninkoda::{Counts, Refusal, Slot};
 use std::collections::BTreeSet;
 use std::error::Error;
@@ -20,8 +20,12 @@ const COUNTS: Counts = Counts {
 const SLOTS: u32 = COUNTS.regions * COUNTS.cards * COUNTS.slots;
 const MUTATORS: usize = 4;
 const SWEEPERS: usize = 2;
-/// Logs that may wait for a refinement thread.
-const LOGS: usize = 64;
+/// Logs that may wait for a refinement thread, and do so until there are 8.
+const QUEUE: Queue = Queue {
+    room: 64,
+    start: 8,
+    stop: 2,
+};
 
 type Result<T, E = Box<dyn Error + Send + Sync>> = std::result::Result<T, E>;
 
@@ -137,7 +141,7 @@ fn main() -> Result<()> {
     let (mut all, mut wrong, mut moved) = (0, 0, 0);
     let mut heap = Paused::open(COUNTS, MUTATORS, SWEEPERS)?;
     let slots: Result<Vec<Slot>, Refusal> = (0..SLOTS).map(|n| heap.slot(n)).collect();
-    let (slots, refiner) = (Arc::new(slots?), Arc::new(Refiner::open(LOGS, SWEEPERS)?));
+    let (slots, refiner) = (Arc::new(slots?), Arc::new(Refiner::open(QUEUE, SWEEPERS)?));
     let start = |number| Mutator::start(number, slots.clone(), stores, refiner.clone());
     let mutators: Vec<Mutator> = (0..MUTATORS as u64).map(start).collect();
     for cycle in 0..cycles {

@@ -4,7 +4,7 @@
 //! words. The heap is a ring of regions: new objects fill one after the other, and a pause
 //! evacuates the oldest. References into these are roots, or on drained cards: a scan of all fields
 //! checks that, and a full trace the evacuation.
-use ninkoda::concurrent::{Paused, Queued, Racer, Racing, Refiner, Word};
+use ninkoda::concurrent::{Paused, Queue, Queued, Racer, Racing, Refiner, Word};
 use ninkoda::{Cleared, Counts, Refusal, Slot};
 use std::error::Error;
 use std::sync::atomic::{AtomicU32, Ordering::SeqCst};
@@ -23,7 +23,11 @@ const SLOTS: u32 = COUNTS.regions * REGION;
 const MUTATORS: usize = 8;
 const SWEEPERS: usize = 2;
 /// Logs that may wait for a refinement thread.
-const LOGS: usize = 16;
+const QUEUE: Queue = Queue {
+    room: 16,
+    start: 1,
+    stop: 0,
+};
 /// Fields of an object.
 const FIELDS: u32 = 2;
 /// The height of a mutator's tree.
@@ -59,7 +63,7 @@ impl Runtime {
             roots: Default::default(),
             taken: AtomicU32::new(0),
             freed: AtomicU32::new(0),
-            refiner: Refiner::open(LOGS, SWEEPERS)?,
+            refiner: Refiner::open(QUEUE, SWEEPERS)?,
         })
     }
 
@@ -357,23 +361,23 @@ impl Trace {
     }
 }
 
-/// A thread that works with each member that it is given, and then returns it.
-struct Worker<Member> {
-    give: Sender<Member>,
-    back: Receiver<Member>,
+/// A thread that works with each racer or sweeper that it is given, and then returns it.
+struct Worker<Seat> {
+    give: Sender<Seat>,
+    back: Receiver<Seat>,
 }
 
-impl<'scope, Member: Send + 'scope> Worker<Member> {
-    fn start<Work>(scope: &'scope Scope<'scope, '_>, mut work: Work) -> Worker<Member>
+impl<'scope, Seat: Send + 'scope> Worker<Seat> {
+    fn start<Work>(scope: &'scope Scope<'scope, '_>, mut work: Work) -> Worker<Seat>
     where
-        Work: FnMut(&mut Member) -> Result<(), Refusal> + Send + 'scope,
+        Work: FnMut(&mut Seat) -> Result<(), Refusal> + Send + 'scope,
     {
-        let (give, members) = channel();
+        let (give, seats) = channel();
         let (returns, back) = channel();
         scope.spawn(move || {
-            for mut member in members {
-                work(&mut member).expect("nothing is refused here");
-                let _ = returns.send(member);
+            for mut seat in seats {
+                work(&mut seat).expect("nothing is refused here");
+                let _ = returns.send(seat);
             }
         });
         Worker { give, back }
@@ -400,7 +404,7 @@ fn start<'scope>(
     Ok(mutators)
 }
 
-/// Lets the members race until all mutators have stopped for a pause.
+/// Lets the heap race until all mutators have stopped for a pause.
 fn race(
     runtime: &Runtime,
     heap: Racing,

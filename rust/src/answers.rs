@@ -7,7 +7,7 @@ use std::fmt;
 /// Why a call was refused. Nothing has changed then.
 #[derive(Clone, Copy, Debug, PartialEq, Eq)]
 pub enum Refusal {
-    /// Memory was refused.
+    /// An allocation failed.
     NoMemory,
     /// The counts of a heap are outside their limits.
     BadLayout,
@@ -25,10 +25,10 @@ pub enum Refusal {
     SameRegion,
     /// A racer's log is full: take it, and store again.
     LogFull,
-    /// Not as many racers or sweepers as a heap may have.
-    BadMembers,
+    /// Not as many racers or sweepers as a heap may have, or more readers than it may have.
+    BadHandles,
     /// A racer or a sweeper of the heap that was to be paused was not handed in.
-    MembersOut,
+    StillOut,
     /// A word of data is less than [`DATA`](crate::concurrent::DATA).
     BadWord,
     /// A slot of the region that was to be forgotten refers out of it.
@@ -51,7 +51,7 @@ impl Refusal {
             library::TOO_MANY_CARDS => Refusal::TooManyCards,
             library::SAME_REGION => Refusal::SameRegion,
             library::LOG_FULL => Refusal::LogFull,
-            library::BAD_MEMBERS => Refusal::BadMembers,
+            library::BAD_HANDLES => Refusal::BadHandles,
             library::BAD_WORD => Refusal::BadWord,
             library::STILL_REFERENCED => Refusal::StillReferenced,
             word => Refusal::Unexpected(word),
@@ -71,11 +71,11 @@ impl fmt::Display for Refusal {
             Refusal::TooManyCards => "more cards than a queue has",
             Refusal::SameRegion => "the same region twice",
             Refusal::LogFull => "the log is full",
-            Refusal::BadMembers => "a heap of too few or too many members",
-            Refusal::MembersOut => "a member was not handed in",
+            Refusal::BadHandles => "a wrong number of racers, sweepers or readers",
+            Refusal::StillOut => "a racer or a sweeper was not handed in",
             Refusal::BadWord => "a word that is no data",
             Refusal::StillReferenced => "a reference leaves the region",
-            Refusal::OtherHeap => "a number or a member of another heap",
+            Refusal::OtherHeap => "a number, a racer or a sweeper of another heap",
             Refusal::Unexpected(word) => return write!(f, "an unexpected code: {word}"),
         })
     }
@@ -171,7 +171,7 @@ pub struct Refined {
     pub hot: u32,
     /// How many cards were not dirty.
     pub skipped: u32,
-    /// Memory was refused midway: hand the same cards in again.
+    /// An allocation failed midway: hand the same cards in again.
     pub is_short: bool,
 }
 
@@ -185,7 +185,7 @@ pub enum Drained {
         /// The cards that were refined, in order.
         refined: Vec<Card>,
     },
-    /// Memory was refused midway: drain again.
+    /// An allocation failed midway: drain again.
     Short {
         /// The cards that were refined, in order; the others are pending as before.
         refined: Vec<Card>,
@@ -228,7 +228,7 @@ pub enum Redirected {
         /// The cards that were refined, in order.
         refined: Vec<Card>,
     },
-    /// Memory was refused midway, and no slot has changed: redirect again.
+    /// An allocation failed midway, and no slot has changed: redirect again.
     Short {
         /// The cards that were refined, in order; the others are pending as before.
         refined: Vec<Card>,

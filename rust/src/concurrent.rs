@@ -1,22 +1,24 @@
 //! A concurrent heap: mutators store by racers and refinement threads refine by sweepers, each in a
 //! thread of its own, with no lock, and at a pause the collector has the heap.
 //!
-//! A heap begins as [`Paused`]. [`Paused::resume`] hands its members out, a [`Racer`] for each
-//! mutator thread and a [`Sweeper`] for each refinement thread, and leaves it [`Racing`]. Each
-//! thread owns its member, so it may keep it for as long as it likes, pass it to another thread, or
-//! return it when it ends. [`Racing::pause`] takes all members back and gives the paused heap.
-//! Neither copies anything or takes memory, and a number of the heap stays good through all of
-//! them. Several threads read one pause at once by [`Paused::read`]. A [`Refiner`] has refinement
-//! threads with their queue.
+//! A heap begins as [`Paused`]. [`Paused::resume`] hands out a [`Racer`] for each mutator thread
+//! and a [`Sweeper`] for each refinement thread, and leaves it [`Racing`]. Each thread owns its own,
+//! so it may keep it for as long as it likes, pass it to another thread, or return it when it ends.
+//! [`Racing::pause`] takes all of them back and gives the paused heap. Neither copies anything or
+//! takes memory, and a number of the heap stays good through all of them. Several threads read one
+//! pause at once by [`Paused::read`]. A [`Refiner`] has refinement threads with their queue.
+//!
+//! The members of a region are the cards of its remembered set.
 //!
 //! A runtime may have its fields in the heap's words, and read them by [`Racer::word`]. If it keeps
 //! its references in memory of its own, it orders the stores to one slot, around both its own store
 //! and the call, or tells the library again until it was told what memory holds:
-//! `docs/c.md` has the loop. You begin no pause while a thread is between a store of
-//! its own and the call that reports it.
+//! `g1.h` has the loop. You begin no pause while a thread is between a store of its own and the
+//! call that reports it.
 //!
-//! A thread that leaves for a system call, or blocks, returns its member before: a pause takes all
-//! members in. If there may be more mutators than [`RACERS`], several share one in a `Mutex`.
+//! A thread that leaves for a system call, or blocks, returns its racer or sweeper before, as a
+//! pause takes all of them in. If there may be more mutators than [`RACERS`], several share one in a
+//! `Mutex`.
 //!
 //! ```
 //! use ninkoda::{concurrent::Paused, Counts};
@@ -44,13 +46,13 @@ mod refiner;
 pub use members::{StoreCounts, SweepCounts};
 pub use paused::Members;
 pub use readers::{Reader, Readers};
-pub use refiner::{Handled, Queued, Refiner};
+pub use refiner::{Handled, Queue, Queued, Refiner};
 
 use crate::library::{
     g1_heap_close, g1_heap_pause, HeapHandle, RacerHandle, ReaderHandle, SweeperHandle, DONE,
 };
 use crate::numbers::{numbers_of, Numbers};
-use crate::{Refusal, Refused, Slot};
+use crate::{Refusal, Refused, Slot, LOG};
 use std::ptr::null_mut;
 use std::sync::atomic::AtomicU64;
 
@@ -97,6 +99,35 @@ impl Word {
             Word::Data(word) => Ok(word),
         }
     }
+
+    /// Has a row of words stored from a slot on, by blocks that lie on the stack, until one is not
+    /// stored whole. Returns how many words were stored. Before the first block it looks at all.
+    ///
+    /// Refused with [`Refusal::OtherHeap`], [`Refusal::NoSlot`] or [`Refusal::BadWord`].
+    fn store_row(
+        numbers: &Numbers,
+        first: Slot,
+        words: &[Word],
+        mut store: impl FnMut(u32, &[u64]) -> Result<usize, Refusal>,
+    ) -> Result<usize, Refusal> {
+        numbers.has_row(first, words.len())?;
+        for word in words {
+            word.number(numbers)?;
+        }
+        let mut stored = 0;
+        for block in words.chunks(LOG) {
+            let mut room = [0; LOG];
+            for (number, word) in room.iter_mut().zip(block) {
+                *number = word.number(numbers)?;
+            }
+            let made = store(first.number + stored as u32, &room[..block.len()])?;
+            stored += made;
+            if made < block.len() {
+                break;
+            }
+        }
+        Ok(stored)
+    }
 }
 
 /// Where the words of the slots are, from when the heap is opened until it is closed.
@@ -107,9 +138,9 @@ struct Words(*const AtomicU64);
 unsafe impl Send for Words {}
 unsafe impl Sync for Words {}
 
-/// A heap's handle, whatever its members do.
+/// A heap's handle, whether it races or not.
 ///
-/// The library refuses to close it while they race, so that their memory stays then.
+/// The library refuses to close it while it races, so that its memory stays then.
 struct Life {
     handle: HeapHandle,
     numbers: Numbers,
@@ -127,7 +158,7 @@ impl Drop for Life {
     }
 }
 
-/// A member's handle, on a cache line of its own, since each of its calls writes it.
+/// The handle of a racer, sweeper or reader, on a cache line of its own, since its calls write it.
 #[repr(align(64))]
 struct Seat<Handle> {
     handle: Handle,
@@ -138,15 +169,15 @@ struct Seat<Handle> {
 /// A concurrent heap at a pause, which the collector has.
 pub struct Paused {
     life: Life,
-    // Empty, with room for the members, so that a resume takes no memory.
+    // Empty, with room for all of them, so that a resume takes no memory.
     racers: Vec<Racer>,
     sweepers: Vec<Sweeper>,
 }
 
-/// A concurrent heap while its members race.
+/// A concurrent heap that races.
 ///
-/// A member that is dropped never comes back, so that its heap can't be paused. The memory of a
-/// heap that is dropped while it races is not freed.
+/// A racer or a sweeper that is dropped never comes back, so its heap cannot be paused. The memory
+/// of a heap that is dropped while it races is not freed.
 pub struct Racing {
     life: Life,
 }
@@ -194,10 +225,10 @@ impl Life {
 }
 
 impl Racing {
-    /// Begins a pause, with all members of the heap in any order. Their logs stay with the heap. No
-    /// memory.
+    /// Begins a pause, with all racers and sweepers of the heap in any order. Their logs stay with
+    /// the heap. No memory.
     ///
-    /// Refused with [`Refusal::OtherHeap`] or [`Refusal::MembersOut`]: the members race on, and the
+    /// Refused with [`Refusal::OtherHeap`] or [`Refusal::StillOut`]: the heap races on, and the
     /// error has them all. By `?` it goes into a `Box<dyn Error + Send + Sync>` like any other.
     #[allow(clippy::type_complexity)]
     pub fn pause(
@@ -226,7 +257,7 @@ impl Racing {
             life.numbers.has(home)?;
         }
         if (racers.len(), sweepers.len()) != (life.racers, life.sweepers) {
-            return Err(Refusal::MembersOut);
+            return Err(Refusal::StillOut);
         }
         let mut racing: [_; RACERS] = row(NO_RACER, racers.iter().map(|it| it.seat.handle));
         let mut sweeping: [_; SWEEPERS] = row(NO_SWEEPER, sweepers.iter().map(|it| it.seat.handle));

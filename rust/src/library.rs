@@ -1,6 +1,6 @@
 //! The calls of `include/g1.h`, as they are.
 use crate::{Counts, Totals};
-use std::ffi::c_void;
+use std::ffi::{c_char, c_void};
 
 #[repr(C)]
 #[derive(Default)]
@@ -68,6 +68,7 @@ unsafe impl Sync for SweeperHandle {}
 unsafe impl Sync for ReaderHandle {}
 
 extern "C" {
+    pub fn g1_version() -> *const c_char;
     pub fn g1_open(handle: *mut Handle, counts: *const Counts, hot: u32, ring: u32) -> u32;
     pub fn g1_close(handle: *mut Handle) -> u32;
     pub fn g1_store(handle: *mut Handle, slot: u32, target: u32, kind: *mut u32) -> u32;
@@ -157,6 +158,14 @@ extern "C" {
         from: u32,
         card: *mut u32,
     ) -> u32;
+    pub fn g1_heap_next_into(
+        heap: *mut HeapHandle,
+        regions: *const u32,
+        regions_length: usize,
+        from: u32,
+        card: *mut u32,
+    ) -> u32;
+    pub fn g1_heap_next_dirty(heap: *mut HeapHandle, from: u32, card: *mut u32) -> u32;
     pub fn g1_heap_refine(heap: *mut HeapHandle) -> u32;
     pub fn g1_heap_store(heap: *mut HeapHandle, slot: u32, target: u32, kind: *mut u32) -> u32;
     pub fn g1_heap_store_all(
@@ -164,6 +173,12 @@ extern "C" {
         stores: *const Reference,
         stores_length: usize,
         stored: *mut usize,
+    ) -> u32;
+    pub fn g1_heap_store_words(
+        heap: *mut HeapHandle,
+        slot: u32,
+        words: *const u64,
+        words_length: usize,
     ) -> u32;
     pub fn g1_heap_store_data(heap: *mut HeapHandle, slot: u32, word: u64) -> u32;
     pub fn g1_heap_copy(heap: *mut HeapHandle, from: u32, to: u32, count: u32) -> u32;
@@ -200,6 +215,13 @@ extern "C" {
         racer: *mut RacerHandle,
         stores: *const Reference,
         stores_length: usize,
+        stored: *mut usize,
+    ) -> u32;
+    pub fn g1_race_store_words(
+        racer: *mut RacerHandle,
+        slot: u32,
+        words: *const u64,
+        words_length: usize,
         stored: *mut usize,
     ) -> u32;
     pub fn g1_race_store_data(racer: *mut RacerHandle, slot: u32, word: u64, old: *mut u64) -> u32;
@@ -282,5 +304,5 @@ pub const SAME_REGION: u32 = 18;
 pub const STILL_PENDING: u32 = 19;
 pub const STILL_REFERENCED: u32 = 20;
 pub const LOG_FULL: u32 = 22;
-pub const BAD_MEMBERS: u32 = 23;
+pub const BAD_HANDLES: u32 = 23;
 pub const BAD_WORD: u32 = 27;

@@ -200,6 +200,16 @@ impl Numbers {
         }
     }
 
+    /// Refused with [`Refusal::OtherHeap`] if the slot is another heap's, or with
+    /// [`Refusal::NoSlot`] if the heap has fewer slots from it on.
+    pub fn has_row(&self, first: Slot, count: usize) -> Result<(), Refusal> {
+        self.has(first.home)?;
+        if count > (self.all_cards() * self.counts.slots - first.number) as usize {
+            return Err(Refusal::NoSlot);
+        }
+        Ok(())
+    }
+
     /// The words of a store.
     pub fn words_of(&self, slot: Slot, target: Option<Slot>) -> Result<(u32, u32), Refusal> {
         self.has(slot.home)?;

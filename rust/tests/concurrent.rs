@@ -1,4 +1,4 @@
-//! A concurrent heap: its members handed out, taken in, missing, and of another heap.
+//! A concurrent heap: its racers and sweepers handed out, taken in, missing, and of another heap.
 use ninkoda::concurrent::{
     Paused, Racer, Racing, StoreCounts, SweepCounts, Sweeper, Word, DATA, RACERS, SWEEPERS,
 };
@@ -36,7 +36,7 @@ fn has_as_many_members_as_it_was_opened_with() {
     ];
     for (racers, sweepers) in many {
         let refused = Paused::open(COUNTS, racers, sweepers).err();
-        assert_eq!(refused, Some(Refusal::BadMembers));
+        assert_eq!(refused, Some(Refusal::BadHandles));
     }
     let none = Counts {
         regions: 0,
@@ -73,7 +73,18 @@ fn a_walk_meets_the_members_of_a_region() {
         from = card.number() + 1;
     }
     assert_eq!(met, cards);
+    // For several regions each card once, and none that lies in one of them.
+    let regions = [1, 3].map(|number| heap.region(number).expect("a region"));
+    (met, from) = (Vec::new(), 0);
+    while let Some(card) = heap.next_into(&regions, from).expect("a step") {
+        met.push(card);
+        from = card.number() + 1;
+    }
+    assert_eq!(met, cards[..2]);
+    let dirty = heap.card(701).expect("a card");
+    assert_eq!(heap.next_dirty(0), Ok(Some(dirty)));
     let other = self::heap().region(1).expect("a region");
+    assert_eq!(heap.next_into(&[region, other], 0), Err(Refusal::OtherHeap));
     assert_eq!(heap.members_iter(other).err(), Some(Refusal::OtherHeap));
     assert_eq!(heap.next_member(other, 0), Err(Refusal::OtherHeap));
 }
@@ -105,7 +116,7 @@ fn is_read_by_readers_at_once_and_goes_on() {
     heap.refine().expect("a refinement");
     heap.store_data(slot(&heap, 5), DATA + 5).expect("data");
     let (region, other) = (to.region(), Paused::open(COUNTS, 1, 1).expect("a heap"));
-    assert_eq!(heap.read(4).err(), Some(Refusal::BadMembers));
+    assert_eq!(heap.read(4).err(), Some(Refusal::BadHandles));
     for count in [3, 0, 1] {
         let mut readers = heap.read(count).expect("a reading");
         assert_eq!(readers.each().count(), count);
@@ -169,12 +180,12 @@ fn is_not_paused_while_a_member_is_out() {
     let (heap, mut racers, sweepers) = race();
     let racer = racers.pop().expect("a racer");
     let refused = heap.pause(racers, sweepers).expect_err("a racer is out");
-    assert_eq!(refused.refusal, Refusal::MembersOut);
+    assert_eq!(refused.refusal, Refusal::StillOut);
     let (heap, mut racers, mut sweepers) = refused.value;
     racers.push(racer);
     sweepers.clear();
     let refused = heap.pause(racers, sweepers).expect_err("no sweeper");
-    assert_eq!(refused.refusal, Refusal::MembersOut);
+    assert_eq!(refused.refusal, Refusal::StillOut);
 }
 
 #[test]
@@ -211,7 +222,7 @@ fn pause_without_a_racer() -> Result<Paused, Box<dyn Error + Send + Sync>> {
 #[test]
 fn has_errors_that_go_into_a_box() {
     let error = pause_without_a_racer().expect_err("a racer is out");
-    assert_eq!(error.to_string(), Refusal::MembersOut.to_string());
+    assert_eq!(error.to_string(), Refusal::StillOut.to_string());
     let (give, members) = channel();
     drop(members);
     let (_heap, mut racers, _sweepers) = race();
@@ -250,12 +261,16 @@ fn says_when_a_log_is_full() {
         assert_eq!(racer.store(near(number), far), Ok(Kind::Logged(card)));
     }
     let last = near(LOG as u32);
-    assert_eq!(racer.store(last, None), Err(Refusal::LogFull));
-    assert_eq!(racer.store_all(&[(last, None)]), Ok(0));
+    assert_eq!(racer.store(last, far), Err(Refusal::LogFull));
+    assert_eq!(racer.store_all(&[(last, None), (last, far)]), Ok(1));
+    let beside = near(LOG as u32 + 1);
+    assert_eq!(racer.store(last, Some(beside)), Ok(Kind::SameRegion));
+    assert_eq!(racer.store(last, None), Ok(Kind::Null));
     assert_eq!(racer.store_data(last, DATA), Ok(Word::Null));
     let log = racer.take_log().expect("a log");
     assert_eq!(log.len(), LOG);
-    assert_eq!(racer.store(last, None), Ok(Kind::Null));
+    let card = heap.card(LOG as u32).expect("a card");
+    assert_eq!(racer.store(last, far), Ok(Kind::Logged(card)));
     assert!(heap.pause(racers, sweepers).is_ok());
 }
 
@@ -307,6 +322,44 @@ fn swaps_and_compares() {
         other.map(Word::Reference).ok_or(Refusal::NoSlot)
     );
     assert!(heap.pause(racers, sweepers).is_ok());
+}
+
+#[test]
+fn stores_rows_of_words() {
+    let (heap, mut racers, sweepers) = race();
+    let racer = &mut racers[0];
+    let near = |number| heap.slot(number).expect("a slot");
+    let far = Word::Reference(near(512));
+    let row = [Word::Data(DATA), far, Word::Null, Word::Reference(near(1))];
+    assert_eq!(racer.store_words(near(0), &row), Ok(4));
+    for (number, word) in row.into_iter().enumerate() {
+        assert_eq!(racer.word(near(number as u32)), Ok(word));
+    }
+    let bad = [Word::Null, Word::Data(DATA - 1)];
+    assert_eq!(racer.store_words(near(0), &bad), Err(Refusal::BadWord));
+    assert_eq!(racer.store_words(near(1023), &row), Err(Refusal::NoSlot));
+    let foreign = [Word::Null, Word::Reference(slot(&self::heap(), 0))];
+    assert_eq!(
+        racer.store_words(near(0), &foreign),
+        Err(Refusal::OtherHeap)
+    );
+    assert_eq!(racer.word(near(0)), Ok(row[0]));
+    assert_eq!(racer.take_log().map(|log| log.len()), Ok(1));
+    // (the card of slot 1 is dirty already)
+    let long = [far; 300];
+    assert_eq!(racer.store_words(near(0), &long), Ok(LOG + 1));
+    assert_eq!(racer.take_log().map(|log| log.len()), Ok(LOG));
+    let rest = near(LOG as u32 + 1);
+    assert_eq!(racer.store_words(rest, &long[LOG + 1..]), Ok(299 - LOG));
+    let mut heap = heap.pause(racers, sweepers).expect("all are in");
+    let (first, last) = (slot(&heap, 0), slot(&heap, 1023));
+    assert_eq!(heap.store_words(first, &[Word::Null; 300]), Ok(()));
+    assert_eq!(heap.target(slot(&heap, 299)), Ok(None));
+    assert_eq!(heap.store_words(last, &[far; 2]), Err(Refusal::NoSlot));
+    assert_eq!(
+        heap.store_words(last, &[Word::Null, far]),
+        Err(Refusal::NoSlot)
+    );
 }
 
 #[test]

@@ -21,6 +21,11 @@ fn card(core: &Core, number: u32) -> Card {
 }
 
 #[test]
+fn runs_with_the_library_of_its_version() {
+    assert_eq!(ninkoda::version(), env!("CARGO_PKG_VERSION"));
+}
+
+#[test]
 fn has_its_numbers_and_no_further() {
     let core = core();
     assert_eq!(core.slot(31).map(Slot::number), Ok(31));

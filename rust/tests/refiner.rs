@@ -1,6 +1,8 @@
 //! What each call of a refiner returns, and what becomes of the logs that are handed on.
-use ninkoda::concurrent::{Handled, Paused, Queued, Racer, Racing, Refiner, Sweeper, SWEEPERS};
-use ninkoda::{Counts, Kind, Refusal, Slot, LOG};
+use ninkoda::concurrent::{
+    Handled, Paused, Queue, Queued, Racer, Racing, Refiner, Sweeper, Word, SWEEPERS,
+};
+use ninkoda::{Counts, Exchanged, Kind, Refusal, Slot, LOG};
 use std::io::ErrorKind;
 use std::thread;
 use std::time::Duration;
@@ -11,6 +13,15 @@ const COUNTS: Counts = Counts {
     cards: 512,
     slots: 1,
 };
+
+/// A queue of so much room, whose logs are refined at once.
+fn eager(room: usize) -> Queue {
+    Queue {
+        room,
+        start: 1,
+        stop: 0,
+    }
+}
 
 fn race() -> (Racing, Vec<Racer>, Vec<Sweeper>) {
     let heap = Paused::open(COUNTS, 1, 2).expect("a heap");
@@ -48,22 +59,31 @@ fn resumed(refiner: &Refiner, sweepers: Vec<Sweeper>) {
 
 #[test]
 fn is_opened_within_its_limits() {
-    for (logs, sweepers) in [(0, 1), (1, 0), (1, SWEEPERS + 1)] {
-        let refused = Refiner::open(logs, sweepers).expect_err("a limit");
+    let queue = |room, start, stop| Queue { room, start, stop };
+    for (queue, sweepers) in [
+        (queue(0, 1, 0), 1),
+        (queue(1, 0, 0), 1),
+        (queue(1, 2, 0), 1),
+        (queue(2, 2, 2), 1),
+        (queue(1, 1, 0), 0),
+        (queue(1, 1, 0), SWEEPERS + 1),
+    ] {
+        let refused = Refiner::open(queue, sweepers).expect_err("a limit");
         assert_eq!(refused.kind(), ErrorKind::InvalidInput);
     }
-    let refiner = Refiner::open(1, SWEEPERS).expect("a refiner");
+    assert!(Refiner::open(Queue::default(), 1).is_ok());
+    let refiner = Refiner::open(eager(1), SWEEPERS).expect("a refiner");
     assert_eq!(refiner.handled(), Handled::default());
     assert!(refiner.pause(Queued::Refine).is_empty());
 }
 
 #[test]
 fn takes_all_sweepers_of_one_heap_at_a_pause() {
-    let refiner = Refiner::open(3, 2).expect("a refiner");
+    let refiner = Refiner::open(eager(3), 2).expect("a refiner");
     let (heap, mut racers, mut sweepers) = race();
     let (other, mut others, mut other_sweepers) = race();
     let few = refiner.resume(vec![sweepers.remove(0)]).expect_err("one");
-    assert_eq!(few.refusal, Refusal::MembersOut);
+    assert_eq!(few.refusal, Refusal::StillOut);
     sweepers.extend(few.value);
     std::mem::swap(&mut sweepers[0], &mut other_sweepers[0]);
     let mixed = refiner.resume(sweepers).expect_err("sweepers of two heaps");
@@ -74,7 +94,7 @@ fn takes_all_sweepers_of_one_heap_at_a_pause() {
     let twice = refiner
         .resume(other_sweepers)
         .expect_err("it is not paused");
-    assert_eq!(twice.refusal, Refusal::MembersOut);
+    assert_eq!(twice.refusal, Refusal::StillOut);
     let (slot, target) = reference(&others[0], 0);
     assert!(refiner.store(&mut others[0], slot, target).is_ok());
     assert_eq!(refiner.hand_on(&mut others[0]), Err(Refusal::OtherHeap));
@@ -89,7 +109,7 @@ fn takes_all_sweepers_of_one_heap_at_a_pause() {
 
 #[test]
 fn refines_or_drops_each_log() {
-    let refiner = Refiner::open(3, 2).expect("a refiner");
+    let refiner = Refiner::open(eager(3), 2).expect("a refiner");
     let (heap, mut racers, mut sweepers) = race();
     let racer = &mut racers[0];
     let mut logs = hand_on_each(&refiner, racer, 2047..2048);
@@ -138,7 +158,7 @@ fn refines_or_drops_each_log() {
 
 #[test]
 fn hands_a_full_log_on_by_the_next_store() {
-    let refiner = Refiner::open(1, 2).expect("a refiner");
+    let refiner = Refiner::open(eager(1), 2).expect("a refiner");
     let (heap, mut racers, sweepers) = race();
     resumed(&refiner, sweepers);
     for number in 0..=LOG as u32 {
@@ -152,32 +172,125 @@ fn hands_a_full_log_on_by_the_next_store() {
     assert!(heap.pause(racers, sweepers).is_ok());
 }
 
+/// Waits until this many cards are refined, or for long, and returns what was handled then.
+fn wait_for(refiner: &Refiner, refined: u64) -> Handled {
+    for _ in 0..1000 {
+        if refiner.handled().refined >= refined {
+            break;
+        }
+        thread::sleep(Duration::from_millis(10));
+    }
+    refiner.handled()
+}
+
+#[test]
+fn refines_from_the_start_to_the_stop() {
+    let queue = Queue {
+        room: 4,
+        start: 3,
+        stop: 1,
+    };
+    let refiner = Refiner::open(queue, 2).expect("a refiner");
+    let (heap, mut racers, sweepers) = race();
+    resumed(&refiner, sweepers);
+    for (round, below) in [(0, 0..2), (1, 3..4), (2, 5..6)] {
+        let last = below.end;
+        hand_on_each(&refiner, &mut racers[0], below);
+        thread::sleep(Duration::from_millis(50));
+        let handled = refiner.handled();
+        assert_eq!(
+            (handled.refined, handled.length),
+            (2 * round, 2),
+            "it waits"
+        );
+        hand_on_each(&refiner, &mut racers[0], last..last + 1);
+        wait_for(&refiner, 2 * round + 2);
+        thread::sleep(Duration::from_millis(50));
+        let handled = refiner.handled();
+        assert_eq!(
+            (handled.refined, handled.length),
+            (2 * round + 2, 1),
+            "one is left"
+        );
+    }
+    let sweepers = refiner.pause(Queued::Refine);
+    assert_eq!(refiner.handled().refined, 7);
+    assert!(heap.pause(racers, sweepers).is_ok());
+}
+
+#[test]
+fn makes_each_store_after_a_full_log() {
+    let refiner = Refiner::open(eager(8), 2).expect("a refiner");
+    let (heap, mut racers, sweepers) = race();
+    let racer = &mut racers[0];
+    resumed(&refiner, sweepers);
+    let (slot, target) = reference(racer, 0);
+    let other = racer.slot(COUNTS.cards + 1).expect("a slot");
+    let word = |target: Option<Slot>| target.map_or(Word::Null, Word::Reference);
+    for way in 0..4 {
+        // (on cards that are clean)
+        let mut numbers = 300 * way + 1..;
+        let is_full = |number| {
+            let (slot, target) = reference(racer, number);
+            racer.store(slot, target) == Err(Refusal::LogFull)
+        };
+        assert!(numbers.any(is_full));
+        assert_eq!(racer.store(slot, target), Err(Refusal::LogFull));
+        let handled = refiner.handled();
+        match way {
+            0 => assert!(refiner.swap(racer, slot, target).is_ok()),
+            1 => assert!(matches!(
+                refiner.compare_exchange(racer, slot, target, Some(other)),
+                Ok(Exchanged::Stored(_))
+            )),
+            2 => assert_eq!(
+                refiner.swap_word(racer, slot, word(target)).map(|it| it.1),
+                Ok(word(Some(other)))
+            ),
+            _ => assert!(matches!(
+                refiner.compare_exchange_word(racer, slot, word(target), word(Some(other))),
+                Ok(Exchanged::Stored(_))
+            )),
+        }
+        let after = refiner.handled();
+        assert_eq!(
+            after.queued + after.dropped,
+            handled.queued + handled.dropped + 1
+        );
+        racer.take_log().expect("a log");
+    }
+    let all: Vec<_> = (1024..2000)
+        .map(|number| reference(racer, number))
+        .collect();
+    assert_eq!(refiner.store_all(racer, &all), Ok(()));
+    assert_eq!(racer.word(all[975].0), Ok(word(all[975].1)));
+    let row: Vec<_> = all.iter().rev().map(|(_, target)| word(*target)).collect();
+    assert_eq!(refiner.store_words(racer, all[0].0, &row), Ok(()));
+    assert_eq!(racer.word(all[975].0), Ok(row[975]));
+    let sweepers = refiner.pause(Queued::Refine);
+    assert!(heap.pause(racers, sweepers).is_ok());
+}
+
 #[test]
 fn wakes_for_a_log() {
-    let refiner = Refiner::open(1, 2).expect("a refiner");
+    let refiner = Refiner::open(eager(1), 2).expect("a refiner");
     let (heap, mut racers, sweepers) = race();
     resumed(&refiner, sweepers);
     thread::sleep(Duration::from_millis(50));
     assert_eq!(hand_on_each(&refiner, &mut racers[0], 0..1), 1);
-    let wait = |_: &u32| {
-        thread::sleep(Duration::from_millis(10));
-        refiner.handled().refined == 1
-    };
-    assert!(
-        (0..1000).any(|turn| wait(&turn)),
-        "no thread has refined it"
-    );
+    let refined = wait_for(&refiner, 1).refined;
+    assert_eq!(refined, 1, "no thread has refined it");
     let sweepers = refiner.pause(Queued::Refine);
     assert!(heap.pause(racers, sweepers).is_ok());
 }
 
 #[test]
 fn ends_while_it_refines() {
-    let refiner = Refiner::open(1, 2).expect("a refiner");
+    let refiner = Refiner::open(eager(1), 2).expect("a refiner");
     let (heap, racers, sweepers) = race();
     resumed(&refiner, sweepers);
     drop(refiner);
     // (its sweepers never come back)
     let refused = heap.pause(racers, Vec::new()).expect_err("no sweeper");
-    assert_eq!(refused.refusal, Refusal::MembersOut);
+    assert_eq!(refused.refusal, Refusal::StillOut);
 }

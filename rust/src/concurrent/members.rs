@@ -3,8 +3,8 @@ use super::{Racer, Sweeper, Word};
 use crate::answers::done;
 use crate::library::{
     g1_race_compare_exchange, g1_race_compare_exchange_word, g1_race_refine, g1_race_store,
-    g1_race_store_all, g1_race_store_data, g1_race_swap, g1_race_swap_word, g1_race_take_log,
-    g1_racer_counts, g1_sweeper_counts, DIFFERS, DONE, FULL, NULL,
+    g1_race_store_all, g1_race_store_data, g1_race_store_words, g1_race_swap, g1_race_swap_word,
+    g1_race_take_log, g1_racer_counts, g1_sweeper_counts, DIFFERS, DONE, FULL, NULL,
 };
 use crate::numbers::Home;
 use crate::{Card, Exchanged, Kind, Refusal, Slot, LOG};
@@ -15,7 +15,7 @@ use std::sync::atomic::Ordering::Acquire;
 impl Racer {
     /// Stores a reference, or null, and never waits. A card that is logged is last in the log.
     ///
-    /// Refused with [`Refusal::LogFull`] (any store, of null too, while the log is full) or
+    /// Refused with [`Refusal::LogFull`] (the target is in another region, and the log is full) or
     /// [`Refusal::OtherHeap`]. Constant time, no memory.
     pub fn store(&mut self, slot: Slot, target: Option<Slot>) -> Result<Kind, Refusal> {
         let ((word, target), mut kind) = (self.seat.numbers.words_of(slot, target)?, 0);
@@ -83,6 +83,27 @@ impl Racer {
         Ok(made)
     }
 
+    /// Stores a row of words, in order, into as many slots from the first on, each as
+    /// [`Racer::swap_word`] does. Returns how many it stored: all, or those before one that refers
+    /// into another region while the log is full. Take the log, and go on with that one. It takes no
+    /// memory.
+    ///
+    /// Refused with [`Refusal::OtherHeap`], [`Refusal::NoSlot`] if the row leaves the heap, or
+    /// [`Refusal::BadWord`]: then it has stored nothing.
+    pub fn store_words(&mut self, first: Slot, words: &[Word]) -> Result<usize, Refusal> {
+        let (numbers, handle) = (self.seat.numbers, &mut self.seat.handle);
+        Word::store_row(&numbers, first, words, |slot, row| {
+            let mut stored = 0;
+            let word = unsafe {
+                g1_race_store_words(&mut *handle, slot, row.as_ptr(), row.len(), &mut stored)
+            };
+            match word {
+                DONE | FULL => Ok(stored),
+                word => Err(Refusal::of(word)),
+            }
+        })
+    }
+
     /// Stores data, a word from [`DATA`](super::DATA) on, and returns what the slot had. It logs nothing, and
     /// never waits.
     ///
@@ -139,13 +160,13 @@ impl Racer {
     pub fn word(&self, slot: Slot) -> Result<Word, Refusal> {
         self.seat.numbers.has(slot.home)?;
         // SAFETY: the words are as many as the heap has slots, are written by atomic steps alone
-        // while this member is open, and stay until the heap is closed, which is after that.
+        // while this racer is open, and stay until the heap is closed, which is after that.
         let word = unsafe { &*self.seat.words.0.add(slot.number as usize) };
         Ok(Word::of(word.load(Acquire), &self.seat.numbers))
     }
 
     /// The cards of the log, oldest first; the log is empty then. They stay dirty until a sweeper
-    /// refines them, or the next pause.
+    /// refines them, or the next pause. Allocates the list.
     pub fn take_log(&mut self) -> Result<Vec<Card>, Refusal> {
         let mut cards = [0; LOG];
         let count = self.take_cards(&mut cards)?;

@@ -3,10 +3,10 @@ use super::{Life, Paused, Racer, Racing, Sweeper, Word, Words};
 use super::{NO_RACER, NO_SWEEPER, RACERS, SWEEPERS};
 use crate::answers::done;
 use crate::library::{
-    g1_heap_clear, g1_heap_copy, g1_heap_forget, g1_heap_is_pending, g1_heap_next_member,
-    g1_heap_open, g1_heap_redirect, g1_heap_refine, g1_heap_resume, g1_heap_status, g1_heap_store,
-    g1_heap_store_all, g1_heap_store_data, g1_heap_verify, g1_heap_wipe, g1_heap_words, HeapHandle,
-    DONE, NULL,
+    g1_heap_clear, g1_heap_copy, g1_heap_forget, g1_heap_is_pending, g1_heap_next_dirty,
+    g1_heap_next_into, g1_heap_next_member, g1_heap_open, g1_heap_redirect, g1_heap_refine,
+    g1_heap_resume, g1_heap_status, g1_heap_store, g1_heap_store_all, g1_heap_store_data,
+    g1_heap_store_words, g1_heap_verify, g1_heap_wipe, g1_heap_words, HeapHandle, DONE, NULL,
 };
 use crate::numbers::{Home, Numbers};
 use crate::{Card, Cleared, Counts, Kind, Refusal, Region, Slot, Totals};
@@ -18,9 +18,11 @@ use std::sync::atomic::Ordering::Acquire;
 // it, and an array is one of the wrapper's, of the length that is passed.
 impl Paused {
     /// A new heap, each of whose slots is null, with 1 to [`RACERS`] racers and 1 to [`SWEEPERS`]
-    /// sweepers.
+    /// sweepers. Takes 8 bytes a slot, 8 bytes a card, a bit for each pair of a card and a region and
+    /// one for each card, all of this twice meanwhile; and about 2.4 kilobytes for each racer and 0.3
+    /// for each sweeper.
     ///
-    /// Refused with [`Refusal::BadMembers`], [`Refusal::BadLayout`] or [`Refusal::NoMemory`].
+    /// Refused with [`Refusal::BadHandles`], [`Refusal::BadLayout`] or [`Refusal::NoMemory`].
     pub fn open(counts: Counts, racers: usize, sweepers: usize) -> Result<Paused, Refusal> {
         let (heap, mut start) = (null_mut(), null());
         let mut handle = HeapHandle { heap };
@@ -44,7 +46,7 @@ impl Paused {
         })
     }
 
-    /// Ends the pause: all members race from here on. Each racer has the log of the one that was at
+    /// Ends the pause: the heap races from here on. Each racer has the log of the one that was at
     /// its place when the pause began, or an empty one if the pause has refined. No memory.
     pub fn resume(self) -> (Racing, Vec<Racer>, Vec<Sweeper>) {
         let Paused {
@@ -114,7 +116,8 @@ impl Paused {
     }
 
     /// The remembered set of a region as it is recorded, ascending. Dirty cards may be missing from
-    /// it; after [`Paused::refine`], and until the next store, none is.
+    /// it; after [`Paused::refine`], and until the next store, none is. Time in the set, and a word
+    /// for each 64 cards of the heap. Allocates the list alone.
     ///
     /// Refused with [`Refusal::OtherHeap`].
     pub fn members(&mut self, region: Region) -> Result<Vec<Card>, Refusal> {
@@ -145,9 +148,34 @@ impl Paused {
         Ok(self.life.numbers.card(number).ok())
     }
 
+    /// The least card from the number `from` on that lies outside these regions and is recorded for
+    /// one of them: a walk over a collection set meets each card once. Stores, copies and wipes
+    /// change it as little as one by [`Paused::next_member`]. It takes memory for the numbers of the
+    /// regions.
+    ///
+    /// Refused with [`Refusal::OtherHeap`] if any region is another heap's.
+    pub fn next_into(&mut self, regions: &[Region], from: u32) -> Result<Option<Card>, Refusal> {
+        let numbers = regions
+            .iter()
+            .map(|region| self.life.numbers.has(region.home).map(|()| region.number))
+            .collect::<Result<Vec<u32>, Refusal>>()?;
+        let (mut number, handle) = (NULL, &mut self.life.handle);
+        let (given, length) = (numbers.as_ptr(), numbers.len());
+        done(unsafe { g1_heap_next_into(handle, given, length, from, &mut number) })?;
+        Ok(self.life.numbers.card(number).ok())
+    }
+
+    /// The least dirty card from the number `from` on. No memory.
+    pub fn next_dirty(&mut self, from: u32) -> Result<Option<Card>, Refusal> {
+        let mut number = NULL;
+        done(unsafe { g1_heap_next_dirty(&mut self.life.handle, from, &mut number) })?;
+        Ok(self.life.numbers.card(number).ok())
+    }
+
     /// Refines all that is dirty, empties the racers' logs, and returns the remembered set of a
-    /// region: every card outside it that refers into it, ascending. Some may be stale: they did
-    /// since the set was last cleared, and no longer do.
+    /// region: every card outside it that refers into it, ascending. Some may be stale: they no
+    /// longer refer into it, but did, or were recorded for it, when the heap was last resumed, or
+    /// have done so since. Time as of both calls; allocates the list alone.
     ///
     /// Refused with [`Refusal::OtherHeap`].
     pub fn drain(&mut self, region: Region) -> Result<Vec<Card>, Refusal> {
@@ -182,6 +210,20 @@ impl Paused {
             let (handle, given) = (&mut self.life.handle, some.as_ptr());
             done(unsafe { g1_heap_store_all(handle, given, some.len(), &mut stored) })?;
         }
+        Ok(())
+    }
+
+    /// The collector stores a row of words, in order, into as many slots from the first on: null and
+    /// references as [`Paused::store`] does, data as [`Paused::store_data`]. It takes no memory.
+    ///
+    /// Refused with [`Refusal::OtherHeap`], [`Refusal::NoSlot`] if the row leaves the heap, or
+    /// [`Refusal::BadWord`]: then it has stored nothing.
+    pub fn store_words(&mut self, first: Slot, words: &[Word]) -> Result<(), Refusal> {
+        let (numbers, handle) = (self.life.numbers, &mut self.life.handle);
+        Word::store_row(&numbers, first, words, |slot, row| {
+            done(unsafe { g1_heap_store_words(&mut *handle, slot, row.as_ptr(), row.len()) })?;
+            Ok(row.len())
+        })?;
         Ok(())
     }
 

@@ -30,7 +30,7 @@ numbers_of!(Reader<'_>, seat.numbers);
 impl Paused {
     /// Lets `count` threads read the pause at once, each by a reader of its own. No memory.
     ///
-    /// Refused with [`Refusal::BadMembers`] for more readers than the heap has racers and sweepers.
+    /// Refused with [`Refusal::BadHandles`] for more readers than the heap has racers and sweepers.
     ///
     /// ```
     /// # use ninkoda::{concurrent::Paused, Counts};
@@ -48,7 +48,7 @@ impl Paused {
     pub fn read(&mut self, count: usize) -> Result<Readers<'_>, Refusal> {
         let life = &mut self.life;
         if count > life.racers + life.sweepers {
-            return Err(Refusal::BadMembers);
+            return Err(Refusal::BadHandles);
         }
         let mut reading = [NO_READER; RACERS + SWEEPERS];
         let some = reading.as_mut_ptr();

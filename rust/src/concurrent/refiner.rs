@@ -1,13 +1,38 @@
 //! Refinement threads with their queue.
-use super::{Racer, Sweeper, SWEEPERS};
+use super::{Racer, Sweeper, Word, SWEEPERS};
 use crate::numbers::Home;
-use crate::{Card, Kind, Refusal, Refused, Slot, LOG};
+use crate::{Card, Exchanged, Kind, Refusal, Refused, Slot, LOG};
 use std::collections::VecDeque;
 use std::fmt;
 use std::io::{Error, ErrorKind};
 use std::mem::take;
 use std::sync::{Arc, Condvar, Mutex, MutexGuard, PoisonError};
 use std::thread::{Builder, JoinHandle};
+
+/// The queue of a refiner: lengths in logs. Its default is to begin with: 512, 256 and 64.
+///
+/// A card that waits stays dirty, so further stores on it are filtered, and it is refined once for
+/// all of them. But what waits is left for the pause. With a `start` of 1 and a `stop` of 0 each log
+/// is refined at once.
+#[derive(Clone, Copy, Debug, PartialEq, Eq)]
+pub struct Queue {
+    /// How many logs it has room for: 1 or more.
+    pub room: usize,
+    /// The length at which refinement begins: 1 to the room.
+    pub start: usize,
+    /// The length at which it ends again: less than the start.
+    pub stop: usize,
+}
+
+impl Default for Queue {
+    fn default() -> Queue {
+        Queue {
+            room: 512,
+            start: 256,
+            stop: 64,
+        }
+    }
+}
 
 /// What a pause does with the logs that are queued.
 #[derive(Clone, Copy, Debug, PartialEq, Eq)]
@@ -36,8 +61,8 @@ pub struct Handled {
 /// Refinement threads for a concurrent heap, with a bounded queue of logs.
 ///
 /// It has one thread for each sweeper of a heap. Mutators hand on their full logs, as
-/// [`Refiner::store`] does for them. The threads refine the cards of these, and sleep while the
-/// queue is empty. It goes round with the heap:
+/// [`Refiner::store`] does for them. The threads sleep until as many logs wait as the [`Queue`]
+/// says, and then refine their cards until few are left. It goes round with the heap:
 ///
 /// 1. [`Refiner::resume`] takes over the sweepers that [`Paused::resume`](super::Paused::resume)
 ///    gave out.
@@ -62,9 +87,10 @@ struct Shared {
 
 /// What the lock has.
 struct State {
-    queue: VecDeque<Log>,
-    /// How many logs the queue has room for.
-    room: usize,
+    logs: VecDeque<Log>,
+    queue: Queue,
+    /// `start` logs were queued, and more than `stop` still are.
+    is_refining: bool,
     /// Those that no thread has.
     sweepers: Vec<Sweeper>,
     /// How many sweepers a thread is still to take since the resume.
@@ -85,17 +111,22 @@ struct Log {
 }
 
 impl Refiner {
-    /// A refiner that is paused, whose queue has room for this many logs (1 or more), with a thread
-    /// for each of this many sweepers (1 to [`SWEEPERS`]).
+    /// A refiner that is paused, with a thread for each of this many sweepers (1 to [`SWEEPERS`]).
+    /// Takes a kilobyte for each log that the queue has room for.
     ///
-    /// Refused with an error of the kind `InvalidInput` for a number outside its limits, or the one
-    /// by which a thread was refused.
-    pub fn open(logs: usize, sweepers: usize) -> Result<Refiner, Error> {
-        if logs == 0 || sweepers == 0 || sweepers > SWEEPERS {
-            return Err(ErrorKind::InvalidInput.into());
+    /// Refused with an error of the kind `InvalidInput` for a number outside its limits, which its
+    /// text names, or the one by which a thread was refused.
+    pub fn open(queue: Queue, sweepers: usize) -> Result<Refiner, Error> {
+        if sweepers == 0 || sweepers > SWEEPERS {
+            let said = "a refiner has 1 to 64 sweepers";
+            return Err(Error::new(ErrorKind::InvalidInput, said));
+        }
+        if queue.start == 0 || queue.start > queue.room || queue.stop >= queue.start {
+            let said = "a queue starts at 1 log to its room, and stops below that";
+            return Err(Error::new(ErrorKind::InvalidInput, said));
         }
         let mut refiner = Refiner {
-            shared: Arc::new(Shared::new(logs)),
+            shared: Arc::new(Shared::new(queue)),
             threads: Vec::with_capacity(sweepers),
         };
         for _ in 0..sweepers {
@@ -108,13 +139,13 @@ impl Refiner {
 
     /// Lets refinement begin, with all sweepers of a heap, one for each thread.
     ///
-    /// Refused with [`Refusal::MembersOut`] if they are not as many, or if it is not paused, and
+    /// Refused with [`Refusal::StillOut`] if they are not as many, or if it is not paused, and
     /// with [`Refusal::OtherHeap`] if they are not of one heap.
     pub fn resume(&self, sweepers: Vec<Sweeper>) -> Result<(), Refused<Vec<Sweeper>>> {
         let mut state = self.shared.lock();
         let home = sweepers.first().map(Sweeper::home);
         let refusal = if !state.is_idle() || sweepers.len() != self.threads.len() {
-            Refusal::MembersOut
+            Refusal::StillOut
         } else if sweepers.iter().any(|it| Some(it.home()) != home) {
             Refusal::OtherHeap
         } else {
@@ -137,13 +168,14 @@ impl Refiner {
         state.is_paused = true;
         state.home = None;
         if queued == Queued::Drop {
-            state.handled.dropped += state.queue.len() as u64;
-            state.queue.clear();
+            state.handled.dropped += state.logs.len() as u64;
+            state.logs.clear();
         }
         self.shared.work.notify_all();
         while state.running > 0 {
             state = wait(&self.shared.stopped, state);
         }
+        state.is_refining = false;
         take(&mut state.sweepers)
     }
 
@@ -151,8 +183,8 @@ impl Refiner {
     /// ends or blocks, and from time to time if its log seldom fills.
     ///
     /// If the queue is full or the refiner is paused, the log is dropped. Each of its cards stays
-    /// dirty until it is refined, by the first drain at the pause at the latest. If many are
-    /// dropped, lengthen the queue or add sweepers.
+    /// dirty until it is refined, by the first drain at the pause at the latest. If pauses are too
+    /// long and many logs are dropped, lengthen the queue; if it stays long, add sweepers.
     ///
     /// Refused with [`Refusal::OtherHeap`] if the racer is not of the heap that is refined.
     pub fn hand_on(&self, racer: &mut Racer) -> Result<(), Refusal> {
@@ -168,15 +200,30 @@ impl Refiner {
         if log.count == 0 {
             return Ok(());
         }
-        if state.is_paused || state.queue.len() == state.room {
+        if state.is_paused || state.logs.len() == state.queue.room {
             state.handled.dropped += 1;
         } else {
-            state.queue.push_back(log);
+            state.logs.push_back(log);
             state.handled.queued += 1;
-            state.handled.longest = state.handled.longest.max(state.queue.len());
-            self.shared.work.notify_one();
+            state.handled.longest = state.handled.longest.max(state.logs.len());
+            self.shared.wake(&mut state);
         }
         Ok(())
+    }
+
+    /// Makes a store, and if the log is full, first hands it on.
+    fn with_room<Stored>(
+        &self,
+        racer: &mut Racer,
+        mut store: impl FnMut(&mut Racer) -> Result<Stored, Refusal>,
+    ) -> Result<Stored, Refusal> {
+        match store(racer) {
+            Err(Refusal::LogFull) => {
+                self.hand_on(racer)?;
+                store(racer)
+            }
+            stored => stored,
+        }
     }
 
     /// A mutator's store: [`Racer::store`], and if the log is full, first [`Refiner::hand_on`].
@@ -188,20 +235,95 @@ impl Refiner {
         slot: Slot,
         target: Option<Slot>,
     ) -> Result<Kind, Refusal> {
-        match racer.store(slot, target) {
-            Err(Refusal::LogFull) => {
-                self.hand_on(racer)?;
-                racer.store(slot, target)
-            }
-            stored => stored,
+        self.with_room(racer, |racer| racer.store(slot, target))
+    }
+
+    /// The same of [`Racer::swap`].
+    pub fn swap(
+        &self,
+        racer: &mut Racer,
+        slot: Slot,
+        target: Option<Slot>,
+    ) -> Result<(Kind, Option<Slot>), Refusal> {
+        self.with_room(racer, |racer| racer.swap(slot, target))
+    }
+
+    /// The same of [`Racer::compare_exchange`].
+    pub fn compare_exchange(
+        &self,
+        racer: &mut Racer,
+        slot: Slot,
+        expected: Option<Slot>,
+        target: Option<Slot>,
+    ) -> Result<Exchanged, Refusal> {
+        self.with_room(racer, |racer| {
+            racer.compare_exchange(slot, expected, target)
+        })
+    }
+
+    /// The same of [`Racer::swap_word`]. It may be refused with [`Refusal::BadWord`] too.
+    pub fn swap_word(
+        &self,
+        racer: &mut Racer,
+        slot: Slot,
+        word: Word,
+    ) -> Result<(Kind, Word), Refusal> {
+        self.with_room(racer, |racer| racer.swap_word(slot, word))
+    }
+
+    /// The same of [`Racer::compare_exchange_word`]. It may be refused with [`Refusal::BadWord`]
+    /// too.
+    pub fn compare_exchange_word(
+        &self,
+        racer: &mut Racer,
+        slot: Slot,
+        expected: Word,
+        word: Word,
+    ) -> Result<Exchanged<Word>, Refusal> {
+        self.with_room(racer, |racer| {
+            racer.compare_exchange_word(slot, expected, word)
+        })
+    }
+
+    /// Makes all of these stores in order, by [`Racer::store_all`] and [`Refiner::hand_on`].
+    ///
+    /// Refused with [`Refusal::OtherHeap`] if any slot or target, or the racer, is another heap's.
+    pub fn store_all(
+        &self,
+        racer: &mut Racer,
+        stores: &[(Slot, Option<Slot>)],
+    ) -> Result<(), Refusal> {
+        let mut made = racer.store_all(stores)?;
+        while made < stores.len() {
+            self.hand_on(racer)?;
+            made += racer.store_all(&stores[made..])?;
         }
+        Ok(())
+    }
+
+    /// Stores all words of this row, by [`Racer::store_words`] and [`Refiner::hand_on`].
+    ///
+    /// Refused as [`Racer::store_words`] is, or with [`Refusal::OtherHeap`] for the racer.
+    pub fn store_words(
+        &self,
+        racer: &mut Racer,
+        first: Slot,
+        words: &[Word],
+    ) -> Result<(), Refusal> {
+        let mut stored = racer.store_words(first, words)?;
+        while stored < words.len() {
+            self.hand_on(racer)?;
+            let next = racer.slot(first.number() + stored as u32)?;
+            stored += racer.store_words(next, &words[stored..])?;
+        }
+        Ok(())
     }
 
     /// What it did since it was opened, and what waits for it now.
     pub fn handled(&self) -> Handled {
         let state = self.shared.lock();
         Handled {
-            length: state.queue.len(),
+            length: state.logs.len(),
             ..state.handled
         }
     }
@@ -254,10 +376,11 @@ impl State {
 }
 
 impl Shared {
-    fn new(room: usize) -> Shared {
+    fn new(queue: Queue) -> Shared {
         let state = State {
-            queue: VecDeque::with_capacity(room),
-            room,
+            logs: VecDeque::with_capacity(queue.room),
+            queue,
+            is_refining: false,
             sweepers: Vec::new(),
             to_take: 0,
             running: 0,
@@ -275,6 +398,18 @@ impl Shared {
 
     fn lock(&self) -> MutexGuard<'_, State> {
         self.state.lock().unwrap_or_else(PoisonError::into_inner)
+    }
+
+    /// Lets refinement begin, if enough logs are queued: one log needs one thread, and several that
+    /// have waited are for all.
+    fn wake(&self, state: &mut State) {
+        let is_one = state.is_refining || state.queue.start == state.queue.stop + 1;
+        state.is_refining |= state.logs.len() >= state.queue.start;
+        if state.is_refining && is_one {
+            self.work.notify_one();
+        } else if state.is_refining {
+            self.work.notify_all();
+        }
     }
 
     /// What a refinement thread runs.
@@ -302,13 +437,14 @@ impl Shared {
         sweeper: &mut Sweeper,
     ) -> MutexGuard<'a, State> {
         while !state.is_ending {
-            let Some(log) = state.queue.pop_front() else {
-                if state.is_paused {
-                    break;
-                }
+            if !state.is_refining && !state.is_paused {
                 state = wait(&self.work, state);
                 continue;
+            }
+            let Some(log) = state.logs.pop_front() else {
+                break;
             };
+            state.is_refining &= state.logs.len() > state.queue.stop;
             drop(state);
             let refined = log.refine_by(sweeper);
             state = self.lock();
