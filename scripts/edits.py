@@ -97,6 +97,9 @@ def is_settled(function):
     wanted |= {"result"} if returned else set()
     if re.search(r"(\(&self\) -> &|\(&self.*\) -> MutexGuard<'_, )[\w<>, ]+$", head, re.M):
         return True
+    # (a step through a shared reference, by a right that it changes, may also change words)
+    if re.search(r"&self\b", head) and changed:
+        return False
     return bool(found) and all(found) and wanted <= {it for each in found for it in each}
 
 

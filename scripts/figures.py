@@ -1,4 +1,4 @@
-"""For check-documents: the figures of docs/traces.md, as runs of the records show them."""
+"""For check-documents: the figures of docs/settings.md, as runs of the records show them."""
 import pathlib
 import re
 import subprocess

@@ -3,6 +3,15 @@
 targets=(x86_64 aarch64)
 version=$(sed -n 's/^#define G1_VERSION "\(.*\)"$/\1/p' include/g1.h)
 
+# What of a version the name of the shared library has: before 1.0.0 any minor one is another interface.
+interface_of() {
+  local minor=${1#*.}
+  case $1 in
+    0.*) echo "0.${minor%%.*}" ;;
+    *) echo "${1%%.*}" ;;
+  esac
+}
+
 # The libraries that crates.txt names for a crate: those of the repository (`ours`), or those of the
 # kit.
 stands_on() {
@@ -37,9 +46,9 @@ folders_of() {
   ! grep -q "^$1 staticlib" crates.txt || echo c
 }
 
-# What the archives of prebuilt/ are made of, and they themselves, in lines `SUM  NAME`: each file, the
-# crates' lines of crates.txt, and by themselves the version and the toolchain's logic, which
-# docs/guarantees.md names.
+# What decides the archives of prebuilt/, and they themselves, in lines `SUM  NAME`: each file but the
+# proofs, which leave nothing in an archive, the crates' lines of crates.txt, and by themselves the
+# version and the toolchain's logic, which docs/guarantees.md names.
 sums_of_prebuilt() {
   local logic crates folders
   logic=$(grep -om 1 'logic [0-9a-f]\{16\}' docs/guarantees.md)
@@ -47,7 +56,7 @@ sums_of_prebuilt() {
   mapfile -t folders < <(folders_of g1_c)
   printf '%s  %s\n' "$version" G1_VERSION "${logic#logic }" logic
   grep -E "^($crates)[ :]" crates.txt | sha256sum | sed 's/-$/crates.txt/'
-  find "${folders[@]}" prebuilt -type f ! -name sums | LC_ALL=C sort | xargs sha256sum
+  find "${folders[@]}" prebuilt -type f ! -name sums ! -path '*/proofs/*' | LC_ALL=C sort | xargs sha256sum
 }
 
 # Why the archives of prebuilt/ are not of the sources here; nothing if they are.

@@ -585,6 +585,7 @@ static void random_calls(long calls) {
 
 // The words up to G1_FULL are codes, and those from G1_NOT_OPEN on except 21.
 static void texts(void) {
+    check(strcmp(g1_version(), G1_VERSION) == 0, "the archive is of the header's version");
     const char *none = g1_code_text(UINT32_MAX);
     for (uint32_t code = 0; code < 40; code++) {
         int is_code = code <= G1_FULL || (code >= G1_NOT_OPEN && code <= G1_BAD_WORD && code != 21);

@@ -1,4 +1,4 @@
-// Pauses that are given members of several heaps, in every way: each is refused by a code that is
+// Pauses that are given handles of several heaps, in every way: each is refused by a code that is
 // so, and changes nothing.
 #include "g1.h"
 
@@ -42,7 +42,7 @@ static uint64_t bit(uint32_t code, int holds) {
 // A bit for each code that is so of a pause of a heap with these choices, of which the first are
 // given as racers.
 static uint64_t refusals(int heap, const int *chosen, int racers, int all) {
-    uint64_t codes = bit(G1_BAD_MEMBERS, racers != EACH || all - racers != EACH);
+    uint64_t codes = bit(G1_BAD_HANDLES, racers != EACH || all - racers != EACH);
     for (int i = 0; i < all; i++) {
         int is_open = chosen[i] != CLOSED;
         codes |= bit(G1_NOT_OPEN, !is_open);
@@ -73,7 +73,7 @@ static int is_refused(int heap, const int *chosen, int racers, int all, uint64_t
     return are_same && answer < 64 && (codes & bit(answer, 1)) != 0;
 }
 
-// Every choice of members for these numbers of racers and sweepers, but for those of a pause.
+// Every choice of handles for these numbers of racers and sweepers, but for those of a pause.
 static void mix(int heap, int racers, int sweepers) {
     int chosen[PLACES] = {0}, all = racers + sweepers, at;
     unsigned refused = 0, wrong = 0, whole = 0;
@@ -91,7 +91,7 @@ static void mix(int heap, int racers, int sweepers) {
         }
     } while (at < all);
     check(wrong == 0 && refused > 0, "mixed pauses are refused");
-    check(whole == (racers == EACH && sweepers == EACH ? 4 : 0), "four orders of its members");
+    check(whole == (racers == EACH && sweepers == EACH ? 4 : 0), "four orders of its handles");
 }
 
 // Stores a reference into another region, from a clean card.
@@ -113,7 +113,7 @@ static void open_heaps(void) {
     }
 }
 
-// Each heap races on, and is paused, in another order of its members, with what was stored.
+// Each heap races on, and is paused, in another order of its handles, with what was stored.
 static void pause_heaps(void) {
     for (int heap = 0; heap < HEAPS; heap++) {
         struct g1_heap *handle = &heaps[heap];
@@ -123,7 +123,7 @@ static void pause_heaps(void) {
         struct g1_sweeper sweepers[EACH] = {all_sweepers[first + 1], all_sweepers[first]};
         stores(racers, region_1, 0);
         answers(g1_heap_pause(handle, racers, EACH, sweepers, EACH), G1_DONE, "the pause");
-        check(racers[0].racer == NULL && sweepers[1].sweeper == NULL, "members are closed");
+        check(racers[0].racer == NULL && sweepers[1].sweeper == NULL, "its handles are closed");
         uint32_t target, card, count, pending;
         answers(g1_heap_target(handle, 0, &target), G1_DONE, "target");
         check(target == region_1, "what was stored before");

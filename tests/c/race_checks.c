@@ -86,11 +86,15 @@ static uint32_t target_of(uint64_t word) {
     return word == 0 || word >= G1_DATA ? G1_NULL : (uint32_t)(word - 1);
 }
 
+static int is_across(uint32_t slot, uint64_t word) {
+    uint32_t target = target_of(word);
+    return target != G1_NULL && target / REGION_SLOTS != slot / REGION_SLOTS;
+}
+
 // The region into which a slot refers from outside, or REGIONS.
 static uint32_t entered_by(const struct heap *heap, uint32_t slot) {
-    uint32_t target = target_of(heap->words[slot]);
-    int enters = target != G1_NULL && target / REGION_SLOTS != slot / REGION_SLOTS;
-    return enters ? target / REGION_SLOTS : REGIONS;
+    uint64_t word = heap->words[slot];
+    return is_across(slot, word) ? target_of(word) / REGION_SLOTS : REGIONS;
 }
 
 // Stores a word, and returns the kind of the store.
@@ -191,7 +195,7 @@ static void open_heap(struct heap *heap) {
     uint32_t racers = below(16) == 0 ? below(2) * (G1_RACERS + 1) : 1 + below(EACH);
     uint32_t sweepers = below(16) == 0 ? below(2) * (G1_SWEEPERS + 1) : 1 + below(EACH);
     int are_bad = racers == 0 || racers > G1_RACERS || sweepers == 0 || sweepers > G1_SWEEPERS;
-    uint64_t refusals = bit(G1_ALREADY_OPEN, heap->is_open) | bit(G1_BAD_MEMBERS, are_bad) |
+    uint64_t refusals = bit(G1_ALREADY_OPEN, heap->is_open) | bit(G1_BAD_HANDLES, are_bad) |
                         bit(G1_BAD_LAYOUT, counts != &small);
     if (answers(g1_heap_open(&heap->handle, counts, racers, sweepers), refusals, "open")) {
         struct g1_heap handle = heap->handle;
@@ -232,7 +236,7 @@ static void put_in(struct given *given, int role, int place, int from) {
     given->from[role][place] = is_closed ? -1 : from;
 }
 
-// The members of a heap in some order, or as many closed handles, one in four times with something
+// The racers and sweepers of a heap in some order, or as many closed handles, one in four times with something
 // else among them.
 static struct given give(const struct heap *heap, int are_closed) {
     struct given given = {.lengths = {heap->racers, heap->sweepers}};
@@ -266,7 +270,7 @@ static int is_bad_number(const struct heap *heap, const struct given *given) {
 static void resume(struct heap *heap) {
     struct given given = give(heap, 1), before = given;
     size_t closed = closed_in(&given, 0) + closed_in(&given, 1);
-    uint64_t refusals = at_pause(heap) | bit(G1_BAD_MEMBERS, is_bad_number(heap, &given)) |
+    uint64_t refusals = at_pause(heap) | bit(G1_BAD_HANDLES, is_bad_number(heap, &given)) |
                         bit(G1_ALREADY_OPEN, closed != given.lengths[0] + given.lengths[1]);
     uint32_t code = g1_heap_resume(&heap->handle, given.racers, given.lengths[0], given.sweepers,
                                    given.lengths[1]);
@@ -302,7 +306,7 @@ static void pause_heap(struct heap *heap) {
     struct given given = give(heap, 0), before = given;
     uint64_t refusals = bit(G1_NOT_OPEN, !heap->is_open) |
                         bit(G1_NOT_RACING, heap->is_open && !heap->is_racing) |
-                        bit(G1_BAD_MEMBERS, is_bad_number(heap, &given)) |
+                        bit(G1_BAD_HANDLES, is_bad_number(heap, &given)) |
                         refusals_of(heap, &given, 0) | refusals_of(heap, &given, 1);
     uint32_t code = g1_heap_pause(&heap->handle, given.racers, given.lengths[0], given.sweepers,
                                   given.lengths[1]);
@@ -334,11 +338,19 @@ static int is_store(uint32_t slot, uint32_t target) {
     return is_slot(slot) && (target == G1_NULL || is_slot(target));
 }
 
+static uint64_t closed(const struct heap *heap, uint32_t number) {
+    return bit(G1_NOT_OPEN, heap->racing[number].racer == NULL);
+}
+
+// Whether a store of a word that a slot may have needs room in a log that is full.
+static int is_full(const struct heap *heap, uint32_t number, uint32_t slot, uint64_t word) {
+    return is_across(slot, word) && heap->logs[number].count == G1_LOG;
+}
+
 // Why a racer's store may be refused.
 static uint64_t of_store(const struct heap *heap, uint32_t number, uint32_t slot, uint32_t target) {
-    int is_closed = heap->racing[number].racer == NULL;
-    return bit(G1_NOT_OPEN, is_closed) | bit(G1_NO_SLOT, !is_store(slot, target)) |
-           bit(G1_LOG_FULL, !is_closed && heap->logs[number].count == G1_LOG);
+    uint64_t refusals = closed(heap, number) | bit(G1_NO_SLOT, !is_store(slot, target));
+    return refusals | bit(G1_LOG_FULL, refusals == 0 && is_full(heap, number, slot, word_of(target)));
 }
 
 // Makes a racer's store, and returns its kind.
@@ -406,12 +418,13 @@ static void race_store_all(struct heap *heap) {
     uint64_t refusals = bit(G1_NOT_OPEN, heap->racing[number].racer == NULL);
     size_t stored = 7;
     uint32_t code = g1_race_store_all(&heap->racing[number], stores, length, &stored);
-    while (refusals == 0 && made < good && heap->logs[number].count < G1_LOG) {
+    while (refusals == 0 && made < good &&
+           !is_full(heap, number, stores[made].slot, word_of(stores[made].target))) {
         put_by(heap, number, stores[made].slot, word_of(stores[made].target));
         made++;
     }
-    int is_cut = refusals == 0 && made < length, is_full = heap->logs[number].count == G1_LOG;
-    uint64_t ends = bit(G1_FULL, is_cut && is_full) | bit(G1_STOPPED, is_cut && made == good);
+    int is_cut = refusals == 0 && made < length;
+    uint64_t ends = bit(made < good ? G1_FULL : G1_STOPPED, is_cut);
     answers(code, refusals | ends, "several stores of a racer");
     check(stored == made, "how many stores a racer made");
 }
@@ -441,7 +454,9 @@ static int is_word(uint64_t word) {
 
 // Why a racer's store of a word may be refused.
 static uint64_t of_word(const struct heap *heap, uint32_t number, uint32_t slot, uint64_t word) {
-    return of_store(heap, number, slot, G1_NULL) | bit(G1_BAD_WORD, !is_word(word));
+    uint64_t refusals = closed(heap, number) | bit(G1_NO_SLOT, !is_slot(slot)) |
+                        bit(G1_BAD_WORD, !is_word(word));
+    return refusals | bit(G1_LOG_FULL, refusals == 0 && is_full(heap, number, slot, word));
 }
 
 static void race_swap_word(struct heap *heap) {
@@ -465,6 +480,34 @@ static void race_compare_exchange_word(struct heap *heap) {
     int is_made = answers(code, refusals | bit(G1_DIFFERS, differs), "exchange of words");
     check(found == (refusals == 0 ? had : 0), "the word that an exchange finds");
     check(kind == (is_made ? put_by(heap, number, slot, word) : 0), "the kind of that exchange");
+}
+
+// Fills a row with words, most of which slots may have, and returns how many they may not.
+static uint32_t some_row(uint64_t *words, uint32_t length) {
+    uint32_t bad = 0;
+    for (uint32_t i = 0; i < length; i++) {
+        words[i] = some_word();
+        if (!is_word(words[i]) && below(4) != 0) {
+            words[i] = 0;
+        }
+        bad += !is_word(words[i]);
+    }
+    return bad;
+}
+
+static void race_store_words(struct heap *heap) {
+    uint64_t words[BATCH];
+    uint32_t number = below(EACH), slot = some_slot(), length = below(BATCH + 1), made = 0;
+    uint64_t refusals = closed(heap, number) | bit(G1_NO_SLOT, slot + length > ALL_SLOTS) |
+                        bit(G1_BAD_WORD, some_row(words, length) > 0);
+    size_t stored = 7;
+    uint32_t code = g1_race_store_words(&heap->racing[number], slot, words, length, &stored);
+    while (refusals == 0 && made < length && !is_full(heap, number, slot + made, words[made])) {
+        put_by(heap, number, slot + made, words[made]);
+        made++;
+    }
+    answers(code, refusals | bit(G1_FULL, refusals == 0 && made < length), "a row of words");
+    check(stored == made, "how many words of a row were stored");
 }
 
 static void take_log(struct heap *heap) {
@@ -559,6 +602,41 @@ static void list(struct heap *heap, int drains) {
     check(count == size && memcmp(cards, before, sizeof cards) == 0, "a list without room");
 }
 
+// Whether a card lies outside these regions and is recorded for one of them.
+static int is_into(const struct heap *heap, const uint32_t *regions, size_t count, uint32_t card) {
+    int is_recorded = 0;
+    for (size_t i = 0; i < count; i++) {
+        if (regions[i] == card / CARDS) {
+            return 0;
+        }
+        is_recorded |= heap->recorded[regions[i]][card];
+    }
+    return is_recorded;
+}
+
+// Walks over the cards of a collection set, and over the dirty ones.
+static void scan(struct heap *heap) {
+    uint32_t regions[REGIONS], from = below(ALL_CARDS + 2), next = 7, wanted = G1_NULL;
+    size_t count = below(REGIONS + 1);
+    uint64_t refusals = at_pause(heap);
+    for (size_t i = 0; i < count; i++) {
+        regions[i] = below(8) == 0 ? below(REGIONS + 1) : below(REGIONS);
+        refusals |= no_region(heap, regions[i]);
+    }
+    for (uint32_t card = ALL_CARDS; card-- > from && refusals == 0;) {
+        wanted = is_into(heap, regions, count, card) ? card : wanted;
+    }
+    answers(g1_heap_next_into(&heap->handle, regions, count, from, &next), refusals, "next into");
+    check(next == wanted, "the next card of a collection set");
+    wanted = G1_NULL;
+    refusals = at_pause(heap);
+    for (uint32_t card = ALL_CARDS; card-- > from && refusals == 0;) {
+        wanted = heap->dirty[card] ? card : wanted;
+    }
+    answers(g1_heap_next_dirty(&heap->handle, from, &next), refusals, "next dirty");
+    check(next == wanted, "the next dirty card");
+}
+
 static void collector_stores(struct heap *heap) {
     struct g1_reference stores[BATCH];
     uint32_t length = below(BATCH + 1), kind = 7, good = some_stores(stores, length);
@@ -577,6 +655,19 @@ static void collector_stores(struct heap *heap) {
     check(stored == (refusals == 0 ? good : 0), "how many stores were made");
     for (uint32_t i = 0; i < good && refusals == 0; i++) {
         put(heap, stores[i].slot, word_of(stores[i].target));
+    }
+}
+
+static void collector_stores_words(struct heap *heap) {
+    uint64_t words[BATCH];
+    uint32_t slot = some_slot(), length = below(BATCH + 1), bad = some_row(words, length);
+    uint64_t refusals = at_pause(heap) |
+                        bit(G1_NO_SLOT, heap->is_open && slot + length > ALL_SLOTS) |
+                        bit(G1_BAD_WORD, heap->is_open && bad > 0);
+    uint32_t code = g1_heap_store_words(&heap->handle, slot, words, length);
+    int is_made = answers(code, refusals, "the collector's row of words");
+    for (uint32_t i = 0; i < length && is_made; i++) {
+        put(heap, slot + i, words[i]);
     }
 }
 
@@ -713,30 +804,66 @@ static void random_call(struct heap *heap) {
     case 23: verify(heap); break;
     case 24: sweeper_counts(heap); break;
     case 25: racer_counts(heap); break;
+    case 26: scan(heap); break;
+    case 27: race_store_words(heap); break;
+    case 28: collector_stores_words(heap); break;
     default: race_store(heap); break;
     }
     compare(heap);
 }
 
-// With a full log each store is refused, and several stores end before the first of them.
+// With a full log each store across regions is refused, and several stores end before the first of
+// them. Slot 0 refers to slot 8, of another region.
 static void store_with_full_log(struct g1_racer *racer) {
-    static const struct g1_reference stores[] = {{0, G1_NULL}, {1, 9}};
-    static const struct g1_reference no_slot[] = {{ALL_SLOTS, 9}};
     uint32_t kind = 7, found = 7;
-    size_t stored = 7;
+    uint64_t word = 7;
     answers(g1_race_store(racer, 0, 9, &kind), bit(G1_LOG_FULL, 1), "a store with a full log");
     uint32_t code = g1_race_swap(racer, 0, 9, &found, &kind);
     answers(code, bit(G1_LOG_FULL, 1), "a swap with a full log");
     code = g1_race_compare_exchange(racer, 0, 9, 9, &found, &kind);
     answers(code, bit(G1_LOG_FULL, 1), "an exchange with a full log");
     check(kind == G1_STORED_NULL && found == G1_NULL, "what is found with a full log");
-    answers(g1_race_store(racer, ALL_SLOTS, 9, &kind), bit(G1_LOG_FULL, 1), "into no slot too");
-    code = g1_race_compare_exchange(racer, ALL_SLOTS, 9, 9, &found, &kind);
-    answers(code, bit(G1_LOG_FULL, 1), "an exchange in no slot too");
-    answers(g1_race_store_all(racer, stores, 2, &stored), bit(G1_FULL, 1), "several stores then");
-    check(stored == 0, "none of them is made");
+    code = g1_race_swap_word(racer, 0, word_of(9), &word, &kind);
+    answers(code, bit(G1_LOG_FULL, 1), "a swap of words with a full log");
+    code = g1_race_compare_exchange_word(racer, 0, word_of(8), word_of(9), &word, &kind);
+    answers(code, bit(G1_LOG_FULL, 1), "an exchange of words with a full log");
+    answers(g1_race_store(racer, ALL_SLOTS, 9, &kind), bit(G1_NO_SLOT, 1), "into no slot");
+    code = g1_race_compare_exchange(racer, 0, ALL_SLOTS, 9, &found, &kind);
+    answers(code, bit(G1_NO_SLOT, 1), "no slot is expected");
+    code = g1_race_compare_exchange_word(racer, 0, G1_DATA - 1, word_of(9), &word, &kind);
+    answers(code, bit(G1_BAD_WORD, 1), "no word is expected");
+}
+
+// With a full log each store is made that does not cross regions.
+static void store_without_room(struct g1_racer *racer) {
+    uint32_t kind = 7, found = 7;
+    uint64_t word = 7;
+    answers(g1_race_compare_exchange(racer, 0, 8, 1, &found, &kind), 0, "an exchange of a region's");
+    check(kind == G1_STORED_SAME_REGION && found == 8, "what it finds");
+    answers(g1_race_swap(racer, 0, G1_NULL, &found, &kind), 0, "a swap for null");
+    check(kind == G1_STORED_NULL && found == 1, "what it overwrites");
+    answers(g1_race_store(racer, 0, 7, &kind), 0, "a store within the region");
+    check(kind == G1_STORED_SAME_REGION, "its kind");
+    answers(g1_race_swap_word(racer, 0, G1_DATA, &word, &kind), 0, "a swap for data");
+    check(kind == G1_STORED_NULL && word == word_of(7), "the word that it overwrites");
+    uint32_t code = g1_race_compare_exchange_word(racer, 0, G1_DATA, word_of(1), &word, &kind);
+    answers(code, 0, "an exchange of data for a reference within the region");
+    check(kind == G1_STORED_SAME_REGION && word == G1_DATA, "the word that it finds");
+}
+
+// Several stores with a full log.
+static void store_all_with_full_log(struct g1_racer *racer) {
+    const uint64_t words[] = {word_of(3), G1_DATA, 0, word_of(9), 0};
+    static const struct g1_reference stores[] = {{0, G1_NULL}, {1, 2}, {1, 9}, {1, G1_NULL}};
+    static const struct g1_reference no_slot[] = {{ALL_SLOTS, 9}};
+    size_t stored = 7;
+    answers(g1_race_store_all(racer, stores, 4, &stored), bit(G1_FULL, 1), "several stores then");
+    check(stored == 2, "those before the first across regions are made");
+    answers(g1_race_store_all(racer, stores, 2, &stored), 0, "none across regions");
     answers(g1_race_store_all(racer, stores, 0, &stored), 0, "no stores with a full log");
-    answers(g1_race_store_all(racer, no_slot, 1, &stored), bit(G1_FULL, 1), "one into no slot then");
+    answers(g1_race_store_all(racer, no_slot, 1, &stored), bit(G1_STOPPED, 1), "one into no slot");
+    answers(g1_race_store_words(racer, 0, words, 5, &stored), bit(G1_FULL, 1), "a row then");
+    check(stored == 3, "the words before the first across regions are stored");
 }
 
 // Fills all but one place of a log. The first of several stores takes that, and the second is not
@@ -774,9 +901,11 @@ static void full_log(void) {
         check(kind == G1_STORED_LOGGED, "a store that is logged");
     }
     store_with_full_log(&racer);
+    store_without_room(&racer);
+    store_all_with_full_log(&racer);
     answers(g1_heap_pause(&heap, &racer, 1, &sweeper, 1), 0, "pause");
     answers(g1_heap_resume(&heap, &racer, 1, &sweeper, 1), 0, "resume");
-    answers(g1_race_store(&racer, 0, G1_NULL, &kind), bit(G1_LOG_FULL, 1), "a log over a pause");
+    answers(g1_race_store(&racer, 0, 8, &kind), bit(G1_LOG_FULL, 1), "a log over a pause");
     answers(g1_race_take_log(&racer, cards, G1_LOG, &count), 0, "log");
     check(count == G1_LOG && cards[0] == 0 && cards[G1_LOG - 1] == 0, "a full log has 256 cards");
     fill_by_several(&racer, &sweeper);
@@ -793,7 +922,7 @@ static void first_codes(void) {
     uint32_t cards[1], word;
     uint64_t old;
     answers(g1_race_take_log(&closed, cards, 1, &word), bit(G1_NO_ROOM, 1), "room, and no racer");
-    answers(g1_heap_open(&heap, &none, 0, 1), bit(G1_BAD_MEMBERS, 1), "no racer and no region");
+    answers(g1_heap_open(&heap, &none, 0, 1), bit(G1_BAD_HANDLES, 1), "no racer and no region");
     answers(g1_heap_open(&heap, &small, 1, 1), 0, "open");
     answers(g1_heap_open(&heap, &none, 0, 1), bit(G1_ALREADY_OPEN, 1), "in an open handle");
     answers(g1_heap_store_data(&heap, ALL_SLOTS, 0), bit(G1_NO_SLOT, 1), "neither slot nor data");
@@ -808,7 +937,7 @@ static void first_codes(void) {
     answers(g1_race_store_data(&racers[0], ALL_SLOTS, 0, &old), bit(G1_NO_SLOT, 1), "in a race");
     answers(g1_heap_clear(&heap, REGIONS, &word), bit(G1_NOT_PAUSED, 1), "no clear in a race");
     code = g1_heap_pause(&heap, racers, 2, &sweeper, 1);
-    answers(code, bit(G1_BAD_MEMBERS, 1), "a handle too many, which is closed");
+    answers(code, bit(G1_BAD_HANDLES, 1), "a handle too many, which is closed");
     answers(g1_heap_pause(&heap, racers, 1, &sweeper, 1), 0, "pause");
     answers(g1_heap_close(&heap), 0, "close");
 }
@@ -866,7 +995,7 @@ static void all_codes(void) {
     static const uint32_t codes[] = {
         G1_DONE, G1_DIFFERS, G1_STOPPED, G1_FULL, G1_NOT_OPEN, G1_ALREADY_OPEN, G1_BAD_LAYOUT,
         G1_NO_SLOT, G1_NO_CARD, G1_NO_REGION, G1_NO_ROOM, G1_SAME_REGION, G1_STILL_PENDING,
-        G1_STILL_REFERENCED, G1_LOG_FULL, G1_BAD_MEMBERS, G1_OTHER_RACE, G1_NOT_PAUSED,
+        G1_STILL_REFERENCED, G1_LOG_FULL, G1_BAD_HANDLES, G1_OTHER_RACE, G1_NOT_PAUSED,
         G1_NOT_RACING, G1_BAD_WORD};
     uint64_t all = 0;
     for (size_t i = 0; i < sizeof codes / sizeof codes[0]; i++) {
@@ -876,7 +1005,7 @@ static void all_codes(void) {
     check(seen == all, "no other code is returned");
 }
 
-// Pauses a heap, if its members race, and closes it.
+// Pauses a heap, if it races, and closes it.
 static void end(struct heap *heap) {
     if (heap->is_racing) {
         uint32_t code = g1_heap_pause(&heap->handle, heap->racing, heap->racers, heap->sweeping,

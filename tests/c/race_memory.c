@@ -31,7 +31,7 @@ static void expect(int holds, const char *what) {
     }
 }
 
-// Opens the heap, and once more if memory was refused.
+// Opens the heap, and once more if an allocation failed.
 static void open_heap(void) {
     struct g1_counts counts = {4, 2, 4};
     struct handles before = all;
@@ -94,11 +94,15 @@ static void list(uint32_t (*call)(void), const char *name) {
 
 // Lists a region's set card by card, and once more by an array that is one card short.
 static void walk(void) {
-    uint32_t card = 0, found = 0;
+    uint32_t card = 0, found = 0, other;
     expect(drain() == G1_DONE, "drain");
+    expect(g1_heap_next_dirty(&all.heap, 0, &other) == G1_DONE, "next dirty");
+    expect(other == G1_NULL, "no card is dirty");
     for (uint32_t from = 0; card != G1_NULL; from = card + 1) {
         expect(g1_heap_next_member(&all.heap, region, from, &card) == G1_DONE, "next member");
         expect(card == (found < count ? cards[found] : G1_NULL), "a member");
+        expect(g1_heap_next_into(&all.heap, &region, 1, from, &other) == G1_DONE, "next into");
+        expect(other == card, "the same by a set of one region");
         found += card != G1_NULL;
     }
     if (count > 0) {
@@ -111,7 +115,7 @@ static void walk(void) {
     }
 }
 
-// Reads the pause by as many readers as the heap has members.
+// Reads the pause by as many readers as the heap may have.
 static void read_pause(void) {
     struct g1_reader readers[RACERS + 1] = {{NULL}};
     uint32_t target;

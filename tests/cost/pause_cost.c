@@ -38,7 +38,7 @@ static double lap(void) {
     return (passed < own ? passed : own) * 1e6;
 }
 
-// A new heap with this number of regions, whose members race.
+// A new heap with this number of regions, which races.
 static void open_heap(uint32_t count) {
     struct g1_counts counts = {count, CARDS, SLOTS};
     regions = count;
