@@ -1,70 +1,64 @@
-//! Makes calls a number of times, and prints a checksum of what they answered.
+//! Makes one call of a core or of a race a number of times, and prints a checksum of what it
+//! answered.
 //!
-//! With six words it makes one call of the core, or at the pause of a race, on a heap of a given
-//! layout. What a call costs in
-//! instructions is the difference of two runs under callgrind, by the difference of their numbers
-//! of calls: making the heap and recording its references is the same in both. `measure` in this
-//! folder prints the table.
+//! What a call costs in instructions is the difference of two runs under callgrind, by the
+//! difference of their numbers of calls: making the heap and recording its references is the same
+//! in both. `measure` in this folder prints the tables.
 //!
-//! With five words it makes rounds of stores, or of refinements in a race, by one thread or
-//! several, and also prints how many nanoseconds the threads spent in their loops, added up.
-//! `measure-threads` prints the tables.
-//!
-//! With the word `paused` and five numbers it makes rounds of a race and a pause in place, and
-//! prints what each call took. `measure-pauses` prints the tables.
-//!
-//! - [`plan`]: the six words.
-//! - [`workload`]: the heap whose calls are measured.
-//! - [`at_pause`]: the same heap at the pause of a race.
-//! - [`timed`]: the five words.
-//! - [`list`]: the stores of a round.
-//! - [`rounds`]: the rounds of a thread.
-//! - [`meter`]: the sums over the threads.
-//! - [`alone`], [`locked`], [`raced`]: where the stores are made.
-//! - [`paused`]: the pauses of a race.
+//! - [`stores`]: the stores, wherever they go.
+//! - [`core_calls`]: the calls of a core.
+//! - [`race_calls`]: those of a race, and at its pause.
 #![tactic(auto)]
 
-mod alone;
-mod at_pause;
-mod list;
-mod locked;
-mod meter;
-mod paused;
-mod plan;
-mod raced;
-mod rounds;
-mod timed;
-mod workload;
+mod core_calls;
+mod race_calls;
+mod stores;
 
-use g1_layout::NoMemory;
-use paused::{print_pauses, read_pauses};
-use plan::{Call, Plan, read_plan};
+use core_calls::CoreCalls;
+use g1_layout::{Layout, NoMemory};
+use g1_race::Race;
+use race_calls::{RaceCalls, pause, refine};
+use std::alloc::Global;
 use std::env;
 use std::process::ExitCode;
-use timed::{print_time, read_timed};
-use workload::Workload;
+use stores::{Barrier, Nowhere, OwnPlaces, store_across, store_in_region, store_nulls};
 
-const USAGE: &str = "usage: gate_bench CALL TIMES REGIONS CARDS SLOTS REFERENCES
-       gate_bench BARRIER TARGET THREADS ROUNDS STORES
-       gate_bench paused REGIONS CARDS SLOTS DIRTY APART
-";
+const USAGE: &str = "usage: gate_bench CALL TIMES REGIONS CARDS SLOTS REFERENCES\n";
+
+// One run: what is called, how often, on which heap, and how many slots of each of its cards refer
+// into other regions.
+#[derive(Drop)]
+struct Plan<'a> {
+    call: &'a str,
+    times: u32,
+    layout: Layout,
+    references: u32,
+}
 
 fn main(rt: HostRuntime) -> ExitCode {
     let Some(words) = words_of(&rt) else {
-        let _ = rt.eprint("no memory\n");
-        return ExitCode::from(3);
+        return refused(&rt);
     };
-    if let Some(plan) = read_plan(words.as_slice()) {
-        return print_calls(&rt, &plan);
+    let Some(plan) = read_plan(words.as_slice()) else {
+        let _ = rt.eprint(USAGE);
+        return ExitCode::from(1);
+    };
+    match checksum_of(rt.alloc(), &plan) {
+        Err(NoMemory) => refused(&rt),
+        Ok(None) => {
+            let _ = rt.eprint(USAGE);
+            ExitCode::from(1)
+        }
+        Ok(Some(checksum)) => match println!(rt; "checksum {checksum}") {
+            Ok(()) => ExitCode::from(0),
+            Err(_) => ExitCode::from(5),
+        },
     }
-    if let Some(timed) = read_timed(words.as_slice()) {
-        return print_time(&rt, rt.alloc(), timed);
-    }
-    if let Some(pauses) = read_pauses(words.as_slice()) {
-        return print_pauses(&rt, rt.alloc(), pauses);
-    }
-    let _ = rt.eprint(USAGE);
-    ExitCode::from(1)
+}
+
+fn refused(rt: &HostRuntime) -> ExitCode {
+    let _ = rt.eprint("no memory\n");
+    ExitCode::from(3)
 }
 
 // The words of the command line after the program's name.
@@ -77,40 +71,97 @@ fn words_of(rt: &HostRuntime) -> Option<Vec<String>> {
     Some(texts)
 }
 
-// Makes the calls that are planned, and prints their checksum.
-fn print_calls(rt: &HostRuntime, plan: &Plan) -> ExitCode {
-    let Ok(checksum) = measured(rt, plan) else {
-        let _ = rt.eprint("no memory\n");
-        return ExitCode::from(3);
+// The plan of these words. `None` where one of them is missing or is none.
+fn read_plan(words: &[String]) -> Option<Plan<'_>> {
+    let [call, times, regions, cards, slots, references] = words else {
+        return None;
     };
-    let Ok(()) = println!(rt; "checksum {checksum}") else {
-        return ExitCode::from(5);
-    };
-    ExitCode::from(0)
+    let regions = number_of(regions)?;
+    let cards = number_of(cards)?;
+    let slots = number_of(slots)?;
+    Some(Plan {
+        call: call.as_str(),
+        times: number_of(times)?,
+        layout: Layout::large(regions, cards, slots)?,
+        references: number_of(references)?,
+    })
 }
 
-// The checksum of the calls that are planned.
-fn measured(rt: &HostRuntime, plan: &Plan) -> Result<u64, NoMemory> {
-    let mut workload = Workload::new(rt.alloc(), plan.layout, plan.references)?;
-    let times = plan.times;
-    match plan.call {
-        Call::Slots => workload.walk_slots(times),
-        Call::OwnPlaces => workload.walk_own_places(times),
-        Call::Places => workload.walk_places(times),
-        Call::Null => workload.store_nulls(times),
-        Call::SameRegion => workload.store_in_region(times),
-        Call::AlreadyDirty => workload.store_again(times),
-        Call::Logged => workload.store_across(times),
-        Call::Refine => workload.refine(times)?,
-        Call::Drain => workload.drain(times)?,
-        Call::Pause => workload.pause(times)?,
-        Call::Clear => workload.clear(times),
-        Call::Redirect => workload.redirect(times)?,
-        Call::PlacesApart => workload.walk_places_apart(times),
-        Call::RefineApart => workload.refine_apart(times)?,
-        Call::PausedLogged => workload.pause_race(rt.alloc(), times, 0)?,
-        Call::PausedDrain => workload.pause_race(rt.alloc(), times, 1)?,
-        Call::PausedIdle => workload.pause_race(rt.alloc(), 0, times)?,
+fn number_of(word: &String) -> Option<u32> {
+    word.as_str().parse::<u32>().ok()
+}
+
+// The checksum of the calls that are planned, or `None` if there is no such call.
+fn checksum_of(alloc: Global, plan: &Plan) -> Result<Option<u64>, NoMemory> {
+    if let Some(call) = plan.call.strip_prefix("walk-") {
+        let mut nowhere = Nowhere::new(plan.layout);
+        let is_one = make_stores(alloc, &mut nowhere, call, plan)?;
+        return Ok(is_one.then_some(nowhere.checksum()));
     }
-    Ok(workload.checksum())
+    if let Some(call) = plan.call.strip_prefix("raced-") {
+        return by_race(alloc, call, plan);
+    }
+    by_core(alloc, plan)
+}
+
+// Makes stores of this name, if there are such.
+fn make_stores<B: Barrier>(
+    alloc: Global,
+    barrier: &mut B,
+    call: &str,
+    plan: &Plan,
+) -> Result<bool, NoMemory> {
+    match call {
+        "null" => store_nulls(barrier, plan.times),
+        "same-region" => {
+            let own = OwnPlaces::new(alloc, plan.layout)?;
+            store_in_region(barrier, &own, plan.times);
+        }
+        "logged" => store_across(barrier, 0, plan.times),
+        // (each card is logged before)
+        "dirty" => {
+            store_across(barrier, 0, plan.layout.card_count());
+            store_across(barrier, 0, plan.times);
+        }
+        _ => return Ok(false),
+    }
+    Ok(true)
+}
+
+fn by_core(alloc: Global, plan: &Plan) -> Result<Option<u64>, NoMemory> {
+    let times = plan.times;
+    let mut calls = CoreCalls::new(alloc, plan.layout, plan.references)?;
+    match plan.call {
+        "refine" => calls.refine(times)?,
+        "drain" => {
+            store_across(&mut calls, 0, times);
+            calls.drain()?;
+        }
+        "idle-drain" => calls.drain_again(times)?,
+        "clear" => calls.clear(times),
+        "redirect" => calls.redirect(times)?,
+        "paused-logged" => pause(alloc, &mut calls, times, 0)?,
+        "paused-drain" => pause(alloc, &mut calls, times, 1)?,
+        "paused-idle-drain" => pause(alloc, &mut calls, 0, times)?,
+        call => {
+            if !make_stores(alloc, &mut calls, call, plan)? {
+                return Ok(None);
+            }
+        }
+    }
+    Ok(Some(calls.checksum()))
+}
+
+fn by_race(alloc: Global, call: &str, plan: &Plan) -> Result<Option<u64>, NoMemory> {
+    let (race, mut racers, mut sweepers) = Race::open(alloc, plan.layout, 1, 1)?;
+    let (racer, sweeper) = (&mut racers[0], &mut sweepers[0]);
+    if call == "refine" {
+        let cards = plan.layout.card_count();
+        store_across(&mut RaceCalls::new(&race, racer), 0, cards);
+        refine(&race, sweeper, cards);
+        return Ok(Some(refine(&race, sweeper, plan.times)));
+    }
+    let mut calls = RaceCalls::new(&race, racer);
+    let is_one = make_stores(alloc, &mut calls, call, plan)?;
+    Ok(is_one.then_some(calls.checksum()))
 }

@@ -1,11 +1,7 @@
-//! Takes heaps through what a runtime does, and compares each answer with a scan of every slot.
-//!
-//! - [`large`]: `gate_heaps core|race REGIONS CARDS SLOTS`, one pause of a heap of any size.
-//! - [`cycles`]: `gate_heaps drains|threads|alone N STORES`, races that pause in place, over and
-//!   over.
+//! Takes a heap of any size through what a runtime does, and compares each answer with a scan of
+//! every slot: `gate_heaps core|race REGIONS CARDS SLOTS`.
 #![tactic(auto)]
 
-mod cycles;
 mod large;
 
 use anyhow::{Context, Result};
@@ -16,11 +12,8 @@ fn main(rt: HostRuntime) -> Result<()> {
     for word in env::args(&rt)?.skip(1) {
         words.push(word)?;
     }
-    if let Some(plan) = large::plan_of(words.as_slice()) {
-        return large::play(&rt, plan);
-    }
-    let plan = cycles::plan_of(words.as_slice()).context(
-        "usage: gate_heaps core|race REGIONS CARDS SLOTS, or drains|threads|alone N STORES",
+    let plan = large::plan_of(words.as_slice()).context(
+        "usage: gate_heaps core|race REGIONS CARDS SLOTS",
     )?;
-    cycles::play(&rt, plan)
+    large::play(&rt, plan)
 }
