@@ -8,10 +8,10 @@ use std::alloc::Global;
 /// Where stores go.
 pub trait Barrier {
     ghost use Rattle.std.specs.Prelude.{◌≡◌, ◌<◌, IfSome};
-    ghost use Rattle.g1_layout.specs.Shape.{slot_count};
+    ghost use Rattle.g1_layout.specs.Shape.{Shape, slot_count};
 
     /// The counts of its heap.
-    ghost layout_of: { Self → Layout };
+    ghost layout_of: { Self → Shape };
 
     /// The counts of its heap.
     fn layout(&self) -> Layout
