@@ -18,8 +18,6 @@ pub(crate) struct Plan {
     pub(crate) cards: u32,
     // whether the stores go all over the heap, or to slot 8k alone
     pub(crate) spread: bool,
-    // the number of the first store, by which the stores of one race differ from those of another
-    pub(crate) first: u32,
 }
 
 // A number below the bound that depends on both others.
@@ -53,12 +51,7 @@ fn store_all(race: &Race, racer: &mut Racer, plan: Plan, k: u32)
     ensures race { racer_race racer.new ≡ racer_race racer.old }
 {
     for turn in 0..plan.stores {
-        if let Some((slot, target)) = nth_store(
-            race.layout(),
-            plan,
-            k,
-            turn.wrapping_add(plan.first),
-        ) {
+        if let Some((slot, target)) = nth_store(race.layout(), plan, k, turn) {
             if !racer.has_room() {
                 racer.take_log();
             }
@@ -219,7 +212,6 @@ fn race_in_threads(rt: HostRuntime) -> Result<(), Fail> {
         rounds: 20,
         cards: 8,
         spread: false,
-        first: 0,
     };
     let closed = raced(&rt, rt.alloc(), layout, 4, 2, plan)?;
     let mut stored: u64 = 0;
@@ -244,7 +236,6 @@ fn race_over_the_largest_heap(rt: HostRuntime) -> Result<(), Fail> {
         rounds: 20,
         cards: 64,
         spread: true,
-        first: 0,
     };
     let closed = raced(&rt, rt.alloc(), layout, 8, 4, plan)?;
     assert!(rt; is_covered(&closed));

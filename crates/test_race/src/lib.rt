@@ -11,13 +11,7 @@ mod by_hand;
 #[cfg(test)]
 mod checks;
 #[cfg(test)]
-mod copy;
-#[cfg(test)]
-mod cycles;
-#[cfg(test)]
 mod data;
-#[cfg(test)]
-mod free;
 #[cfg(test)]
 mod in_threads;
 #[cfg(test)]
@@ -29,8 +23,4 @@ mod paused;
 #[cfg(test)]
 mod readers;
 #[cfg(test)]
-mod shares;
-#[cfg(test)]
 mod small;
-#[cfg(test)]
-mod verify;

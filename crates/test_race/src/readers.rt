@@ -175,7 +175,6 @@ fn four_readers(rt: HostRuntime) -> Result<(), Fail> {
         rounds: 1,
         cards: 32,
         spread: true,
-        first: 0,
     };
     let mut paused = race_on(&rt, Paused::open(rt.alloc(), layout, 4, 2)?, plan);
     let told = told_of(&rt, rt.alloc(), &mut paused)?;
