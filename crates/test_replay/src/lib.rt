@@ -1,6 +1,7 @@
-//! Tests of `g1_replay` through its public calls, which no file of a trace can show: readers and
-//! writers that fail, and the options and texts of the command line. The worked traces are files,
-//! and `scripts/check-traces` replays them; `scripts/check-lines` has tables of lines.
+//! Tests of `g1_replay` through its public calls, which no file can show: readers and writers that
+//! fail, and the options of the command line. The worked traces are files, and
+//! `scripts/check-traces` replays them; `scripts/check-lines` has tables of lines, and
+//! `scripts/check-statuses` command lines with what they print.
 //!
 //! A crate of its own for the gate: a proof of the tests does not prove the libraries again.
 #![tactic(auto)]
@@ -14,9 +15,7 @@ mod crews_and_races;
 #[cfg(test)]
 mod failing_ends;
 #[cfg(test)]
-mod help;
-#[cfg(test)]
-mod line_faults;
+mod faults;
 #[cfg(test)]
 mod options;
 #[cfg(test)]

@@ -1,6 +1,5 @@
 //! The options that a command line gives.
-use crate::checks::assert_equal;
-use crate::help::{is_refused, read};
+use crate::checks::{assert_equal, read, refusal};
 use crate::played::config;
 use g1_replay::{Mode, Options};
 use std::alloc::AllocError;
@@ -161,7 +160,8 @@ fn is_outside(
          \n\
          For more information, try '--help'.\n"
     )?;
-    is_refused(rt, &["g1replay", subcommand, word.as_str()], text.as_str());
+    let fault = refusal(rt, &["g1replay", subcommand, word.as_str()]);
+    assert_equal(rt, fault.text.as_str(), text.as_str());
     Ok(())
 }
 
