@@ -6,7 +6,7 @@ ghost use Rattle.g1_c.specs.{IsRefusal, IsHeapRefused, IsSameHeap, OfPaused, Lac
 ghost use Rattle.g1_c.specs.{SaysNoMove, TellsRefusal, FreesAt, LacksSomeRegion};
 
 use crate::calling::on_heap;
-use crate::tell::{answer_word, tell};
+use crate::tell::{answer_word, tell, tell_reply};
 use g1_core::ClearReply;
 use g1_handles::code::Reason;
 use g1_handles::heap::evacuation::{clear_at, forget_at, free_at, redirect_at, wipe_at};
@@ -32,16 +32,7 @@ pub extern "C" fn g1_heap_clear(
         (IsHeapRefused heap.old.value (λ old. LacksRegion old.layout region)) }
     ensures refused { 0 < result → heap.new.value ≡ heap.old.value }
 {
-    match on_heap!(alloc, heap, clear_at(region)) {
-        Err(refusal) => {
-            *detail = 0;
-            refusal.word()
-        }
-        Ok((word, number)) => {
-            *detail = number;
-            word
-        }
-    }
+    tell_reply!(on_heap!(alloc, heap, clear_at(region)), detail)
 }
 
 /// As in `g1.h`.
@@ -63,16 +54,7 @@ pub extern "C" fn g1_heap_free(
         (IsHeapRefused heap.old.value (λ old. LacksSomeRegion old.layout regions.now)) }
     ensures refused { 0 < result → heap.new.value ≡ heap.old.value }
 {
-    match on_heap!(alloc, heap, free_at(regions)) {
-        Err(refusal) => {
-            *detail = 0;
-            refusal.word()
-        }
-        Ok((word, number)) => {
-            *detail = number;
-            word
-        }
-    }
+    tell_reply!(on_heap!(alloc, heap, free_at(regions)), detail)
 }
 
 /// As in `g1.h`.
