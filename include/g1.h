@@ -178,9 +178,9 @@ enum g1_code {
     G1_NO_ROOM = 16,          /* an array is too small */
     G1_TOO_MANY_CARDS = 17,   /* more than G1_LOG cards, or stores, at once */
     G1_SAME_REGION = 18,      /* references were to be moved from a region to itself */
-    G1_STILL_PENDING = 19,    /* a clear, while cards are pending */
-    G1_STILL_REFERENCED = 20, /* a clear, while a slot outside the region refers into it; or
-                                 g1_heap_forget, while one inside refers out of it */
+    G1_STILL_PENDING = 19,    /* a clear or a free, while cards are pending */
+    G1_STILL_REFERENCED = 20, /* a clear or a free, while a slot outside the region, or regions,
+                                 refers into it; or g1_heap_forget, while one inside refers out */
     G1_LOG_FULL = 22,         /* the racer's log has G1_LOG cards: take it, and store again */
     G1_BAD_HANDLES = 23,      /* not as many racers, sweepers or readers as the heap has, or as a
                                  heap may have */
@@ -897,9 +897,9 @@ uint32_t g1_heap_members(struct g1_heap *heap, uint32_t region, uint32_t *cards,
  *          from = card + 1)
  *
  * `from` may be greater than any card's number. A walk meets what g1_heap_members returns. You may
- * store, copy and wipe between its steps: only a refine, a drain, a clear, a redirect and a forget
- * change what is recorded. The call reads a word for each 64 cards up to the one that it finds, and
- * takes no memory.
+ * store, copy and wipe between its steps: only a refine, a drain, a clear, a redirect, a forget and
+ * a free change what is recorded. The call reads a word for each 64 cards up to the one that it
+ * finds, and takes no memory.
  *
  * Returns G1_DONE, or G1_NOT_OPEN, G1_NOT_PAUSED or G1_NO_REGION: `card` is G1_NULL.
  */
@@ -1032,6 +1032,33 @@ uint32_t g1_heap_copy(struct g1_heap *heap, uint32_t from, uint32_t to, uint32_t
  */
 G1_MUST_USE
 uint32_t g1_heap_clear(struct g1_heap *heap, uint32_t region, uint32_t *detail);
+
+/*
+ * Frees the regions of a collection set, once no card is dirty and no slot outside them refers into
+ * one of them. Afterwards none of their slots refers into another region, none of their cards is in
+ * a remembered set, and their own sets are empty.
+ *
+ * Its steps are those of other calls: null is stored into each slot of the regions that refers into
+ * another region, as by g1_heap_store; then each region is forgotten, as by g1_heap_forget, and its
+ * set emptied, as by g1_heap_clear. A slot that refers inside its region keeps its reference, and
+ * one with data its data: g1_heap_wipe would make these null too.
+ *
+ * The regions may come in any order, and more than once. The call reads each slot of the regions,
+ * and once the slots of each card that g1_heap_next_into would find for them. Of what is dirty and
+ * recorded it reads what that walk, and a forget and a clear of each region, would. It writes only
+ * slots that refer into another region, and what is recorded. It takes no memory.
+ *
+ * Returns:
+ *   - G1_DONE: `detail` is 0.
+ *   - G1_NOT_OPEN, G1_NOT_PAUSED, or G1_NO_REGION for any of the regions: nothing has changed, and
+ *     `detail` is 0.
+ *   - G1_STILL_PENDING: nothing has changed. `detail` is how many cards are dirty; refine first.
+ *   - G1_STILL_REFERENCED: nothing has changed. `detail` is the least slot of the heap that is
+ *     outside the regions and refers into one of them.
+ */
+G1_MUST_USE
+uint32_t g1_heap_free(struct g1_heap *heap, const uint32_t *regions, size_t regions_length,
+                      uint32_t *detail);
 
 /*
  * Refines all that is dirty, and empties the racers' logs. Then it moves each reference from a slot

@@ -581,6 +581,13 @@ public:
         return internal::code(g1_heap_clear(get(), region, &detail));
     }
 
+    // g1_heap_free
+    template <typename Regions>
+    [[nodiscard]] g1_code free(const Regions &regions, std::uint32_t &detail) noexcept {
+        return internal::code(
+            g1_heap_free(get(), internal::elements(regions), std::size(regions), &detail));
+    }
+
     // g1_heap_redirect
     g1_code redirect(std::uint32_t from, std::uint32_t to, std::uint32_t &moved) noexcept {
         return internal::code(g1_heap_redirect(get(), from, to, &moved));

@@ -183,9 +183,8 @@ static void evacuation(void) {
         places[i] = copies[i] == G1_NULL ? places[i] : copies[i];
     }
     expect(g1_heap_wipe(&heap, from) == G1_DONE, "a wipe");
-    expect(g1_heap_forget(&heap, from) == G1_DONE, "a forget");
     expect(g1_heap_refine(&heap) == G1_DONE, "a refinement");
-    expect(g1_heap_clear(&heap, from, &detail) == G1_DONE, "a clear");
+    expect(g1_heap_free(&heap, &from, 1, &detail) == G1_DONE, "a free");
 }
 
 // Each object has its number, and refers to what it has to.

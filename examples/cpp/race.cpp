@@ -209,6 +209,7 @@ static void collect(ConcurrentHeap &heap) {
     }
     const std::array<std::uint32_t, 2> regions{0, 1};
     check(heap.next_into(regions, 0, detail) == G1_DONE && detail == 192, "a collection set");
+    check(heap.free(regions, detail) == G1_STILL_REFERENCED && detail == 192, "no free of it");
     check(heap.next_dirty(0, detail) == G1_DONE && detail == G1_NULL, "no dirty card");
     const std::array<g1_reference, 2> stores{{{1, G1_NULL}, {all_cards, 0}}};
     check(heap.store_all(stores, stored) == G1_STOPPED && stored == 1, "one store of two");
@@ -221,6 +222,7 @@ static void collect(ConcurrentHeap &heap) {
     check(heap.target(3, detail) == G1_DONE && detail == 131, "a reference that was moved");
     check(heap.clear(1, detail) == G1_DONE, "a clear");
     check(heap.wipe(0) == G1_DONE && heap.forget(0) == G1_DONE, "a region that is freed");
+    check(heap.free(std::array<std::uint32_t, 1>{1}, detail) == G1_DONE, "and another one");
     check(heap.store(0, 64, kind) == G1_DONE && kind == G1_STORED_LOGGED, "a store");
     check(heap.verify(0, all_cards, one, detail, moved) == G1_DONE, "a check");
     check(detail == 0 && moved == G1_NULL, "slot 0 refers to no slot 1");

@@ -297,13 +297,10 @@ impl Pause<'_> {
         let heap = &mut self.heap;
         let set: Vec<_> = runtime.set().filter_map(|n| heap.region(n).ok()).collect();
         for region in &set {
-            heap.wipe(*region)?; // what a freed slot holds bars clears
-            heap.forget(*region)?;
+            heap.wipe(*region)?; // the fields of a new object are null
         }
-        heap.refine()?; // nothing may be pending at a clear
-        for region in set {
-            wrong += usize::from(heap.clear(region)? != Cleared::Cleared);
-        }
+        heap.refine()?; // nothing may be pending at a free
+        wrong += usize::from(heap.free(&set)? != Cleared::Cleared);
         runtime.freed.fetch_add(SET, SeqCst);
         Ok(wrong)
     }

@@ -192,14 +192,14 @@ pub enum Drained {
     },
 }
 
-/// What a clear did.
+/// What a clear of a region, or a free of several, did.
 #[derive(Clone, Copy, Debug, PartialEq, Eq)]
 pub enum Cleared {
-    /// The set is empty.
+    /// The sets are empty.
     Cleared,
-    /// Refused: cards are pending, as many as this says. Drain first.
+    /// Refused: cards are pending, as many as this says. Drain or refine first.
     Pending(u32),
-    /// Refused: this is the least slot outside the region that refers into it.
+    /// Refused: this is the least slot outside the regions that refers into one of them.
     StillReferenced(Slot),
 }
 

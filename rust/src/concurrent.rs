@@ -182,7 +182,7 @@ pub struct Racing {
     life: Life,
 }
 
-/// A racer: a mutator stores by it, and it has a log of [`LOG`](crate::LOG) cards.
+/// A racer: a mutator stores by it, and it has a log of [`LOG`] cards.
 pub struct Racer {
     seat: Seat<RacerHandle>,
 }

@@ -183,6 +183,12 @@ extern "C" {
     pub fn g1_heap_store_data(heap: *mut HeapHandle, slot: u32, word: u64) -> u32;
     pub fn g1_heap_copy(heap: *mut HeapHandle, from: u32, to: u32, count: u32) -> u32;
     pub fn g1_heap_clear(heap: *mut HeapHandle, region: u32, detail: *mut u32) -> u32;
+    pub fn g1_heap_free(
+        heap: *mut HeapHandle,
+        regions: *const u32,
+        regions_length: usize,
+        detail: *mut u32,
+    ) -> u32;
     pub fn g1_heap_redirect(heap: *mut HeapHandle, from: u32, to: u32, moved: *mut u32) -> u32;
     pub fn g1_heap_wipe(heap: *mut HeapHandle, region: u32) -> u32;
     pub fn g1_heap_forget(heap: *mut HeapHandle, region: u32) -> u32;

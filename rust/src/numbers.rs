@@ -200,6 +200,14 @@ impl Numbers {
         }
     }
 
+    /// The numbers of regions, as the library takes them.
+    ///
+    /// Refused with [`Refusal::OtherHeap`] if any region is another heap's.
+    pub fn of_regions(&self, regions: &[Region]) -> Result<Vec<u32>, Refusal> {
+        let number = |region: &Region| self.has(region.home).map(|()| region.number);
+        regions.iter().map(number).collect()
+    }
+
     /// Refused with [`Refusal::OtherHeap`] if the slot is another heap's, or with
     /// [`Refusal::NoSlot`] if the heap has fewer slots from it on.
     pub fn has_row(&self, first: Slot, count: usize) -> Result<(), Refusal> {

@@ -479,3 +479,35 @@ fn stores_and_moves_references_at_a_pause() {
     assert_eq!(heap.store_all(&[(near, None), (far, None)]), Ok(()));
     assert_eq!(heap.clear(to), Ok(Cleared::Cleared));
 }
+
+#[test]
+fn frees_regions_together() {
+    let mut heap = heap();
+    let (kept, data) = (slot(&heap, 257), slot(&heap, 258));
+    let (first, second, outside) = (slot(&heap, 300), slot(&heap, 600), slot(&heap, 5));
+    heap.store_data(data, DATA).expect("data");
+    for (from, to) in [
+        (first, second),
+        (second, first),
+        (kept, data),
+        (outside, second),
+    ] {
+        heap.store(from, Some(to)).expect("a store");
+    }
+    heap.store(first, Some(outside)).expect("a store");
+    let set = [first.region(), second.region()];
+    assert_eq!(heap.free(&set), Ok(Cleared::Pending(3)));
+    assert_eq!(heap.refine(), Ok(()));
+    assert_eq!(heap.free(&set), Ok(Cleared::StillReferenced(outside)));
+    assert_eq!(heap.target(first), Ok(Some(outside)));
+    heap.store(outside, None).expect("a store");
+    assert_eq!(heap.free(&set), Ok(Cleared::Cleared));
+    assert_eq!(heap.target(first), Ok(None));
+    assert_eq!(heap.target(second), Ok(None));
+    assert_eq!(heap.target(kept), Ok(Some(data)));
+    assert_eq!(heap.word(data), Ok(Word::Data(DATA)));
+    assert_eq!(heap.status().map(|totals| totals.recorded), Ok(0));
+    assert_eq!(heap.free(&[]), Ok(Cleared::Cleared));
+    let other = self::heap().region(1).expect("a region");
+    assert_eq!(heap.free(&[set[0], other]), Err(Refusal::OtherHeap));
+}

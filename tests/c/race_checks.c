@@ -614,15 +614,22 @@ static int is_into(const struct heap *heap, const uint32_t *regions, size_t coun
     return is_recorded;
 }
 
+// Regions of a collection set, some perhaps twice, and why a call of them may be refused.
+static size_t some_regions(const struct heap *heap, uint32_t *regions, uint64_t *refusals) {
+    size_t count = below(REGIONS + 1);
+    *refusals = at_pause(heap);
+    for (size_t i = 0; i < count; i++) {
+        regions[i] = below(8) == 0 ? below(REGIONS + 1) : below(REGIONS);
+        *refusals |= no_region(heap, regions[i]);
+    }
+    return count;
+}
+
 // Walks over the cards of a collection set, and over the dirty ones.
 static void scan(struct heap *heap) {
     uint32_t regions[REGIONS], from = below(ALL_CARDS + 2), next = 7, wanted = G1_NULL;
-    size_t count = below(REGIONS + 1);
-    uint64_t refusals = at_pause(heap);
-    for (size_t i = 0; i < count; i++) {
-        regions[i] = below(8) == 0 ? below(REGIONS + 1) : below(REGIONS);
-        refusals |= no_region(heap, regions[i]);
-    }
+    uint64_t refusals;
+    size_t count = some_regions(heap, regions, &refusals);
     for (uint32_t card = ALL_CARDS; card-- > from && refusals == 0;) {
         wanted = is_into(heap, regions, count, card) ? card : wanted;
     }
@@ -708,6 +715,42 @@ static void clear(struct heap *heap) {
     check(detail == wanted, "the detail of a clear");
     if (answers(code, refusals | still, "clear")) {
         memset(heap->recorded[region], 0, ALL_CARDS);
+    }
+}
+
+// The regions of a set are free: what refers out of one is null, and no pair of theirs is recorded.
+static void free_in_table(struct heap *heap, const unsigned char *is_freed) {
+    for (uint32_t slot = 0; slot < ALL_SLOTS; slot++) {
+        int leaves = is_freed[slot / REGION_SLOTS] && entered_by(heap, slot) != REGIONS;
+        heap->words[slot] = leaves ? 0 : heap->words[slot];
+    }
+    for (uint32_t region = 0; region < REGIONS; region++) {
+        for (uint32_t card = 0; card < ALL_CARDS; card++) {
+            heap->recorded[region][card] &= !is_freed[region] && !is_freed[card / CARDS];
+        }
+    }
+}
+
+static void free_set(struct heap *heap) {
+    unsigned char is_freed[REGIONS + 1] = {0};
+    uint32_t regions[REGIONS], detail = 7, least = ALL_SLOTS;
+    uint32_t dirty = sum(heap->dirty, ALL_CARDS);
+    uint64_t refusals;
+    size_t count = some_regions(heap, regions, &refusals);
+    for (size_t i = 0; i < count && refusals == 0; i++) {
+        is_freed[regions[i]] = 1;
+    }
+    for (uint32_t slot = ALL_SLOTS; slot-- > 0;) {
+        int enters = is_freed[entered_by(heap, slot)] && !is_freed[slot / REGION_SLOTS];
+        least = enters ? slot : least;
+    }
+    uint64_t still = bit(G1_STILL_PENDING, refusals == 0 && dirty > 0) |
+                     bit(G1_STILL_REFERENCED, refusals == 0 && dirty == 0 && least < ALL_SLOTS);
+    uint32_t code = g1_heap_free(&heap->handle, regions, count, &detail);
+    uint32_t wanted = code == G1_STILL_PENDING ? dirty : code == G1_STILL_REFERENCED ? least : 0;
+    check(detail == wanted, "the detail of a free");
+    if (answers(code, refusals | still, "free")) {
+        free_in_table(heap, is_freed);
     }
 }
 
@@ -807,6 +850,7 @@ static void random_call(struct heap *heap) {
     case 26: scan(heap); break;
     case 27: race_store_words(heap); break;
     case 28: collector_stores_words(heap); break;
+    case 29: free_set(heap); break;
     default: race_store(heap); break;
     }
     compare(heap);

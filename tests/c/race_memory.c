@@ -126,9 +126,10 @@ static void read_pause(void) {
     expect(g1_heap_read_end(&all.heap, readers, RACERS + 1) == G1_DONE, "the end of a reading");
 }
 
-// A race and a pause. Region 3 is moved to region 2 and freed.
+// A race and a pause. Region 3 is moved to region 2 and freed, and then all regions are.
 static void cycle(void) {
-    uint32_t log[G1_LOG], moved, detail;
+    static const uint32_t regions[] = {0, 1, 2, 3};
+    uint32_t log[G1_LOG], moved, detail, kind;
     resume();
     stores(0, 0, 8, G1_STORED_LOGGED);
     stores(0, 4, 24, G1_STORED_LOGGED);
@@ -147,11 +148,13 @@ static void cycle(void) {
     expect(g1_heap_wipe(&all.heap, 3) == G1_DONE, "wipe");
     expect(g1_heap_forget(&all.heap, 3) == G1_DONE, "forget");
     expect(g1_heap_clear(&all.heap, 3, &detail) == G1_DONE, "clear");
-    for (uint32_t freed = 0; freed < 4; freed++) {
-        expect(g1_heap_wipe(&all.heap, freed) == G1_DONE, "wipe");
-        expect(g1_heap_forget(&all.heap, freed) == G1_DONE, "forget");
-    }
+    expect(g1_heap_store(&all.heap, 16, 9, &kind) == G1_DONE, "the collector's store");
+    word = g1_heap_free(&all.heap, regions, 4, &detail);
+    expect(word == G1_STILL_PENDING && detail == 1, "a free with a dirty card");
     expect(g1_heap_refine(&all.heap) == G1_DONE, "refine");
+    word = g1_heap_free(&all.heap, regions, 1, &detail);
+    expect(word == G1_STILL_REFERENCED && detail == 17, "a free of one region");
+    expect(g1_heap_free(&all.heap, regions, 4, &detail) == G1_DONE, "free");
 }
 
 int main(void) {

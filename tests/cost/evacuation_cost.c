@@ -125,6 +125,11 @@ static void clear_set(void) {
     }
 }
 
+static void free_set(void) {
+    uint32_t detail;
+    expect(g1_heap_free(&heap, set, SET, &detail));
+}
+
 static void record_and_wipe(void) {
     record();
     expect(g1_heap_wipe(&heap, REGIONS - 1));
@@ -171,6 +176,8 @@ static void print_lists(int rounds) {
     printf("| list all, by g1_heap_next_into | %.0f µs | |\n", least(record, list_set, 1e3, rounds));
     printf("| list each, by g1_heap_next_member | %.0f µs | |\n", least(record, list_each, 1e3, rounds));
     printf("| clear each | %.0f µs | |\n", least(record_and_wipe, clear_set, 1e3, rounds));
+    printf("| free all, by g1_heap_free | %.0f µs | |\n",
+           least(record_and_wipe, free_set, 1e3, rounds));
 }
 
 int main(int number, char **arguments) {

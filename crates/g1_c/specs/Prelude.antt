@@ -54,6 +54,7 @@ pub use Rattle.g1_layout.specs.declared.kind.Kind.{Kind}
 pub use Rattle.g1_race.specs.Calls.{ClearsAt, Copies, Forgets, Redirects, Refines, StoresAt}
 pub use Rattle.g1_race.specs.Calls.{StoresDataAt, Wipes}
 pub use Rattle.g1_race.specs.Evacuating.{IsRaceWith}
+pub use Rattle.g1_race.specs.Freeing.{FreesAt}
 pub use Rattle.g1_race.specs.Members.{race_layout, race_words}
 pub use Rattle.g1_race.specs.Over.{Pause, start_at, table_at}
 pub use Rattle.g1_race.specs.Reading.{IsNextPending}

@@ -47,3 +47,22 @@ pub(crate) fn tell_whether(answer: Result<bool, Reason>, out: &mut u32) -> u32
         }
     }
 }
+
+// The word of a reply to a clear or a free. Its number is written to `detail`, or 0 if the call is
+// refused.
+macro_rules! tell_reply {
+    ($answer:expr, $detail:expr) => {
+        match $answer {
+            Err(refusal) => {
+                *$detail = 0;
+                refusal.word()
+            }
+            Ok((word, number)) => {
+                *$detail = number;
+                word
+            }
+        }
+    };
+}
+
+pub(crate) use tell_reply;

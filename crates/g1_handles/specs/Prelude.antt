@@ -72,6 +72,7 @@ pub use Rattle.g1_race.specs.Calls.{StoresDataAt, StoresWordAt, Wipes}
 pub use Rattle.g1_race.specs.CollectionSet.{IsNextInto}
 pub use Rattle.g1_race.specs.Evacuating.{forgotten, IsExactAtPause, IsRaceWith, IsSameRace}
 pub use Rattle.g1_race.specs.Evacuating.{one_word, SlotsBecome, wiped}
+pub use Rattle.g1_race.specs.Freeing.{FreesAt}
 pub use Rattle.g1_race.specs.Members.{HasCleaned, HasDiffered, HasNotStored, HasOverwritten}
 pub use Rattle.g1_race.specs.Members.{HasStored}
 pub use Rattle.g1_race.specs.Members.{is_logged, IsKind, IsNewRacer, IsNewSweeper, IsPauseOf}

@@ -3,10 +3,11 @@ use super::{Life, Paused, Racer, Racing, Sweeper, Word, Words};
 use super::{NO_RACER, NO_SWEEPER, RACERS, SWEEPERS};
 use crate::answers::done;
 use crate::library::{
-    g1_heap_clear, g1_heap_copy, g1_heap_forget, g1_heap_is_pending, g1_heap_next_dirty,
-    g1_heap_next_into, g1_heap_next_member, g1_heap_open, g1_heap_redirect, g1_heap_refine,
-    g1_heap_resume, g1_heap_status, g1_heap_store, g1_heap_store_all, g1_heap_store_data,
-    g1_heap_store_words, g1_heap_verify, g1_heap_wipe, g1_heap_words, HeapHandle, DONE, NULL,
+    g1_heap_clear, g1_heap_copy, g1_heap_forget, g1_heap_free, g1_heap_is_pending,
+    g1_heap_next_dirty, g1_heap_next_into, g1_heap_next_member, g1_heap_open, g1_heap_redirect,
+    g1_heap_refine, g1_heap_resume, g1_heap_status, g1_heap_store, g1_heap_store_all,
+    g1_heap_store_data, g1_heap_store_words, g1_heap_verify, g1_heap_wipe, g1_heap_words,
+    HeapHandle, DONE, NULL,
 };
 use crate::numbers::{Home, Numbers};
 use crate::{Card, Cleared, Counts, Kind, Refusal, Region, Slot, Totals};
@@ -155,10 +156,7 @@ impl Paused {
     ///
     /// Refused with [`Refusal::OtherHeap`] if any region is another heap's.
     pub fn next_into(&mut self, regions: &[Region], from: u32) -> Result<Option<Card>, Refusal> {
-        let numbers = regions
-            .iter()
-            .map(|region| self.life.numbers.has(region.home).map(|()| region.number))
-            .collect::<Result<Vec<u32>, Refusal>>()?;
+        let numbers = self.life.numbers.of_regions(regions)?;
         let (mut number, handle) = (NULL, &mut self.life.handle);
         let (given, length) = (numbers.as_ptr(), numbers.len());
         done(unsafe { g1_heap_next_into(handle, given, length, from, &mut number) })?;
@@ -256,6 +254,27 @@ impl Paused {
         self.life.numbers.has(region.home)?;
         let mut detail = 0;
         let word = unsafe { g1_heap_clear(&mut self.life.handle, region.number, &mut detail) };
+        Cleared::of(word, detail, self.life.numbers.home)
+    }
+
+    /// Frees the regions of a collection set, once no card is dirty and no slot outside them refers
+    /// into one of them. Afterwards none of their slots refers into another region, none of their
+    /// cards is in a remembered set, and their own sets are empty.
+    ///
+    /// Null is stored into each of their slots that refers into another region, then each region is
+    /// forgotten as by [`Paused::forget`], and then its set is emptied as by [`Paused::clear`]. A
+    /// slot that refers inside its region keeps its reference, and one with data its data: only
+    /// [`Paused::wipe`] makes these null too.
+    ///
+    /// Time in the slots of the regions, and of each card that [`Paused::next_into`] would find for
+    /// them, and as of a forget and a clear of each. It takes memory for the numbers of the regions.
+    ///
+    /// Refused with [`Refusal::OtherHeap`] if any region is another heap's.
+    pub fn free(&mut self, regions: &[Region]) -> Result<Cleared, Refusal> {
+        let numbers = self.life.numbers.of_regions(regions)?;
+        let (mut detail, handle) = (0, &mut self.life.handle);
+        let (given, length) = (numbers.as_ptr(), numbers.len());
+        let word = unsafe { g1_heap_free(handle, given, length, &mut detail) };
         Cleared::of(word, detail, self.life.numbers.home)
     }
 

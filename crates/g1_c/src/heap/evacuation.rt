@@ -1,15 +1,15 @@
 //! What follows an evacuation of a heap at a pause: references are moved or a remembered set is
-//! emptied, and a region is freed.
+//! emptied, and regions are freed.
 ghost use Rattle.std.specs.Prelude.{◌≡◌, ◌≢◌, ◌⊎◌, ◌<◌};
 ghost use Rattle.g1_c.specs.{ClearsAt, Redirects, Wipes, Forgets, RefersOut};
 ghost use Rattle.g1_c.specs.{IsRefusal, IsHeapRefused, IsSameHeap, OfPaused, LacksRegion};
-ghost use Rattle.g1_c.specs.{SaysNoMove, TellsRefusal};
+ghost use Rattle.g1_c.specs.{SaysNoMove, TellsRefusal, FreesAt, LacksSomeRegion};
 
 use crate::calling::on_heap;
-use crate::tell::{answer_word, tell};
+use crate::tell::{answer_word, tell, tell_reply};
 use g1_core::ClearReply;
 use g1_handles::code::Reason;
-use g1_handles::heap::evacuation::{clear_at, forget_at, redirect_at, wipe_at};
+use g1_handles::heap::evacuation::{clear_at, forget_at, free_at, redirect_at, wipe_at};
 use g1_handles::heap::handle::HeapHandle;
 use std::alloc::Global;
 
@@ -32,16 +32,29 @@ pub extern "C" fn g1_heap_clear(
         (IsHeapRefused heap.old.value (λ old. LacksRegion old.layout region)) }
     ensures refused { 0 < result → heap.new.value ≡ heap.old.value }
 {
-    match on_heap!(alloc, heap, clear_at(region)) {
-        Err(refusal) => {
-            *detail = 0;
-            refusal.word()
-        }
-        Ok((word, number)) => {
-            *detail = number;
-            word
-        }
-    }
+    tell_reply!(on_heap!(alloc, heap, clear_at(region)), detail)
+}
+
+/// As in `g1.h`.
+#[unsafe(no_mangle)]
+pub extern "C" fn g1_heap_free(
+    alloc: Global,
+    heap: &mut HeapHandle,
+    regions: &[u32],
+    detail: &mut u32,
+) -> u32
+    ensures freed { result ≡ 0 → IsSameHeap heap.old.value heap.new.value (λ old new.
+        FreesAt old regions.now ClearReply.Cleared new) }
+    ensures pending { result ≡ 19 → IsSameHeap heap.old.value heap.new.value (λ old new.
+        FreesAt old regions.now (ClearReply.Pending detail.new) new) }
+    ensures referenced { result ≡ 20 → IsSameHeap heap.old.value heap.new.value (λ old new.
+        FreesAt old regions.now (ClearReply.StillReferenced detail.new) new) }
+    ensures none { result ≢ 19 → result ≢ 20 → detail.new ≡ 0 }
+    ensures why { 0 < result → result ≢ 19 → result ≢ 20 → IsRefusal result
+        (IsHeapRefused heap.old.value (λ old. LacksSomeRegion old.layout regions.now)) }
+    ensures refused { 0 < result → heap.new.value ≡ heap.old.value }
+{
+    tell_reply!(on_heap!(alloc, heap, free_at(regions)), detail)
 }
 
 /// As in `g1.h`.

@@ -5,6 +5,7 @@ ghost use Rattle.g1_c.specs.{ClearsTo, AreOnlyRead, length, take, IsWritten, IsR
 ghost use Rattle.g1_c.specs.{RedirectsTo, TellsRefusal};
 
 use crate::calling::on_core;
+use crate::tell::tell_reply;
 use g1_core::{ClearReply, Redirected};
 use g1_handles::code::{DONE, SHORT};
 use g1_handles::list::write_list;
@@ -31,16 +32,7 @@ pub extern "C" fn g1_clear(alloc: Global, handle: &mut Handle, region: u32, deta
         LacksRegion old.state.table.layout region)) }
     ensures refused { 0 < result → AreOnlyRead handle.old.value handle.new.value }
 {
-    match on_core!(alloc, handle, clear_in(region)) {
-        Err(refusal) => {
-            *detail = 0;
-            refusal.word()
-        }
-        Ok((word, number)) => {
-            *detail = number;
-            word
-        }
-    }
+    tell_reply!(on_core!(alloc, handle, clear_in(region)), detail)
 }
 
 /// As in `g1.h`.

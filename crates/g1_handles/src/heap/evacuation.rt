@@ -1,13 +1,14 @@
-//! What follows an evacuation: references are moved or a remembered set is emptied, and a region is
+//! What follows an evacuation: references are moved or a remembered set is emptied, and regions are
 //! freed.
 ghost use Rattle.std.specs.Prelude.{◌≡◌, ◌≢◌, ◌<◌, ◌⊎◌};
 ghost use Rattle.g1_handles.specs.{true, ℕ, false, IfOk, OnOk, IfErr, OnErr};
 ghost use Rattle.g1_handles.specs.{region_of, Crosses, table_at, IsRaceWith, ClearsAt, Redirects};
 ghost use Rattle.g1_handles.specs.{Wipes, Forgets, RefersOut, cleared_of, IsClearWord, LacksRegion};
-ghost use Rattle.g1_handles.specs.{SaysNoMove};
+ghost use Rattle.g1_handles.specs.{SaysNoMove, FreesAt, LacksSomeRegion};
 
 use crate::code::Reason;
 use crate::heap::at_pause::PausedHeap;
+use crate::heap::scan::has_regions;
 use crate::one_core::evacuation::{move_of, words_of};
 use g1_layout::{Layout, Region};
 
@@ -27,6 +28,21 @@ pub fn clear_at(heap: &mut PausedHeap, region: u32) -> Result<(u32, u32), Reason
         return Err(Reason::NoRegion);
     };
     Ok(words_of(heap.clear(region)))
+}
+
+/// Frees regions, once no card is dirty and no slot outside them refers into one of them. Returns
+/// the word of the reply and the number that goes with it, as [`clear_at`] does. Unless that word
+/// is 0, nothing has changed. Returns `NoRegion` if one of the numbers is of no region.
+pub fn free_at(heap: &mut PausedHeap, regions: &[u32]) -> Result<(u32, u32), Reason>
+    ensures freed { IfOk result (λ answer.
+        FreesAt heap.old regions.now (cleared_of answer.0 answer.1) heap.new) }
+    ensures words { IfOk result (λ answer. IsClearWord answer.0 answer.1) }
+    ensures why { IfErr result (LacksSomeRegion heap.old.layout regions.now) }
+    ensures refused { OnErr result (heap.new ≡ heap.old) }
+    ensures kept { IsRaceWith heap.new.logs heap.old heap.new }
+{
+    has_regions(heap.layout(), regions)?;
+    Ok(words_of(heap.free(regions)))
 }
 
 /// Moves the references into one region to another, and returns how many slots changed. Returns

@@ -41,7 +41,7 @@ pub fn next_into_at(heap: &mut PausedHeap, regions: &[u32], from: u32) -> Result
 }
 
 /// Returns `NoRegion` unless the heap has each of these regions.
-fn has_regions(layout: Layout, regions: &[u32]) -> Result<(), Reason>
+pub(crate) fn has_regions(layout: Layout, regions: &[u32]) -> Result<(), Reason>
     ensures within { IsOk result → All (λ region. region < layout.regions) regions.now }
     ensures why { IfErr result (LacksSomeRegion layout regions.now) }
 {
