@@ -1,6 +1,6 @@
 -- The steps of callers at a lent book, by what they do to that book, and what a command comes to by them.
 use Rattle.std.specs.Prelude.{◌≡◌, ◌<◌}
-use Rattle.g1_replay.specs.{ℕ, List, Bool, true, false, length, slice_index_or, refl, sym, ap, subst, ◌∙◌, inl, inr, Option, Result, Ok, Err, IsErrAnd, err_from_is_err_and, Appends, AppendsFront, Appends-nil, History, StoreReply, RefineReply, FlushReply, Reply, Refusal, Mutator, CallMade, IsStoreStep, IsFlushStep, IsStopped, MakesAsked, Line, Command, Machinery, CallsBy, Makes, StoresAt, FlushesAt, RefinesAt, WorksAt, IsPlayed, IsSaid, StandIf, StandStill, said_of, store_text, flush_text, refine_text, work_text, call_line, is_pause, Stop, WriteFailed, stop_of, IsCallPlayed}
+use Rattle.g1_replay.specs.{ℕ, List, Bool, true, false, length, slice_index_or, refl, sym, ap, subst, ◌∙◌, inl, inr, Option, Result, Ok, Err, IsErrAnd, err_from_is_err_and, Appends, AppendsFront, Appends-nil, History, StoreReply, RefineReply, FlushReply, Reply, Refusal, Mutator, CallMade, IsStoreStep, IsFlushStep, IsStopped, MakesAsked, Line, Command, Machinery, CallsBy, Makes, StoresAt, FlushesAt, RefinesAt, WorksAt, IsPlayed, StandIf, StandStill, said_of, store_text, flush_text, refine_text, work_text, call_line, is_pause, Stop, WriteFailed, stop_of, IsCallPlayed}
 use Rattle.g1_core.specs.declared.entry.Call.{Call}
 use Rattle.g1_trace.specs.declared.command.Command.TheVariants as command
 use Rattle.g1_steps.specs.Steps.{IsFlushed}
