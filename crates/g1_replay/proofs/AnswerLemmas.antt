@@ -1,6 +1,6 @@
 -- The calls of a command, and the line of what they answer.
 use Rattle.std.specs.Prelude.{◌||◌, if◌then◌else◌, ◌∷◌, ◌≡◌, ◌≢◌, ◌≤◌, ◌⊎◌}
-use Rattle.g1_replay.specs.{ap, sum_by, ◌∙◌, flat_map, All-head, All-tail, Kind, Logged, Fill, No, Entry, IsOwnFill, IsRefinementBy, counts_in, is_any_short, ℕ, List, [], Option, Some, None, true, false, inl, inr, refl, subst, sym, length, map, arith, Bool, Result, Ok, Err, IsSome, All, All-nil, All-cons, length-map, Appends, Full, Helped, StoreReply, RefineReply, Reply, store_entry, refine_entry, State, FlushReply, Refusal, History, CallMade, Stored, Refined, AreCalls, Grows, IsBookCall, Help, IsStored, help_calls, store_answer, flush_answer, nothing_flushed, filled, called, IsRound, Turn, round_calls, replies_of, round_size, Command, AppendsFront, store_text, refine_text, work_text, call_line, Stop, WriteFailed, played_one, HasPlayed, IsPlayRefused, IsDone, IsBookFull, Does, stop_of, flush_text, plain_piece, IsOfBuffer, IsOfNone, IsLineOf, IsErrAnd, err_from_is_err_and, more_may_come}
+use Rattle.g1_replay.specs.{ap, sum_by, ◌∙◌, flat_map, All-head, All-tail, Kind, Logged, Fill, No, Entry, IsOwnFill, IsRefinementBy, counts_in, is_any_short, ℕ, List, [], Option, Some, None, true, false, inl, inr, refl, subst, sym, length, map, arith, Bool, Result, Ok, Err, IsSome, All, All-nil, All-cons, length-map, Full, Helped, StoreReply, RefineReply, Reply, store_entry, refine_entry, State, FlushReply, Refusal, History, CallMade, Stored, Refined, AreCalls, Grows, IsBookCall, Help, IsStored, help_calls, store_answer, flush_answer, nothing_flushed, filled, called, IsRound, Turn, round_calls, replies_of, round_size, Command, IsCallPlayed, MakesAsked, IfErr, MayStop, said_of, of_done, Piece, IsSetBy, store_text, refine_text, work_text, call_line, Stop, played_one, HasPlayed, IsBookFull, Does, flush_text, plain_piece, IsOfBuffer, IsOfNone, IsLineOf, more_may_come}
 use Rattle.g1_core.specs.declared.entry.Call.{Call}
 use Rattle.g1_core.specs.Refinement.{IsRefined}
 use Rattle.g1_log.specs.declared.parcel.Parcel.{Parcel}
@@ -11,7 +11,16 @@ use Rattle.g1_steps.proofs.StepLemmas.{grows_none, grows_entered, calls_grow, ro
 use Rattle.g1_trace.specs.declared.command.Command.TheVariants as command
 use Rattle.std.proofs.lemmas.List.Concat.{length-flat_map}
 use Rattle.g1_log.proofs.Settles.{sum_by-map}
-use Rattle.g1_replay.proofs.PlayingLemmas.{one_done, one_undone}
+use Rattle.g1_replay.proofs.PlayingLemmas.{CameTo, does_said, said_stops}
+
+-- The calls of a command were made and entered, and the answer has their text.
+abbrev pub IsDone : {V : Type 0} → (V → List ℕ) → History → History → Command → V → Type 0
+IsDone text old new c answer = (p : Piece) × Grows old p.entries new × IsLineOf c p (text answer) × IsSetBy old.machine.settings c p.entries
+
+-- A call was refused, and nothing was entered.
+abbrev pub IsPlayRefused : History → History → Refusal → Type 0
+IsPlayRefused old new NoMemory = Grows old [] new
+IsPlayRefused old new BookFull = Grows old [] new × IsBookFull new
 
 -- A refinement of a buffer takes it, unless it is short.
 abbrev Takes : RefineReply → Type 0
@@ -144,31 +153,24 @@ pub call_refused : (old new : History) (refusal : Refusal) → new ≡ old → (
 call_refused old new NoMemory same full = subst (λ (b : History). Grows old [] b) (sym same) (grows_none old)
 call_refused old new BookFull same full = subst (λ (b : History). Grows old [] b × IsBookFull b) (sym same) (grows_none old, full refl)
 
-played_by : (old new : History) (c : Command) (text : List ℕ) → IsDone (λ (t : List ℕ). t) old new c text → HasPlayed old (c ∷ []) text new
+pub played_by : (old new : History) (c : Command) (text : List ℕ) → IsDone (λ (t : List ℕ). t) old new c text → HasPlayed old (c ∷ []) text new
 played_by old new c text p = subst (λ (t : List ℕ). HasPlayed old (c ∷ []) t new) (sym p.2.line) (played_one old new c p.0 p.2.piece p.3 p.1)
 
-nothing_played : (old new : History) → Grows old [] new → HasPlayed old [] [] new
+pub nothing_played : (old new : History) → Grows old [] new → HasPlayed old [] [] new
 nothing_played old new g = record { pieces = []; walked = tt; set = tt; grows = g; said = refl }
 
--- what a player does whose state has a book
-module _ {S : Type 0} (book_of : S → History) where
-  abbrev PlaysBook : Command → S → S → Option (List ℕ) → Option (List ℕ) → Result Bool Stop → Type 0
-  PlaysBook c old new out out' r = Does (λ s cs text t. HasPlayed (book_of s) cs text (book_of t)) (λ s. IsBookFull (book_of s)) (c ∷ []) old new out out' r
+was_refused : (old new : History) (refusal : Refusal) → IsPlayRefused old new refusal → HasPlayed old [] [] new × (refusal ≡ BookFull → IsBookFull new)
+was_refused old new NoMemory p = (nothing_played old new p, λ e. cc)
+was_refused old new BookFull p = (nothing_played old new p.0, λ e. p.1)
 
-  -- a command whose answer was written, or a beginning of it
-  pub does_answer : (old new : S) (c : Command) (text : List ℕ) (out out' : Option (List ℕ)) → IsDone (λ (t : List ℕ). t) (book_of old) (book_of new) c text → Appends out out' text → PlaysBook c old new out out' (Ok true)
-  does_answer old new c text out out' p w = one_done _ _ old new c text out out' (Ok true) (played_by (book_of old) (book_of new) c text p) refl (λ e. cc) w
+-- a call that was asked of a book
+pub asked_plays : (call : Call) (old new : History) (out out' : Option (List ℕ)) (r : Result (Unit {0}) Stop) → IsCallPlayed call old new out out' r
+    → Does (of_done HasPlayed) IsBookFull (command.Call call ∷ []) old new out out' (more_may_come r)
+asked_plays call old new out out' r p = does_said (of_done HasPlayed) IsBookFull (command.Call call) old new out out' (said_of (call_line call) p.0) r (came p.0 p.1) p.2
+  where
+    came : (result : Result Reply Refusal) → MakesAsked true old 0 call result new → CameTo (of_done HasPlayed) IsBookFull (command.Call call) old (said_of (call_line call) result) new
+    came (Ok reply) a = played_by old new (command.Call call) (call_line call reply) (call_says old new call reply a.made)
+    came (Err refusal) a = was_refused old new refusal (call_refused old new refusal a.err.1 (λ e. a.err.0.0 (ap Err e)))
 
-  pub does_front : (old new : S) (c : Command) (text : List ℕ) (out out' : Option (List ℕ)) (r : Result (Unit {0}) Stop) → IsErrAnd r (λ stop. stop ≡ WriteFailed) → IsDone (λ (t : List ℕ). t) (book_of old) (book_of new) c text → AppendsFront out out' text
-      → PlaysBook c old new out out' (more_may_come r)
-  does_front old new c text out out' r failed p w =
-      let e = err_from_is_err_and r failed in
-      rw (e.1, e.2) (one_done _ _ old new c text out out' (Err WriteFailed) (played_by (book_of old) (book_of new) c text p) refl (λ e. cc) w)
-
-  -- a command that was refused
-  stops_at : (old new : S) (c : Command) (refusal : Refusal) (out : Option (List ℕ)) → IsPlayRefused (book_of old) (book_of new) refusal → PlaysBook c old new out out (Err (stop_of refusal))
-  stops_at old new c NoMemory out p = one_undone _ _ old new c out (Err (stop_of NoMemory)) (nothing_played (book_of old) (book_of new) p) (omega arith) (λ e. cc)
-  stops_at old new c BookFull out p = one_undone _ _ old new c out (Err (stop_of BookFull)) (nothing_played (book_of old) (book_of new) p.0) (c, refl) (λ e. p.1)
-
-  pub does_refused : (old new : S) (c : Command) (refusal : Refusal) (out : Option (List ℕ)) (r : Result (Unit {0}) Stop) → IsErrAnd r (λ stop. stop ≡ stop_of refusal) → IsPlayRefused (book_of old) (book_of new) refusal → PlaysBook c old new out out (more_may_come r)
-  does_refused old new c refusal out r refused p = let e = err_from_is_err_and r refused in rw (e.1, e.2) (stops_at old new c refusal out p)
+pub asked_stops : (call : Call) (old new : History) (out out' : Option (List ℕ)) (r : Result (Unit {0}) Stop) → IsCallPlayed call old new out out' r → IfErr r MayStop
+asked_stops call old new out out' r p = said_stops (said_of (call_line call) p.0) out out' r p.2

@@ -1,6 +1,6 @@
 -- Drains of the core that a race has become.
 use Rattle.std.specs.Prelude.{◌≡◌, ◌≢◌, ◌⊎◌, ◌∷◌}
-use Rattle.g1_replay.specs.{ℕ, List, [], append-nil, ap, sym, subst, ◌∙◌, refl, inl, inr, ⊎_elim, Option, true, Contains, arith, Bool, Result, Err, true≢false, Shape, card_of, region_of, region_of_card, Drained, Cards, Short, drain_entry, drain_reply, Machine, IsStep, Table, Holds, IsCovered, IsRecorded, held, refined, Ended, refs_of, table_of, Command, Drain, Call, call_line, Stop, NoMemory, BookFull, Prints, AreDrains, CoreDrained, core_drained_none, Does, AreExact, IsExactByStores, drain_text, referring, IsTableLeftBy}
+use Rattle.g1_replay.specs.{ℕ, List, [], append-nil, ap, sym, subst, ◌∙◌, refl, inl, inr, ⊎_elim, Option, true, Contains, arith, Bool, Result, Err, true≢false, Shape, card_of, region_of, region_of_card, Drained, Cards, Short, drain_entry, drain_reply, Machine, IsStep, Table, Holds, IsCovered, IsRecorded, held, refined, Ended, refs_of, table_of, Command, Drain, Call, call_line, Stop, NoMemory, BookFull, Prints, AreDrains, CoreDrained, core_drained_none, Does, of_done, Appends-nil, AreExact, IsExactByStores, drain_text, referring, IsTableLeftBy}
 use Rattle.std.specs.FinSet as set
 use Rattle.std.specs.Ordering.{nat_cmp}
 use Rattle.g1_layout.specs.Sets.{CardSet}
@@ -9,7 +9,7 @@ use Rattle.g1_replay.proofs.PlayingLemmas.{none_undone, one_done, one_undone}
 
 -- what one drain of a core does
 abbrev pub Drives : ℕ → Machine → Machine → Option (List ℕ) → Option (List ℕ) → Result Bool Stop → Type 0
-Drives region old new out out' r = Does CoreDrained (λ (m : Machine). ⊥) (Call (Drain region) ∷ []) old new out out' r
+Drives region old new out out' r = Does (of_done CoreDrained) (λ (m : Machine). ⊥) (Call (Drain region) ∷ []) old new out out' r
 
 abbrev pub Steps : ℕ → Machine → Drained → Machine → Type 0
 Steps region old answer new = (caller : ℕ) → IsStep old.state.table (drain_entry caller region answer) new.state.table
@@ -32,10 +32,10 @@ one_drain old new region answer s = record {
 }
 
 pub drives_said : (old new : Machine) (region : ℕ) (answer : Drained) (out out' : Option (List ℕ)) (r : Result Bool Stop) → r ≢ Err BookFull → Steps region old answer new → Prints out out' r (call_line (Drain region) (drain_reply answer)) → Drives region old new out out' r
-drives_said old new region answer out out' r no_book s w = one_done CoreDrained (λ m. ⊥) old new _ _ out out' r (one_drain old new region answer s) (none_undone r no_book) no_book w
+drives_said old new region answer out out' r no_book s w = one_done (of_done CoreDrained) (λ m. ⊥) old new _ _ out out' r (one_drain old new region answer s) (none_undone r no_book) no_book w
 
 pub drives_refused : (old new : Machine) (region : ℕ) (out : Option (List ℕ)) → new ≡ old → Drives region old new out out (Err NoMemory)
-drives_refused old new region out same = one_undone CoreDrained (λ m. ⊥) old new _ out (Err NoMemory) (subst (λ (m : Machine). CoreDrained old [] [] m) (sym same) (core_drained_none old)) (omega arith) (λ e. cc)
+drives_refused old new region out same = one_undone (of_done CoreDrained) (λ m. ⊥) old new _ out out (Err NoMemory) (subst (λ (m : Machine). CoreDrained old [] [] m) (sym same) (core_drained_none old)) (omega arith) (λ e. cc) (Appends-nil out)
 
 -- a table to which drains of the first one led
 pub record IsFrom (first now : Table) : Type 0 where

@@ -1,6 +1,6 @@
 -- Drains of the first regions, one behind the other.
 use Rattle.std.specs.Prelude.{◌≡◌, ◌+◌, ◌∷◌, ◌++◌, ◌⊎◌}
-use Rattle.g1_replay.specs.{ℕ, suc, List, [], refl, sym, subst, append-nil, Option, inl, inr, true, arith, Ok, Err, Appends-nil, Appends-trans, Drain, Command, Call, puts_then, Stop, drains, HasDrained, Does, ap, ◌∙◌, end_met, written_by}
+use Rattle.g1_replay.specs.{ℕ, suc, List, [], refl, sym, subst, append-nil, Option, inl, inr, true, arith, Ok, Err, Appends-nil, Appends-trans, Drain, Command, Call, puts_then, Stop, drains, HasDrained, Does, of_done, ap, ◌∙◌, end_met, written_by}
 use Rattle.g1_replay.proofs.EndLemmas.{all_done}
 use Rattle.g1_replay.proofs.ToldLemmas.{written_as}
 
@@ -19,7 +19,7 @@ module _ {S : Type 0} (did : S → List Command → List ℕ → S → Type 0) (
   pub drained_none : (s : S) (out : Option (List ℕ)) → AreDrained 0 s s out out
   drained_none s out = record { drained = 0; text = []; played = none s; filled = λ e. cc; all = λ e. refl; written = Appends-nil out }
 
-  pub drained_more : (k : ℕ) (old mid new : S) (out mid_out out' : Option (List ℕ)) → AreDrained k old mid out mid_out → Does did full (Call (Drain k) ∷ []) mid new mid_out out' (Ok true) → AreDrained (k + 1) old new out out'
+  pub drained_more : (k : ℕ) (old mid new : S) (out mid_out out' : Option (List ℕ)) → AreDrained k old mid out mid_out → Does (of_done did) full (Call (Drain k) ∷ []) mid new mid_out out' (Ok true) → AreDrained (k + 1) old new out out'
   drained_more k old mid new out mid_out out' p q =
       let same : Call (Drain k) ∷ [] ≡ q.done = all_done (Call (Drain k) ∷ []) q.done q.undone q.all q.stopped in
       let next : suc p.drained ≡ k + 1 = let all = p.all refl in omega arith in
@@ -41,7 +41,7 @@ module _ {S : Type 0} (did : S → List Command → List ℕ → S → Type 0) (
       (suc k, then old mid new (drains k) (Call (Drain k) ∷ []) xs ys p (subst (λ (cs : List Command). did mid cs ys new) e q))
 
   -- a drain that was refused, or whose line was not written
-  pub drained_stopped : (regions k : ℕ) (old mid new : S) (out mid_out out' : Option (List ℕ)) (stop : Stop) → AreDrained k old mid out mid_out → Does did full (Call (Drain k) ∷ []) mid new mid_out out' (Err stop)
+  pub drained_stopped : (regions k : ℕ) (old mid new : S) (out mid_out out' : Option (List ℕ)) (stop : Stop) → AreDrained k old mid out mid_out → Does (of_done did) full (Call (Drain k) ∷ []) mid new mid_out out' (Err stop)
       → HasDrained did full regions old new out out' (Err stop)
   drained_stopped regions k old mid new out mid_out out' stop p q =
       let last = last_drain k old mid new q.done p.text q.text (one_done (Call (Drain k)) q.done q.undone q.all) (subst (λ j. did old (drains j) p.text mid) (p.all refl) p.played) q.made in

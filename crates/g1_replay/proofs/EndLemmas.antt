@@ -1,6 +1,6 @@
 -- The line of the end, and the whole output where the end says what it is.
 use Rattle.std.specs.Prelude.{◌≡◌, ◌∷◌, ◌++◌}
-use Rattle.g1_replay.specs.{ℕ, List, [], refl, ap, ◌∙◌, subst, append-nil, append_assoc, Option, Some, None, false, Result, Ok, Err, IfSome, Appends-trans, Appends, Consumes, Shape, Settings, Command, Dialect, TraceFault, AppendsFront, read_trace, before, front_then, End, Whole, Refused, Stop, Fault, WriteFailed, Tale, Told, IsEndWritten, IsReplayed, ending_line, end_of, IsRunText, IsUndone, IsWholeOutput, IsRefusedOutput, end_met, Prints, Reads, IsLeftToRead}
+use Rattle.g1_replay.specs.{ℕ, List, [], refl, ap, ◌∙◌, subst, append-nil, append_assoc, Option, Some, None, false, Result, Ok, Err, IfSome, Appends-trans, Appends, Consumes, Shape, Options, Command, Dialect, TraceFault, AppendsFront, read_trace, before, front_then, End, Whole, Refused, Stop, Fault, WriteFailed, Tale, Told, IsEndWritten, IsReplayed, ending_line, end_of, IsDoneText, IsRunText, IsUndone, IsWholeOutput, IsRefusedOutput, end_met, Prints, Reads, IsLeftToRead}
 use Rattle.g1_replay.specs.declared.end.End.TheVariants.{WriteFailed as EndWriteFailed}
 use Rattle.g1_replay.proofs.ReadingLemmas.{left_none}
 
@@ -83,5 +83,7 @@ module _ (d : Dialect) (Tells : Dialect → Tale) (IsWhole IsRefused : Option Sh
       record { told = (n, r, text, told, i); whole = says_whole rd r end told i; refused = says_refused rd r end told i }
 
 -- what was told of a run has the text of the commands that were done
-pub run_read : (d : Dialect) (s : Settings) (history : ℕ) (r : Result (Unit {0}) Stop) → ((undone : List Command) → IsUndone (end_met r) undone → undone ≡ []) → ReadsAs d (Told d s history) r (IsRunText s)
-run_read d s history r none n rd rd' text t = (t.heap, t.done, subst (λ (cs : List Command). Reads d None 1 n rd rd' t.heap cs (end_met r)) (all_done t.commands t.done t.undone t.all (none t.undone t.stopped)) t.read, t.run)
+pub run_read : (d : Dialect) (o : Options) (r : Result (Unit {0}) Stop) → ((undone : List Command) → IsUndone (end_met r) undone → undone ≡ []) → ReadsAs d (Told d o) r (IsDoneText o)
+run_read d o r none n rd rd' text t =
+    let no_more = none t.undone t.stopped in
+    (t.heap, t.done, subst (λ (cs : List Command). Reads d None 1 n rd rd' t.heap cs (end_met r)) (all_done t.commands t.done t.undone t.all no_more) t.read, subst (λ (cs : List Command). IsRunText o t.heap t.done cs text) no_more t.run)

@@ -19,6 +19,7 @@ pub mod CoreDrainLemmas
 pub mod RaceLemmas
 pub mod JobLemmas
 pub mod PlayedLemmas
+pub mod SteppedLemmas
 use AnswerLemmas.*
 use CrewScriptLemmas.*
 use PartLemmas.*

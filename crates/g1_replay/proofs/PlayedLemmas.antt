@@ -1,6 +1,6 @@
 -- The steps of callers at a lent book, by what they do to that book, and what a command comes to by them.
 use Rattle.std.specs.Prelude.{◌≡◌, ◌<◌}
-use Rattle.g1_replay.specs.{ℕ, List, Bool, true, false, length, slice_index_or, refl, sym, ap, subst, ◌∙◌, inl, inr, Option, Result, Ok, Err, IsErrAnd, err_from_is_err_and, Appends, AppendsFront, Appends-nil, History, StoreReply, RefineReply, FlushReply, Reply, Refusal, Mutator, CallMade, IsStoreStep, IsFlushStep, IsStopped, MakesAsked, Line, Command, Machinery, CallsBy, Makes, StoresAt, FlushesAt, RefinesAt, WorksAt, IsPlayed, IsSaid, StandIf, StandStill, said_of, store_text, flush_text, refine_text, work_text, call_line, is_pause, Stop, WriteFailed, stop_of}
+use Rattle.g1_replay.specs.{ℕ, List, Bool, true, false, length, slice_index_or, refl, sym, ap, subst, ◌∙◌, inl, inr, Option, Result, Ok, Err, IsErrAnd, err_from_is_err_and, Appends, AppendsFront, Appends-nil, History, StoreReply, RefineReply, FlushReply, Reply, Refusal, Mutator, CallMade, IsStoreStep, IsFlushStep, IsStopped, MakesAsked, Line, Command, Machinery, CallsBy, Makes, StoresAt, FlushesAt, RefinesAt, WorksAt, IsPlayed, StandIf, StandStill, said_of, store_text, flush_text, refine_text, work_text, call_line, is_pause, Stop, WriteFailed, stop_of, IsCallPlayed}
 use Rattle.g1_core.specs.declared.entry.Call.{Call}
 use Rattle.g1_trace.specs.declared.command.Command.TheVariants as command
 use Rattle.g1_steps.specs.Steps.{IsFlushed}
@@ -72,16 +72,13 @@ pub played_refused : (c : Command) (old new : Machinery) (refusal : Refusal) (ou
 played_refused c old new refusal out r refused made = let e = err_from_is_err_and r refused in rw (e.1, e.2) (Err refusal, made, (refl, Appends-nil out))
 
 -- a call that was asked of a book, with what was written of its reply
-abbrev IsAsked : Call → (old new : History) → (out out' : Option (List ℕ)) → Result (Unit {0}) Stop → Type 0
-IsAsked call old new out out' r = (reply : Result Reply Refusal) × MakesAsked true old 0 call reply new × IsSaid (said_of (call_line call) reply) out out' r
-
-pub asked_ok : (call : Call) (old new : History) (reply : Reply) (out out' : Option (List ℕ)) → MakesAsked true old 0 call (Ok reply) new → Appends out out' (call_line call reply) → IsAsked call old new out out' (Ok tt)
+pub asked_ok : (call : Call) (old new : History) (reply : Reply) (out out' : Option (List ℕ)) → MakesAsked true old 0 call (Ok reply) new → Appends out out' (call_line call reply) → IsCallPlayed call old new out out' (Ok tt)
 asked_ok call old new reply out out' asked w = (Ok reply, asked, (inl refl, w))
 
-pub asked_front : (call : Call) (old new : History) (reply : Reply) (out out' : Option (List ℕ)) (r : Result (Unit {0}) Stop) → IsErrAnd r (λ stop. stop ≡ WriteFailed) → MakesAsked true old 0 call (Ok reply) new → AppendsFront out out' (call_line call reply) → IsAsked call old new out out' r
+pub asked_front : (call : Call) (old new : History) (reply : Reply) (out out' : Option (List ℕ)) (r : Result (Unit {0}) Stop) → IsErrAnd r (λ stop. stop ≡ WriteFailed) → MakesAsked true old 0 call (Ok reply) new → AppendsFront out out' (call_line call reply) → IsCallPlayed call old new out out' r
 asked_front call old new reply out out' r failed asked w = let e = err_from_is_err_and r failed in rw (e.1, e.2) (Ok reply, asked, (inr refl, w))
 
-pub asked_refused : (call : Call) (old new : History) (refusal : Refusal) (out : Option (List ℕ)) (r : Result (Unit {0}) Stop) → IsErrAnd r (λ stop. stop ≡ stop_of refusal) → MakesAsked true old 0 call (Err refusal) new → IsAsked call old new out out r
+pub asked_refused : (call : Call) (old new : History) (refusal : Refusal) (out : Option (List ℕ)) (r : Result (Unit {0}) Stop) → IsErrAnd r (λ stop. stop ≡ stop_of refusal) → MakesAsked true old 0 call (Err refusal) new → IsCallPlayed call old new out out r
 asked_refused call old new refusal out r refused asked = let e = err_from_is_err_and r refused in rw (e.1, e.2) (Err refusal, asked, (refl, Appends-nil out))
 
 -- what was said of each mutator of a slice holds of each of the vector that it is a part of
@@ -110,7 +107,7 @@ stand_on true old mid new m t l s = record {
 }
 stand_on false old mid new m t l s = (m ∙ s.0, t ∙ s.1, l ∙ s.2)
 
-pub call_played : (call : Call) (old mid new : Machinery) (out out' : Option (List ℕ)) (r : Result (Unit {0}) Stop) → StandIf (is_pause call) old mid → mid.book ≡ old.book → new.mutators ≡ mid.mutators → new.takers ≡ mid.takers → new.line ≡ mid.line → IsAsked call mid.book new.book out out' r
+pub call_played : (call : Call) (old mid new : Machinery) (out out' : Option (List ℕ)) (r : Result (Unit {0}) Stop) → StandIf (is_pause call) old mid → mid.book ≡ old.book → new.mutators ≡ mid.mutators → new.takers ≡ mid.takers → new.line ≡ mid.line → IsCallPlayed call mid.book new.book out out' r
     → IsPlayed (command.Call call) old new out out' r
 call_played call old mid new out out' r stand same m t l asked = (
   said_of (call_line call) asked.0,

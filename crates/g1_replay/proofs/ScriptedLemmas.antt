@@ -1,6 +1,6 @@
 -- A trace that is read to its end before its scripts are run: how it is read, what that comes to, and its whole output.
 use Rattle.std.specs.Prelude.{◌≡◌, ◌⊎◌}
-use Rattle.g1_replay.specs.{ℕ, List, [], refl, subst, Option, Some, None, inl, inr, ⊎_elim, true, false, Bool, Result, Ok, Err, Appends, Consumes-nil, Shape, Command, Dialect, TraceFault, Puts, puts_none, puts_then, End, Commands, Stop, Fault, NoMemory, WriteFailed, Follows, Prints, written_by, PrintsSome, IsEndWritten, ending_line, IsReadStop, Reads, IsRunEnd, IsScriptReplayed, ScriptEnd, WasUnread, IfSome}
+use Rattle.g1_replay.specs.{ℕ, List, [], refl, subst, Option, Some, None, inl, inr, ⊎_elim, true, false, Bool, Result, Ok, Err, Appends, Consumes-nil, Shape, Command, Dialect, TraceFault, Puts, puts_none, puts_then, End, Commands, Stop, Fault, NoMemory, WriteFailed, Follows, of_done, Prints, written_by, PrintsSome, IsEndWritten, ending_line, IsReadStop, Reads, IsRunEnd, IsScriptReplayed, ScriptEnd, WasUnread, IfSome}
 use Rattle.g1_replay.specs.Scripted.{Scripted}
 use Rattle.g1_replay.proofs.EndLemmas.{ReadsAs, all_done, replayed}
 use Rattle.g1_replay.proofs.ReadingLemmas.{reads_then}
@@ -20,7 +20,7 @@ stops_unread d n rd = record { heap = None; commands = []; ends = inr refl; read
 module _ {S : Type 0} (Did : S → List Command → List ℕ → S → Type 0) (Full : S → Type 0) (silent : (s t : S) (cs : List Command) (text : List ℕ) → Did s cs text t → text ≡ []) where
   -- a header, and then lines that were not read to their end
   pub lines_stop : (Stops : Stop → Type 0) (only : (stop : Stop) → Stops stop → stop ≡ NoMemory) (n : ℕ) (a a' : Commands) (old new : S) (rd rd1 rd' out out' : Option (List ℕ)) (stop : Stop) → IsReadStop stop ⊎ Stops stop
-      → Reads a.dialect None n a.source.now.number rd rd1 (Some a.layout) [] (Ok true) → Follows Did Full a a' old new rd1 rd' out out' (Err stop) → WasUnread a.dialect n a'.source.now.number rd rd' (Err stop) [] × Appends out out' []
+      → Reads a.dialect None n a.source.now.number rd rd1 (Some a.layout) [] (Ok true) → Follows (of_done Did) Full a a' old new rd1 rd' out out' (Err stop) → WasUnread a.dialect n a'.source.now.number rd rd' (Err stop) [] × Appends out out' []
   lines_stop Stops only n a a' old new rd rd1 rd' out out' stop may head f =
       let h : IsReadStop stop ⊎ (stop ≡ NoMemory) = ⊎_elim (λ (r : IsReadStop stop). inl r) (λ (s : Stops stop). inr (only stop s)) may in (
         record {
@@ -35,7 +35,7 @@ module _ {S : Type 0} (Did : S → List Command → List ℕ → S → Type 0) (
 
   -- a header, and then lines that were
   pub lines_read : (n : ℕ) (a a' : Commands) (old new : S) (rd rd1 rd' out out' : Option (List ℕ)) → Reads a.dialect None n a.source.now.number rd rd1 (Some a.layout) [] (Ok true)
-      → Follows Did Full a a' old new rd1 rd' out out' (Ok false) → ((cs : List Command) × Reads a.dialect None n a'.source.now.number rd rd' (Some a.layout) cs (Ok false) × Did old cs [] new) × Appends out out' []
+      → Follows (of_done Did) Full a a' old new rd1 rd' out out' (Ok false) → ((cs : List Command) × Reads a.dialect None n a'.source.now.number rd rd' (Some a.layout) cs (Ok false) × Did old cs [] new) × Appends out out' []
   lines_read n a a' old new rd rd1 rd' out out' head f =
       let same : f.commands ≡ f.done.done = all_done f.commands f.done.done f.done.undone f.done.all f.done.stopped in
       let none = silent old new f.done.done f.done.text f.done.made in (

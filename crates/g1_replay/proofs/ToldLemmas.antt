@@ -1,8 +1,9 @@
 -- From what was read and played to the text of a permitted run.
 use Rattle.std.specs.Prelude.{◌≡◌, ◌≢◌, ◌≤◌, ◌++◌, ◌⊎◌}
-use Rattle.g1_replay.specs.{Bool, ℕ, List, [], refl, length, sym, ap, ◌∙◌, subst, arith, Option, Some, None, true, Result, Ok, Err, IfErr, IfSome, IfNone, Shape, Settings, opening, Entry, IsPermitted, History, IsHistory, BookTerms, layout_in, Command, Dialect, Options, Stop, Fault, NoMemory, BookFull, NoThread, Told, PrintsSome, written_by, puts_none, ⊎_elim, end_met, AreSetBy, entries_of, IsOpened, IsBookFull, HasPlayed, Follows, MayStop, Prints, IsReadStop, Reads, Commands}
+use Rattle.g1_replay.specs.{Bool, ℕ, List, [], refl, length, sym, ap, ◌∙◌, subst, arith, Option, Some, None, true, Result, Ok, Err, IfErr, IfSome, IfNone, Shape, opening, Entry, IsPermitted, History, IsHistory, BookTerms, layout_in, Command, Dialect, Options, Stop, Fault, NoMemory, BookFull, NoThread, Told, PrintsSome, written_by, puts_none, ⊎_elim, end_met, AreSetBy, entries_of, IsNewMachinery, Machinery, StepsThrough, IsBookFull, Follows, inl, inr, MayStop, Prints, IsReadStop, Reads, Commands}
 use Rattle.g1_replay.proofs.PlayingLemmas.{none_undone}
 use Rattle.g1_replay.proofs.ReadingLemmas.{reads_then}
+use Rattle.g1_replay.proofs.SteppedLemmas.{stepped_played}
 
 abbrev no_command : List Command
 no_command = []
@@ -16,8 +17,8 @@ nothing_permitted None = tt
 nothing_permitted (Some l) = tt
 
 -- nothing was done
-pub told_nothing : (d : Dialect) (s : Settings) (history n n' : ℕ) (rd rd' out : Option (List ℕ)) (heap : Option Shape) (stop : Stop) → stop ≢ NoThread → stop ≢ BookFull → Reads d None n n' rd rd' heap [] (Err stop) → PrintsSome (Told d s history n n' rd rd') out out (Err stop)
-told_nothing d s history n n' rd rd' out heap stop no_thread no_book read = (
+pub told_nothing : (d : Dialect) (o : Options) (n n' : ℕ) (rd rd' out : Option (List ℕ)) (heap : Option Shape) (stop : Stop) → stop ≢ NoThread → stop ≢ BookFull → Reads d None n n' rd rd' heap [] (Err stop) → PrintsSome (Told d o n n' rd rd') out out (Err stop)
+told_nothing d o n n' rd rd' out heap stop no_thread no_book read = (
   [],
   record {
     heap = heap;
@@ -29,7 +30,7 @@ told_nothing d s history n n' rd rd' out heap stop no_thread no_book read = (
     all = refl;
     stopped = none_undone {V = Bool} (Err stop) (λ e. let same : stop ≡ BookFull = cc in no_book same);
     unopened = no_commands heap;
-    run = record { pieces = []; walked = tt; set = tt; unopened = no_commands heap; permitted = nothing_permitted heap; said = refl };
+    run = record { pieces = []; walked = tt; set = tt; unopened = no_commands heap; permitted = nothing_permitted heap; said = refl; stepped = inl refl };
     within = omega arith;
     full = λ e. let same : stop ≡ BookFull = cc in absurd (no_book same);
   },
@@ -37,13 +38,13 @@ told_nothing d s history n n' rd rd' out heap stop no_thread no_book read = (
 )
 
 -- a trace without a header
-pub head_told : (d : Dialect) (s : Settings) (history n n' : ℕ) (rd rd' out : Option (List ℕ)) (stop : Stop) → IsReadStop stop → Reads d None n n' rd rd' None [] (Err stop) → PrintsSome (Told d s history n n' rd rd') out out (Err stop)
-head_told d s history n n' rd rd' out stop h read = told_nothing d s history n n' rd rd' out None stop (λ e. subst IsReadStop e h) (λ e. subst IsReadStop e h) read
+pub head_told : (d : Dialect) (o : Options) (n n' : ℕ) (rd rd' out : Option (List ℕ)) (stop : Stop) → IsReadStop stop → Reads d None n n' rd rd' None [] (Err stop) → PrintsSome (Told d o n n' rd rd') out out (Err stop)
+head_told d o n n' rd rd' out stop h read = told_nothing d o n n' rd rd' out None stop (λ e. subst IsReadStop e h) (λ e. subst IsReadStop e h) read
 
 -- a header, and no memory for what it asks for
-pub unopened_told : (d : Dialect) (s : Settings) (history n n' : ℕ) (l : Shape) (rd rd' out : Option (List ℕ)) → Reads d None n n' rd rd' (Some l) [] (Ok true) → PrintsSome (Told d s history n n' rd rd') out out (Err NoMemory)
-unopened_told d s history n n' l rd rd' out read =
-    told_nothing d s history n n' rd rd' out (Some l) NoMemory (λ e. cc) (λ e. cc) (record { lines = read.lines; rest = read.rest; consumed = read.consumed; passed = read.passed; met = read.met })
+pub unopened_told : (d : Dialect) (o : Options) (n n' : ℕ) (l : Shape) (rd rd' out : Option (List ℕ)) → Reads d None n n' rd rd' (Some l) [] (Ok true) → PrintsSome (Told d o n n' rd rd') out out (Err NoMemory)
+unopened_told d o n n' l rd rd' out read =
+    told_nothing d o n n' rd rd' out (Some l) NoMemory (λ e. cc) (λ e. cc) (record { lines = read.lines; rest = read.rest; consumed = read.consumed; passed = read.passed; met = read.met })
 
 pub written_as : (out out' : Option (List ℕ)) (r : Result (Unit {0}) Stop) (text : List ℕ) → Prints out out' (end_met r) text → Prints out out' r text
 written_as out out' (Ok done) text w = w
@@ -54,16 +55,17 @@ written_as out out' (Err stop) text w = w
 starts_none : (r : Result (Unit {0}) Stop) → IfErr r (λ stop. IsReadStop stop ⊎ MayStop stop) → r ≢ Err NoThread
 starts_none r h e = ⊎_elim (λ x. x) (λ x. x) (subst (λ r. IfErr r (λ stop. IsReadStop stop ⊎ MayStop stop)) e h)
 
--- what was read and played behind the header is the text of a permitted run
-pub played_told : {S : Type 0} (book_of : S → History) (o : Options) (n n' : ℕ) (a a' : Commands) (old new : S) (rd rd1 rd' out out' : Option (List ℕ)) (r : Result (Unit {0}) Stop)
-    → a'.source.now.number ≡ n' → IsOpened a.layout o (book_of old) → Reads a.dialect None n a.source.now.number rd rd1 (Some a.layout) [] (Ok true)
-    → Follows (λ s cs text t. HasPlayed (book_of s) cs text (book_of t)) (λ s. IsBookFull (book_of s)) a a' old new rd1 rd' out out' (end_met r) → IfErr r (λ stop. IsReadStop stop ⊎ MayStop stop) → IsHistory (book_of new)
-    → PrintsSome (Told a.dialect o.config o.history n n' rd rd') out out' r
-played_told book_of o n n' a a' old new rd rd1 rd' out out' r at_end is head f stops h =
-    let p = f.done.made in
-    let es : (book_of new).entries ≡ entries_of p.pieces = p.grows.entries ∙ ap (λ (h : History). h.entries ++ entries_of p.pieces) is in
-    let most : (book_of new).limit ≡ o.history = ap (λ (t : BookTerms). t.limit) p.grows.terms ∙ ap (λ (h : History). h.limit) is in
-    let shape : layout_in (book_of new) ≡ a.layout = ap (λ (t : BookTerms). t.layout) p.grows.terms ∙ ap layout_in is in (
+-- what was read and played behind the header is the text of a permitted run, by the steps of a new machinery
+pub played_told : (o : Options) (n n' : ℕ) (a a' : Commands) (old new : Machinery) (rd rd1 rd' out out' : Option (List ℕ)) (r : Result (Unit {0}) Stop)
+    → a'.source.now.number ≡ n' → IsNewMachinery a.layout o old → Reads a.dialect None n a.source.now.number rd rd1 (Some a.layout) [] (Ok true)
+    → Follows StepsThrough (λ m. IsBookFull m.book) a a' old new rd1 rd' out out' (end_met r) → IfErr r (λ stop. IsReadStop stop ⊎ MayStop stop) → IsHistory new.book
+    → PrintsSome (Told a.dialect o n n' rd rd') out out' r
+played_told o n n' a a' old new rd rd1 rd' out out' r at_end opened head f stops h =
+    let is = opened.book in
+    let p = stepped_played old new f.done.done f.done.undone f.done.text (opened.capacity ∙ sym (ap (λ (h : History). h.machine.settings.limit) is)) f.done.made in
+    let es : new.book.entries ≡ entries_of p.pieces = p.grows.entries ∙ ap (λ (h : History). h.entries ++ entries_of p.pieces) is in
+    let most : new.book.limit ≡ o.history = ap (λ (t : BookTerms). t.limit) p.grows.terms ∙ ap (λ (h : History). h.limit) is in
+    let shape : layout_in new.book ≡ a.layout = ap (λ (t : BookTerms). t.layout) p.grows.terms ∙ ap layout_in is in (
       f.done.text,
       record {
         heap = Some a.layout;
@@ -81,10 +83,11 @@ played_told book_of o n n' a a' old new rd rd1 rd' out out' r at_end is head f s
           walked = p.walked;
           set = subst (λ (h : History). AreSetBy h.machine.settings f.done.done p.pieces) is p.set;
           unopened = tt;
-          permitted = subst (λ (xs : List Entry). IsPermitted (opening a.layout) xs) es (subst (λ (s : Shape). IsPermitted (opening s) (book_of new).entries) shape h.run);
+          permitted = subst (λ (xs : List Entry). IsPermitted (opening a.layout) xs) es (subst (λ (s : Shape). IsPermitted (opening s) new.book.entries) shape h.run);
           said = p.said;
+          stepped = inr (record { layout = a.layout; first = old; last = new; of = refl; opened = opened; steps = f.done.made; history = es });
         };
-        within = subst (λ (xs : List Entry). length xs ≤ o.history) es (subst (λ (k : ℕ). length (book_of new).entries ≤ k) most h.within);
+        within = subst (λ (xs : List Entry). length xs ≤ o.history) es (subst (λ (k : ℕ). length new.book.entries ≤ k) most h.within);
         full = λ e. ap (λ (xs : List Entry). length xs) (sym es) ∙ f.done.filled (ap end_met e) ∙ most;
       },
       written_as out out' r f.done.text f.done.written,

@@ -3,7 +3,9 @@ use Rattle.std.specs.Prelude.{◌≡◌, ◌∷◌, ◌++◌}
 use Rattle.g1_replay.specs.Prelude.{ℕ, List, [], refl, sym, ◌∙◌, ap, subst, append_assoc}
 use Rattle.g1_replay.specs.Prelude.{append-nil, flat_map-append, Settings, Entry, History}
 use Rattle.g1_replay.specs.Prelude.{BookTerms, layout_in, Grows, grows_none, grows_then, Command}
+use Rattle.g1_replay.specs.declared.runs.machinery.Machinery.{Machinery}
 use Rattle.g1_replay.specs.Playing.{HasPlayed}
+use Rattle.g1_replay.specs.Stepped.{AreMade, StepsThrough}
 use Rattle.g1_replay.specs.Pieces.{Piece, IsPieceOf, IsSetBy, AreSetBy, Walks, line_of, lines_of}
 use Rattle.g1_replay.specs.Pieces.{entries_of}
 
@@ -60,3 +62,32 @@ played_one a b c p w s g = record {
 pub played_in : (a b : History) (cs : List Command) (xs : List ℕ) → HasPlayed a cs xs b
     → layout_in b ≡ layout_in a
 played_in a b cs xs p = ap (λ (t : BookTerms). t.layout) p.grows.terms
+
+-- no command
+pub stepped_none : (m : Machinery) → StepsThrough m [] [] [] m
+stepped_none m = record { reached = m; made = (refl, refl); refused = refl }
+
+made_then : (a b c : Machinery) (cs ds : List Command) (xs ys : List ℕ) → AreMade a cs xs b
+    → AreMade b ds ys c → AreMade a (cs ++ ds) (xs ++ ys) c
+made_then a b c [] ds xs ys p q =
+    subst (λ (m : Machinery). AreMade m ds (xs ++ ys) c) p.0
+    (subst (λ (l : List ℕ). AreMade b ds l c) (sym (ap (λ l. l ++ ys) p.1)) q)
+made_then a b c (k ∷ cs) ds xs ys p q = (
+  p.0,
+  p.1,
+  p.2 ++ ys,
+  p.3,
+  made_then p.0 b c cs ds p.2 ys p.4 q,
+  ap (λ l. l ++ ys) p.5 ∙ append_assoc p.1 p.2 ys,
+)
+
+-- commands, none of which was refused, and then more
+pub stepped_then : (a b c : Machinery) (cs ds es : List Command) (xs ys : List ℕ)
+    → StepsThrough a cs [] xs b → StepsThrough b ds es ys c
+    → StepsThrough a (cs ++ ds) es (xs ++ ys) c
+stepped_then a b c cs ds es xs ys p q = record {
+  reached = q.reached;
+  made = made_then a b q.reached cs ds xs ys
+      (subst (λ (m : Machinery). AreMade a cs xs m) (sym p.refused) p.made) q.made;
+  refused = q.refused;
+}

@@ -16,6 +16,7 @@ pub mod Scripts
 pub mod Still
 pub mod Members
 pub mod Played
+pub mod Stepped
 pub mod Opened
 unfoldable pub use Prelude.*
 pub use Lines.*
@@ -34,6 +35,7 @@ pub use Scripts.*
 pub use Still.*
 pub use Members.*
 pub use Played.*
+pub use Stepped.*
 pub use Opened.*
 pub use declared.end.End.{End}
 pub use declared.end.End.TheVariants.{Refused, Whole}

@@ -1,7 +1,7 @@
 -- What a replay writes: the text of a permitted run of the commands that were read.
-use Rattle.std.specs.Prelude.{◌≡◌, ◌≢◌, ◌≤◌, ◌++◌}
+use Rattle.std.specs.Prelude.{◌≡◌, ◌≢◌, ◌≤◌, ◌⊎◌, ◌++◌}
 use Rattle.g1_replay.specs.Prelude.{ℕ, List, [], Bool, false, Result, Ok, Err, Option, Some, None}
-use Rattle.g1_replay.specs.Prelude.{IfSome, IfNone, length, Appends, Shape, Settings, opening}
+use Rattle.g1_replay.specs.Prelude.{IfSome, IfNone, length, Appends, Shape, opening}
 use Rattle.g1_replay.specs.Prelude.{IsPermitted, Command, Dialect, TraceFault, Options}
 use Rattle.g1_replay.specs.Prelude.{AppendsFront, fault_line, no_memory_line, book_full_line}
 use Rattle.g1_replay.specs.Prelude.{no_thread_line, read_failed_line, read_trace}
@@ -15,6 +15,7 @@ use Rattle.g1_replay.specs.declared.stop.Stop.TheVariants.{Fault, NoMemory, Book
 use Rattle.g1_replay.specs.declared.stop.Stop.TheVariants.{ReadFailed, WriteFailed}
 use Rattle.g1_replay.specs.Pieces.{Piece, AreSetBy, Walks, lines_of, entries_of}
 use Rattle.g1_replay.specs.Playing.{IsUndone}
+use Rattle.g1_replay.specs.Stepped.{IsSteppedText}
 use Rattle.g1_replay.specs.Reading.{Reads}
 
 -- the end of the input, or what stopped the replay
@@ -31,20 +32,27 @@ dialect_in mode o = record { mode = mode; mutators = o.mutators }
 abbrev pub Tale : Type 1
 Tale = ℕ → ℕ → Option (List ℕ) → Option (List ℕ) → Result (Unit {0}) Stop → List ℕ → Type 0
 
--- The text is that of a permitted run which belongs to these commands of a heap, by a book of these
--- settings; before the header there are none.
-pub record IsRunText (s : Settings) (heap : Option Shape) (commands : List Command)
+-- The text is that of a permitted run which belongs to the commands of a heap that were done, by a
+-- book of the settings of these options, and that the steps of the commands make; before the header
+-- there are none. The next command may have been refused.
+pub record IsRunText (o : Options) (heap : Option Shape) (done undone : List Command)
     (text : List ℕ) : Type 0 where
   pub pieces : List Piece
-  pub walked : Walks commands pieces
-  pub set : AreSetBy s commands pieces
-  pub unopened : IfNone heap (commands ≡ [])
+  pub walked : Walks done pieces
+  pub set : AreSetBy o.config done pieces
+  pub unopened : IfNone heap (done ≡ [])
   pub permitted : IfSome heap (λ l. IsPermitted (opening l) (entries_of pieces))
-  pub said : text ≡ lines_of commands pieces
+  pub said : text ≡ lines_of done pieces
+  pub stepped : (done ++ undone ≡ [])
+      ⊎ IsSteppedText o heap done undone text (entries_of pieces)
 
--- The text is that of a permitted run which belongs to the commands before the end, by a book of
--- these settings. The run has at most `history` entries, and just as many where the book is full.
-pub record Told (d : Dialect) (s : Settings) (history n n' : ℕ) (rd rd' : Option (List ℕ))
+-- the same where all of them were done
+abbrev pub IsDoneText : Options → Option Shape → List Command → List ℕ → Type 0
+IsDoneText o heap commands text = IsRunText o heap commands [] text
+
+-- The text is that of a permitted run which belongs to the commands before the end. The run has at
+-- most as many entries as these options allow, and just as many where the book is full.
+pub record Told (d : Dialect) (o : Options) (n n' : ℕ) (rd rd' : Option (List ℕ))
     (r : Result (Unit {0}) Stop) (text : List ℕ) : Type 0 where
   pub heap : Option Shape
   pub commands : List Command
@@ -55,9 +63,9 @@ pub record Told (d : Dialect) (s : Settings) (history n n' : ℕ) (rd rd' : Opti
   pub all : commands ≡ done ++ undone
   pub stopped : IsUndone (end_met r) undone
   pub unopened : IfNone heap (commands ≡ [])
-  pub run : IsRunText s heap done text
-  pub within : length (entries_of run.pieces) ≤ history
-  pub full : r ≡ Err BookFull → length (entries_of run.pieces) ≡ history
+  pub run : IsRunText o heap done undone text
+  pub within : length (entries_of run.pieces) ≤ o.history
+  pub full : r ≡ Err BookFull → length (entries_of run.pieces) ≡ o.history
 
 -- the line of the end
 abbrev pub ending_line : ℕ → Result (Unit {0}) Stop → List ℕ

@@ -117,6 +117,13 @@ IsSaid (Ok text) out out' r =
     ((r ≡ Ok tt) ⊎ (r ≡ Err WriteFailed)) × Puts out out' (written_by r) text
 IsSaid (Err refusal) out out' r = (r ≡ Err (stop_of refusal)) × Appends out out' []
 
+-- A call was asked of a book, and its answer was written.
+abbrev pub IsCallPlayed : Call → (old new : History) → (out out' : Option (List ℕ))
+    → Result (Unit {0}) Stop → Type 0
+IsCallPlayed call old new out out' r =
+    (result : Result Reply Refusal) × MakesAsked true old 0 call result new
+    × IsSaid (said_of (call_line call) result) out out' r
+
 -- A command was played: it was done, and its answer was written.
 abbrev pub IsPlayed : Command → (old new : Machinery) → (out out' : Option (List ℕ))
     → Result (Unit {0}) Stop → Type 0

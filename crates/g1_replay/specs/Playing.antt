@@ -9,7 +9,7 @@ use Rattle.g1_history.specs.declared.refusal.Refusal.TheVariants as refusal
 use Rattle.g1_replay.specs.declared.lines.source.Commands.{Commands}
 use Rattle.g1_replay.specs.declared.stop.Stop.{Stop}
 use Rattle.g1_replay.specs.declared.stop.Stop.TheVariants.{NoMemory, BookFull, WriteFailed}
-use Rattle.g1_replay.specs.Pieces.{Piece, IsLineOf, IsSetBy, AreSetBy, Walks, lines_of, entries_of}
+use Rattle.g1_replay.specs.Pieces.{Piece, AreSetBy, Walks, lines_of, entries_of}
 use Rattle.g1_replay.specs.Reading.{IsOfTrace, IsReadStop, ReadsBehind, more_may_come}
 
 -- A new book over this layout, on the terms that the options say, whose machine is new.
@@ -31,23 +31,6 @@ IsBookFull book = length book.entries ≡ book.limit
 abbrev pub stop_of : Refusal → Stop
 stop_of refusal.NoMemory = NoMemory
 stop_of refusal.BookFull = BookFull
-
--- A call was refused, and nothing was entered.
-abbrev pub IsPlayRefused : History → History → Refusal → Type 0
-IsPlayRefused old new refusal.NoMemory = Grows old [] new
-IsPlayRefused old new refusal.BookFull = Grows old [] new × IsBookFull new
-
--- The calls of a command were made and entered, and the answer has their text.
-abbrev pub IsDone : {V : Type 0} → (V → List ℕ) → History → History → Command → V → Type 0
-IsDone text old new c answer =
-    (p : Piece) × Grows old p.entries new × IsLineOf c p (text answer)
-    × IsSetBy old.machine.settings c p.entries
-
--- or the first of them was refused
-abbrev pub IsAnswered : {V : Type 0} → (V → List ℕ) → History → History → Command → Result V Refusal
-    → Type 0
-IsAnswered text old new c (Ok answer) = IsDone text old new c answer
-IsAnswered text old new c (Err refusal) = IsPlayRefused old new refusal
 
 -- The calls of these commands were made and entered, as the settings of the book allow, and this is
 -- their text.
@@ -81,17 +64,25 @@ IsUndone (Err BookFull) commands = (c : Command) × (commands ≡ c ∷ [])
 IsUndone (Err NoMemory) commands = length commands ≤ 1
 IsUndone r commands = commands ≡ []
 
+-- What a player does between two states: the commands that were done, those that were not, and the
+-- text.
+abbrev pub Deeds : Type 0 → Type 1
+Deeds S = S → List Command → List Command → List ℕ → S → Type 0
+
+-- the same where nothing is said of those that were not
+abbrev pub of_done : {S : Type 0} → (S → List Command → List ℕ → S → Type 0) → Deeds S
+of_done did old done undone text new = did old done text new
+
 -- Commands were done up to what stopped the replay, if anything did, and their text was written.
 -- Where a book is full, it is full then.
-pub record Does {S : Type 0} (did : S → List Command → List ℕ → S → Type 0) (full : S
-    → Type 0) (commands : List Command) (old new : S) (out out' : Option (List ℕ))
-    (r : Result Bool Stop) : Type 0 where
+pub record Does {S : Type 0} (did : Deeds S) (full : S → Type 0) (commands : List Command)
+    (old new : S) (out out' : Option (List ℕ)) (r : Result Bool Stop) : Type 0 where
   pub done : List Command
   pub undone : List Command
   pub all : commands ≡ done ++ undone
   pub stopped : IsUndone r undone
   pub text : List ℕ
-  pub made : did old done text new
+  pub made : did old done undone text new
   pub filled : r ≡ Err BookFull → full new
   pub written : Prints out out' r text
 
@@ -103,28 +94,25 @@ MayStop WriteFailed = Unit {0}
 MayStop stop = ⊥
 
 -- Lines were read, and their commands were done.
-pub record Follows {S : Type 0} (did : S → List Command → List ℕ → S → Type 0) (full : S
-    → Type 0) (c c' : Commands) (old new : S) (rd rd' out out' : Option (List ℕ))
-    (r : Result Bool Stop) : Type 0 where
+pub record Follows {S : Type 0} (did : Deeds S) (full : S → Type 0) (c c' : Commands)
+    (old new : S) (rd rd' out out' : Option (List ℕ)) (r : Result Bool Stop) : Type 0 where
   pub commands : List Command
   pub read : ReadsBehind c c' rd rd' commands r
   pub done : Does did full commands old new out out' r
 
 -- These bytes were taken from a reader, whatever it has behind them: lines that were read, and
 -- their commands were done.
-abbrev pub FollowsFront : {S : Type 0} → (S → List Command → List ℕ → S → Type 0) → (S → Type 0)
-    → Commands → Commands → S → S → List ℕ → Option (List ℕ) → Option (List ℕ)
-    → Result Bool Stop → Type 0
+abbrev pub FollowsFront : {S : Type 0} → Deeds S → (S → Type 0) → Commands → Commands → S → S
+    → List ℕ → Option (List ℕ) → Option (List ℕ) → Result Bool Stop → Type 0
 FollowsFront did full c c' old new bytes out out' r =
     (rd rd' : Option (List ℕ)) → Consumes rd rd' bytes
     → Follows did full c c' old new rd rd' out out' r
 
 -- The line that these bytes begin with was played, if it is there as a whole: the result says how
 -- many bytes it takes, and what stopped it. Otherwise nothing was done.
-pub record PlaysFirst {S : Type 0} (did : S → List Command → List ℕ → S → Type 0)
-    (full : S → Type 0) (Stops : Stop → Type 0) (Takes : S → Shape → Dialect → Type 0)
-    (c c' : Commands) (old new : S) (bytes : List ℕ) (out out' : Option (List ℕ))
-    (r : Option (ℕ × Result (Unit {0}) Stop)) : Type 0 where
+pub record PlaysFirst {S : Type 0} (did : Deeds S) (full : S → Type 0) (Stops : Stop → Type 0)
+    (Takes : S → Shape → Dialect → Type 0) (c c' : Commands) (old new : S) (bytes : List ℕ)
+    (out out' : Option (List ℕ)) (r : Option (ℕ × Result (Unit {0}) Stop)) : Type 0 where
   pub same : IsOfTrace c c'
   pub reads : c'.source.now.reads ≡ c.source.now.reads
   pub followed : IfSome r (λ p. FollowsFront did full c c' old new (take p.0 bytes) out out'

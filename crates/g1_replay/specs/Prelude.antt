@@ -54,9 +54,9 @@ pub use Rattle.g1_layout.specs.Shape.{card_count, card_of, region_of, region_of_
 pub use Rattle.g1_layout.specs.Shape.{slot_count}
 pub use Rattle.g1_layout.specs.declared.kind.Kind.{Kind}
 pub use Rattle.g1_layout.specs.declared.kind.Kind.TheVariants.{Logged}
-pub use Rattle.g1_log.specs.Ends.{capacity_of, IsSameSender, IsSameTaker, IsSenderOf, IsTakerOf}
-pub use Rattle.g1_log.specs.Ends.{line_home, put_of, sender_home, sender_rights, taken_of}
-pub use Rattle.g1_log.specs.Ends.{taker_home, taker_rights}
+pub use Rattle.g1_log.specs.Ends.{capacity_of, IsNewTaker, IsSameSender, IsSameTaker, IsSenderOf}
+pub use Rattle.g1_log.specs.Ends.{IsTakerOf, line_home, put_of, sender_home, sender_rights}
+pub use Rattle.g1_log.specs.Ends.{taken_of, taker_home, taker_rights}
 pub use Rattle.g1_log.specs.Line.{whole as line_rights}
 pub use Rattle.g1_log.specs.declared.ends.Sender.{Sender}
 pub use Rattle.g1_log.specs.declared.ends.Taker.{Taker}
@@ -86,6 +86,7 @@ pub use Rattle.g1_steps.specs.Ask.{Ask, AskFlush, asks_in, asks_of, AskStore, As
 pub use Rattle.g1_steps.specs.Ask.{JobRan, Ran, ScriptFits, StepFits}
 pub use Rattle.g1_steps.specs.Lent.{Grows, IsBookCall}
 pub use Rattle.g1_steps.specs.Made.{AreCalls, CallMade, Refined, Stored}
+pub use Rattle.g1_steps.specs.Opening.{AreNewMutators}
 pub use Rattle.g1_steps.specs.Rounds.{IsRound, IsWorkStep, replies_of, round_calls, round_size}
 pub use Rattle.g1_steps.specs.Rounds.{Turn}
 pub use Rattle.g1_steps.specs.Steps.{called, Empties, filled, flush_answer, Help, help_calls}

@@ -1,8 +1,7 @@
--- Logs of mutators that stand still, and logs as they begin.
+-- Logs of mutators that stand still.
 use Rattle.std.specs.Prelude.{◌≡◌, ◌<◌}
 use Rattle.g1_replay.specs.Prelude.{ℕ, Bool, true, false, List, [], length, slice_index_or}
 use Rattle.g1_replay.specs.Prelude.{Drain, Redirect, Mutator}
-use Rattle.g1_log.specs.Log.{Cards}
 use Rattle.g1_core.specs.declared.entry.Call.{Call}
 
 -- whether the mutators stand still for a call
@@ -15,7 +14,3 @@ is_pause _ = false
 abbrev pub AreStill : List Mutator → Type 0
 AreStill mutators =
     (k : ℕ) (d : Mutator) → k < length mutators → (slice_index_or mutators k d).log.cards ≡ []
-
--- An empty log of this size.
-abbrev pub IsNewLog : ℕ → Cards → Type 0
-IsNewLog size log = log ≡ record { size = size; cards = [] }

@@ -1,16 +1,12 @@
 //! The questions, drains, clears and redirects of a trace: each is one call of the first caller,
 //! and its line.
-ghost use Rattle.std.specs.Prelude.{◌∷◌};
-ghost use Rattle.g1_replay.specs.{[], IfErr, layout_in, Puts, IsCommandCall, call_line, Does};
-ghost use Rattle.g1_replay.specs.{HasPlayed, IsBookFull, MayStop, more_may_come, said_of, IsSaid};
-ghost use Rattle.g1_replay.specs.{MakesAsked, true};
-ghost use Rattle.g1_replay.specs.Prelude.{Result, Reply as R, Refusal};
+ghost use Rattle.g1_replay.specs.{layout_in, Puts, IsCommandCall, call_line, IsCallPlayed};
 
 use crate::stop::Stop;
 use g1_core::{Call, Reply};
 use g1_history::Book;
 use g1_trace::{
-    Command, WriteFailed, put, put_cards, put_clear_reply, put_either, put_redirected, put_status,
+    WriteFailed, put, put_cards, put_clear_reply, put_either, put_redirected, put_status,
     put_target,
 };
 use std::io::Write;
@@ -18,12 +14,8 @@ use std::io::Write;
 /// Makes the call and writes the line of its reply.
 pub(crate) fn play_call<W: Write>(book: &mut Book, call: Call, output: &mut W) -> Result<(), Stop>
     requires { IsCommandCall (layout_in book.old) call }
-    ensures played { Does HasPlayed IsBookFull (Command.Call call ∷ []) book.old book.new
-        (W.contents output.old) (W.contents output.new) (more_may_come result) }
-    ensures asked { (reply : Result R Refusal) × MakesAsked true book.old 0 call reply book.new
-        × IsSaid (said_of (call_line call) reply) (W.contents output.old) (W.contents output.new)
+    ensures { IsCallPlayed call book.old book.new (W.contents output.old) (W.contents output.new)
         result }
-    ensures stops { IfErr result MayStop }
 {
     let reply = book.ask(0, call)?;
     put_call(output, &call, &reply)?;

@@ -1,6 +1,6 @@
 //! The drains that end a crew or a race: one of each region, in order, each with its line.
 ghost use Rattle.std.specs.Prelude.{◌≡◌, ◌<◌, ◌∷◌};
-ghost use Rattle.g1_replay.specs.{[], IfErr, HasDrained, Does, MayStop, more_may_come};
+ghost use Rattle.g1_replay.specs.{[], IfErr, HasDrained, Does, of_done, MayStop, more_may_come};
 
 use crate::stop::Stop;
 use g1_core::Call;
@@ -26,8 +26,9 @@ pub(crate) trait Drains {
     /// effect that a later drain can see.
     fn put_drain<W: Write>(&mut self, region: Region, output: &mut W) -> Result<(), Stop>
         requires { region < (layout self.old).regions }
-        ensures played { Does did full (Command.Call (Call.Drain region) ∷ []) self.old self.new
-            (W.contents output.old) (W.contents output.new) (more_may_come result) }
+        ensures played { Does (of_done did) full (Command.Call (Call.Drain region) ∷ [])
+            self.old self.new (W.contents output.old) (W.contents output.new)
+            (more_may_come result) }
         ensures stops { IfErr result MayStop };
 
     ghost none: { (s : Self) → did s [] [] s };

@@ -44,7 +44,7 @@ impl Player for Scripts {
     ghost takes = { λ s l d. (vec_len s.steps ≡ d.mutators)
         × All (λ steps. All (StepFits (slot_count l) true) steps.items) s.steps.items };
 
-    ghost did = { λ s cs text t. AreKept (λ steps. steps.items) s.steps.items cs t.steps.items
+    ghost did = { λ s cs es text t. AreKept (λ steps. steps.items) s.steps.items cs t.steps.items
         × (text ≡ []) };
 
     ghost full = { λ s. ⊥ };
@@ -71,7 +71,7 @@ impl Player for Scripts {
 
     ghost none = { λ s. (kept_nothing (λ steps. steps.items) s.steps.items, refl) };
 
-    ghost then = { λ s t u cs ds xs ys.
+    ghost then = { λ s t u cs ds es xs ys.
         kept_then (λ steps. steps.items) s.steps.items t.steps.items u.steps.items cs ds xs ys };
 }
 

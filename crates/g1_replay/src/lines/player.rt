@@ -20,8 +20,9 @@ pub(crate) trait Player {
     /// It takes commands over this heap, in this dialect.
     ghost takes: { Self → Shape → Dialect → Type 0 };
 
-    /// Between two states these commands were done, and this is their text.
-    ghost did: { Self → List Command → List ℕ → Self → Type 0 };
+    /// Between two states the first commands were done, the second ones were not, and this is the
+    /// text.
+    ghost did: { Self → List Command → List Command → List ℕ → Self → Type 0 };
 
     /// It takes no more, since its book is full.
     ghost full: { Self → Type 0 };
@@ -48,8 +49,8 @@ pub(crate) trait Player {
 
     ghost may_stop: { (stop : Stop) → stops stop → MayStop stop };
 
-    ghost none: { (s : Self) → did s [] [] s };
+    ghost none: { (s : Self) → did s [] [] [] s };
 
-    ghost then: { (s t u : Self) (cs ds : List Command) (xs ys : List ℕ) → did s cs xs t
-        → did t ds ys u → did s (cs ++ ds) (xs ++ ys) u };
+    ghost then: { (s t u : Self) (cs ds es : List Command) (xs ys : List ℕ) → did s cs [] xs t
+        → did t ds es ys u → did s (cs ++ ds) es (xs ++ ys) u };
 }

@@ -1,10 +1,10 @@
 //! A replay by one thread: the header of its trace, its lines, and the line of its end.
-ghost use Rattle.g1_replay.specs.{Run, PrintsSome, Told, IsRunText, IsReplayed, dialect_in};
+ghost use Rattle.g1_replay.specs.{Run, PrintsSome, Told, IsDoneText, IsReplayed, dialect_in};
 
 use crate::end::{End, put_end};
 use crate::lines::opening::read_layout;
 use crate::lines::source::{Commands, Source};
-use crate::runs::machinery::Machinery;
+use crate::runs::opening::open_machinery;
 use crate::stop::Stop;
 use g1_options::Options;
 use g1_trace::{Dialect, Mode};
@@ -21,12 +21,12 @@ fn play_trace<T: Wait, R: BufRead, W: Write>(
     output: &mut W,
     options: &Options,
 ) -> Result<(), Stop>
-    ensures { PrintsSome (Told (dialect_in Run options.now) options.now.config options.now.history
-        source.old.number source.new.number (R.remaining input.old) (R.remaining input.new))
+    ensures { PrintsSome (Told (dialect_in Run options.now) options.now source.old.number
+        source.new.number (R.remaining input.old) (R.remaining input.new))
         (W.contents output.old) (W.contents output.new) result }
 {
     let layout = read_layout(source, input)?;
-    let mut machinery = Machinery::open(alloc, layout, options)?;
+    let mut machinery = open_machinery(alloc, layout, options)?;
     let dialect = Dialect {
         mode: Mode::Run,
         mutators: options.mutators,
@@ -52,6 +52,11 @@ fn play_trace<T: Wait, R: BufRead, W: Write>(
 /// was written. A fault is the end wherever its line was read whole: a failed read or refused
 /// memory does not hide it.
 ///
+/// Each command is a step of its own mutator or of the first taker, and of nobody else, and its
+/// line is the text of what the step answers. Mutators begin with empty logs, the queue of
+/// completed buffers begins empty, and a pause empties them. A command that is refused is the last,
+/// and writes no line.
+///
 /// A round of `work` makes at most as many calls as one that begins at the start threshold of
 /// `options` and sees no more completed buffers than their limit.
 ///
@@ -66,9 +71,8 @@ pub fn run<T: Wait, R: BufRead, W: Write>(
     output: &mut W,
     options: &Options,
 ) -> End
-    ensures { IsReplayed (dialect_in Run options.now)
-        (λ d. Told d options.now.config options.now.history)
-        (IsRunText options.now.config) (IsRunText options.now.config)
+    ensures { IsReplayed (dialect_in Run options.now) (λ d. Told d options.now)
+        (IsDoneText options.now) (IsDoneText options.now)
         (R.remaining input.old) (R.remaining input.new)
         (W.contents output.old) (W.contents output.new) result }
 {

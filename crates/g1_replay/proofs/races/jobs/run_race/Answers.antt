@@ -1,5 +1,5 @@
 use Rattle.std.specs.Prelude.{◌^◌, ◌≡◌, ◌+◌, ◌<◌}
-use Rattle.g1_replay.specs.{List, length, map, ap, refl, sym, subst, ◌∙◌, arith, All, sum_by, [], ℕ, true, In, length-map, StepFits, slot_count, IsPairOf, Sender, Taker, sender_rights, taker_rights, IsSenderOf, IsTakerOf, Racer, Sweeper, Begun, beginning, null_of, IsKnown, IsOver, shape_of, null_begun, HaveBegun, race_begun, race_id, racer_race, racer_start, racer_view, sweeper_race, sweeper_start, sweeper_view, Member, member_rights, IsMemberOf, racer_in, sweeper_in, sender_in, taker_in}
+use Rattle.g1_replay.specs.{List, length, map, ap, refl, sym, subst, ◌∙◌, arith, All, sum_by, [], ℕ, true, In, length-map, StepFits, slot_count, IsPairOf, Sender, Taker, sender_rights, taker_rights, IsSenderOf, IsTakerOf, Racer, Sweeper, Begun, beginning, null_of, IsKnown, IsOver, shape_of, null_begun, race_begun, race_id, racer_race, racer_start, racer_view, sweeper_race, sweeper_start, sweeper_view, Member, member_rights, IsMemberOf, racer_in, sweeper_in, sender_in, taker_in}
 use Rattle.g1_layout.specs.Shape as layout
 use Rattle.g1_race_words.specs.declared.view.RaceShape.{RaceShape}
 use Rattle.g1_race.proofs.Fresh.{begun_as}

@@ -1,17 +1,9 @@
-use Rattle.g1_replay.specs.{arith, ap, refl, rules, inl, inr, subst, CallsBy}
-use Rattle.g1_replay.proofs.{flush_made, flush_nothing}
+use Rattle.g1_replay.specs.{arith, ap, refl, rules, subst, CallsBy}
 use Rattle.g1_replay.proofs.PlayedLemmas.{flush_at}
 use Rattle.g1_replay.proofs.runs.play.flush.Goals as goal
 
-pub returns-clause-answered : goal.returns-clause-answered
-returns-clause-answered g c =
-    elim c.flush.ensures.flushed [
-      | inl h ↦ let by = flush_nothing c.new-calls.result.book.now c.flush.new.calls.book.now c.new-calls.result.caller _ h.1 (λ i. (h.2 i).book.now) in search rules
-      | inr h ↦ let by = flush_made c.new-calls.result.book.now c.flush.new.calls.book.now c.new-calls.result.caller _ _ h.help h.made.2 h.answer in search rules
-    ]
-
-pub returns-clause-made : goal.returns-clause-made
-returns-clause-made g c =
+pub returns : goal.returns
+returns g c =
     let step = flush_at _ _ _ c.new-calls.result.book.now c.flush.new.calls.book.now c.args.mutator _ _ _ _ (λ calls did. subst (λ n. CallsBy n c.new-calls.result.book.now calls c.flush.new.calls.book.now) c.new-calls.ensures.caller did.2) (λ e. ap (λ s. s.book.now) e) c.flush.ensures in
     record {
       before = c.index_mut-caller.result.now;
