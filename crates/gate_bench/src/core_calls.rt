@@ -2,7 +2,7 @@
 ghost use Rattle.std.specs.Prelude.{◌≡◌, ◌<◌, IfSome};
 ghost use Rattle.g1_layout.specs.Shape.{slot_count};
 
-use crate::stores::{Barrier, reference_of, store_across};
+use crate::stores::{Barrier, Target, list_of, store_all};
 use g1_core::{ClearReply, Config, Core, Drained, Redirected, Settings};
 use g1_layout::{Kind, Layout, NoMemory, Slot};
 use g1_log::{Buffer, Log};
@@ -40,7 +40,8 @@ impl CoreCalls {
             checksum: 0,
         };
         for index in 0..references {
-            store_across(&mut calls, index, layout.card_count());
+            let list = list_of(alloc, layout, Target::OtherRegion(index))?;
+            store_all(&mut calls, list.as_slice());
         }
         calls.drain()?;
         calls.checksum = 0;
@@ -52,13 +53,14 @@ impl CoreCalls {
         self.checksum
     }
 
-    /// Stores across regions into the first slots of `times` cards, and refines each full log.
-    pub fn refine(&mut self, times: u32) -> Result<(), NoMemory> {
-        for card in 0..times {
-            let Some((slot, place)) = reference_of(self.core.layout(), card, 0) else {
+    /// Makes the stores of a list, and refines each full log.
+    pub fn refine(&mut self, list: &[(u32, u32)]) -> Result<(), NoMemory> {
+        let layout = self.core.layout();
+        for (slot, place) in list {
+            let Some(slot) = layout.slot(*slot) else {
                 return Ok(());
             };
-            self.store_with(slot, Some(place), true)?;
+            self.store_with(slot, layout.slot(*place), true)?;
         }
         Ok(())
     }

@@ -5,7 +5,7 @@
 //! difference of their numbers of calls: making the heap and recording its references is the same
 //! in both. `measure` in this folder prints the tables.
 //!
-//! - [`stores`]: the stores, wherever they go.
+//! - [`stores`]: the list of stores, and where they go.
 //! - [`core_calls`]: the calls of a core.
 //! - [`race_calls`]: those of a race, and at its pause.
 #![tactic(auto)]
@@ -21,7 +21,7 @@ use race_calls::{RaceCalls, pause, refine};
 use std::alloc::Global;
 use std::env;
 use std::process::ExitCode;
-use stores::{Barrier, Nowhere, OwnPlaces, store_across, store_in_region, store_nulls};
+use stores::{Barrier, Nowhere, Target, list_of, store_all};
 
 const USAGE: &str = "usage: gate_bench CALL TIMES REGIONS CARDS SLOTS REFERENCES\n";
 
@@ -111,38 +111,42 @@ fn make_stores<B: Barrier>(
     call: &str,
     plan: &Plan,
 ) -> Result<bool, NoMemory> {
-    match call {
-        "null" => store_nulls(barrier, plan.times),
-        "same-region" => {
-            let own = OwnPlaces::new(alloc, plan.layout)?;
-            store_in_region(barrier, &own, plan.times);
-        }
-        "logged" => store_across(barrier, 0, plan.times),
-        // (each card is logged before)
-        "dirty" => {
-            store_across(barrier, 0, plan.layout.card_count());
-            store_across(barrier, 0, plan.times);
-        }
+    let target = match call {
+        "null" => Target::Null,
+        "same-region" => Target::SameRegion,
+        "logged" | "dirty" => Target::OtherRegion(0),
         _ => return Ok(false),
+    };
+    let list = list_of(alloc, plan.layout, target)?;
+    if call == "dirty" {
+        store_all(barrier, list.as_slice());
     }
+    store_all(barrier, first_of(list.as_slice(), plan.times));
     Ok(true)
+}
+
+// The first stores of a list, or all if it has no more.
+fn first_of(list: &[(u32, u32)], times: u32) -> &[(u32, u32)] {
+    list.get(..times as usize).unwrap_or(list)
 }
 
 fn by_core(alloc: Global, plan: &Plan) -> Result<Option<u64>, NoMemory> {
     let times = plan.times;
+    let list = list_of(alloc, plan.layout, Target::OtherRegion(0))?;
+    let first = first_of(list.as_slice(), times);
     let mut calls = CoreCalls::new(alloc, plan.layout, plan.references)?;
     match plan.call {
-        "refine" => calls.refine(times)?,
+        "refine" => calls.refine(first)?,
         "drain" => {
-            store_across(&mut calls, 0, times);
+            store_all(&mut calls, first);
             calls.drain()?;
         }
         "idle-drain" => calls.drain_again(times)?,
         "clear" => calls.clear(times),
         "redirect" => calls.redirect(times)?,
-        "paused-logged" => pause(alloc, &mut calls, times, 0)?,
-        "paused-drain" => pause(alloc, &mut calls, times, 1)?,
-        "paused-idle-drain" => pause(alloc, &mut calls, 0, times)?,
+        "paused-logged" => pause(alloc, &mut calls, first, 0)?,
+        "paused-drain" => pause(alloc, &mut calls, first, 1)?,
+        "paused-idle-drain" => pause(alloc, &mut calls, &[], times)?,
         call => {
             if !make_stores(alloc, &mut calls, call, plan)? {
                 return Ok(None);
@@ -155,13 +159,13 @@ fn by_core(alloc: Global, plan: &Plan) -> Result<Option<u64>, NoMemory> {
 fn by_race(alloc: Global, call: &str, plan: &Plan) -> Result<Option<u64>, NoMemory> {
     let (race, mut racers, mut sweepers) = Race::open(alloc, plan.layout, 1, 1)?;
     let (racer, sweeper) = (&mut racers[0], &mut sweepers[0]);
+    let mut calls = RaceCalls::new(&race, racer);
     if call == "refine" {
-        let cards = plan.layout.card_count();
-        store_across(&mut RaceCalls::new(&race, racer), 0, cards);
-        refine(&race, sweeper, cards);
+        // (which records each reference before)
+        make_stores(alloc, &mut calls, "dirty", plan)?;
+        refine(&race, sweeper, plan.layout.card_count());
         return Ok(Some(refine(&race, sweeper, plan.times)));
     }
-    let mut calls = RaceCalls::new(&race, racer);
     let is_one = make_stores(alloc, &mut calls, call, plan)?;
     Ok(is_one.then_some(calls.checksum()))
 }

@@ -1,10 +1,11 @@
 //! The calls of a race by one racer and one sweeper, and those at the pause of a race.
 ghost use Rattle.std.specs.Prelude.{◌≡◌};
+ghost use Rattle.arrayvec.specs.ArrayVec.{array_vec_len};
 ghost use Rattle.g1_race.specs.Members.{race_id, race_layout, racer_race, sweeper_race};
 
 use crate::core_calls::CoreCalls;
-use crate::stores::{Barrier, reference_of};
-use g1_layout::{Card, Kind, Layout, NoMemory, Slot};
+use crate::stores::Barrier;
+use g1_layout::{Kind, Layout, NoMemory, Slot};
 use g1_race::{Paused, Race, Racer, Sweeper};
 use std::alloc::Global;
 
@@ -45,8 +46,7 @@ impl Barrier for RaceCalls<'_> {
     // A full log is taken and looked at.
     fn store(&mut self, slot: Slot, target: Option<Slot>) {
         if !self.racer.has_room() {
-            let last = last_of(self.racer.take_log().as_slice());
-            self.checksum = self.checksum.wrapping_add(last);
+            self.checksum = self.checksum.wrapping_add(last_of_log(self.racer));
         }
         if self.racer.store(self.race, slot, target) == Kind::Logged {
             self.checksum = self.checksum.wrapping_add(1);
@@ -54,10 +54,14 @@ impl Barrier for RaceCalls<'_> {
     }
 }
 
-// The number of the last of these cards.
+// Takes a racer's log, and returns the number of its last card. It is a call of its own, so that no
+// other store has room for a log on its stack.
 #[inline(never)]
-fn last_of(cards: &[Card]) -> u64 {
-    match cards.last() {
+fn last_of_log(racer: &mut Racer) -> u64
+    ensures race { racer_race racer.new ≡ racer_race racer.old }
+    ensures room { array_vec_len racer.new.log ≡ 0 }
+{
+    match racer.take_log().as_slice().last() {
         Some(card) => u64::from(card.number()),
         None => 0,
     }
@@ -82,16 +86,16 @@ pub fn refine(race: &Race, sweeper: &mut Sweeper, times: u32) -> u64
     checksum
 }
 
-/// At the pause of a race that begins with the heap of these calls, stores across regions into the
-/// first slots of `stores` cards, and drains the first region `drains` times.
+/// At the pause of a race that begins with the heap of these calls, makes the stores of a list, and
+/// drains the first region `drains` times.
 pub fn pause(
     alloc: Global,
     calls: &mut CoreCalls,
-    stores: u32,
+    list: &[(u32, u32)],
     drains: u32,
 ) -> Result<(), NoMemory> {
     let mut paused = Paused::begin_from(alloc, &mut calls.core, 1, 1)?;
-    let logged = store_paused(&mut paused, stores);
+    let logged = store_paused(&mut paused, list);
     calls.add(logged);
     let Some(region) = paused.layout().region(0) else {
         return Ok(());
@@ -103,14 +107,15 @@ pub fn pause(
     Ok(())
 }
 
-// Stores across regions into the first slots of `times` cards, and returns how many are logged.
-fn store_paused(paused: &mut Paused, times: u32) -> u64 {
+// Makes the stores, and returns how many are logged.
+fn store_paused(paused: &mut Paused, list: &[(u32, u32)]) -> u64 {
     let mut logged: u64 = 0;
-    for card in 0..times {
-        let Some((slot, place)) = reference_of(paused.layout(), card, 0) else {
+    for (slot, place) in list {
+        let layout = paused.layout();
+        let Some(slot) = layout.slot(*slot) else {
             return logged;
         };
-        if paused.store(slot, Some(place)) == Kind::Logged {
+        if paused.store(slot, layout.slot(*place)) == Kind::Logged {
             logged = logged.wrapping_add(1);
         }
     }
