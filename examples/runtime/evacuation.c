@@ -7,7 +7,8 @@
 // new value. Workers store as racers do.
 #include "runtime.h"
 
-enum { BATCH = 16, CHUNK = 128 };   // cards that a worker takes at once, objects that it shares
+enum { BATCH = 16, CHUNK = 128 };   // cards that a worker scans at once, objects that it shares
+enum { ENDED = RUNTIME_CARDS / 8 }; // cards that it ends at once
 #define FORWARD (UINT64_C(1) << 63) // plus the size << 32, plus where the copy is: no header
 
 // A worker copies into an old region. It has claimed the objects on its stack, and copies them.
@@ -186,9 +187,9 @@ static void scan_all(struct worker *self) {
 // and refines all cards to which mutators or workers have stored.
 static void end_all(struct worker *self) {
     self == workers ? end_step(1) : (void)0;
-    for (size_t i; (i = atomic_fetch_add(&ended, BATCH)) < regions_length * RUNTIME_CARDS;) {
+    for (size_t i; (i = atomic_fetch_add(&ended, ENDED)) < regions_length * RUNTIME_CARDS;) {
         const struct region *region = &regions[i / RUNTIME_CARDS];
-        for (uint32_t card = (uint32_t)i; region->state == OLD && card < i + BATCH; card++) {
+        for (uint32_t card = (uint32_t)i; region->state == OLD && card < i + ENDED; card++) {
             uint32_t first = card % RUNTIME_CARDS * SLOTS;
             int is_new = first + SLOTS > region->new_from && first < region->filled;
             for (uint32_t k = 0; region->is_in_set && k < SLOTS; k++) {
@@ -230,11 +231,15 @@ static void list(uint32_t card) {
 }
 
 // Lists the cards outside the set that are dirty, or recorded to refer into it. A recorded one may
-// be of a region that was freed.
+// be of a region that was freed. Before the first old region there is none to list.
 static void list_cards(void) {
-    uint32_t set[G1_MAX_REGIONS], set_length = 0, card = 0;
+    uint32_t set[G1_MAX_REGIONS], set_length = 0, old = 0, card;
     cards_length = 0;
+    while (old < regions_length && regions[old].state != OLD) {
+        old++;
+    }
     memset(is_listed, 0, regions_length * RUNTIME_CARDS);
+    card = old * RUNTIME_CARDS;
     for (; g1_heap_next_dirty(&heap, card, &card) == G1_DONE && card != G1_NULL; card++) {
         counts.dirty++;
         list(card);
@@ -243,7 +248,7 @@ static void list_cards(void) {
         set[set_length] = i;
         set_length += regions[i].is_in_set != 0;
     }
-    card = 0;
+    card = old * RUNTIME_CARDS;
     for (; g1_heap_next_into(&heap, set, set_length, card, &card) == G1_DONE && card != G1_NULL;
          card++) {
         list(card);
