@@ -925,11 +925,16 @@ uint32_t g1_heap_next_into(struct g1_heap *heap, const uint32_t *regions, size_t
                            uint32_t from, uint32_t *card);
 
 /*
- * Sets `card` to the least dirty card from the number `from` on, or to G1_NULL if there is none. So
- * a pause that refines card by card, or that scans dirty cards itself, needs no list of them. A
- * walk is as with g1_heap_next_member. The call reads a word for each 64 cards up to the one that
- * it finds, and for each eight of these of which one was dirtied since all were last refined at a
- * pause their marks and one word more. It takes no memory.
+ * Sets `card` to the least dirty card from the number `from` on, in whatever region, or to G1_NULL
+ * if there is none. So a pause that refines card by card, or that scans dirty cards itself, needs
+ * no list of them. A walk is as with g1_heap_next_member, but that a store between its steps may
+ * make a card dirty, which it meets if that lies ahead. A pause that scans dirty cards for
+ * references into a collection set passes over those inside the set: what their dead objects refer
+ * to would be kept.
+ *
+ * The call reads a word for each 64 cards up to the one that it finds, and for each eight of these
+ * of which one was dirtied since all were last refined at a pause their marks and one word more. It
+ * takes no memory.
  *
  * Returns G1_DONE, or G1_NOT_OPEN or G1_NOT_PAUSED: `card` is G1_NULL.
  */
@@ -1043,10 +1048,10 @@ uint32_t g1_heap_clear(struct g1_heap *heap, uint32_t region, uint32_t *detail);
  * set emptied, as by g1_heap_clear. A slot that refers inside its region keeps its reference, and
  * one with data its data: g1_heap_wipe would make these null too.
  *
- * The regions may come in any order, and more than once. The call reads each slot of the regions,
- * and once the slots of each card that g1_heap_next_into would find for them. Of what is dirty and
- * recorded it reads what that walk, and a forget and a clear of each region, would. It writes only
- * slots that refer into another region, and what is recorded. It takes no memory.
+ * The regions may come in any order, and more than once, or be none. The call reads each slot of
+ * the regions, and once the slots of each card that g1_heap_next_into would find for them. Of what
+ * is dirty and recorded it reads what that walk, and a forget and a clear of each region, would. It
+ * writes only slots that refer into another region, and what is recorded. It takes no memory.
  *
  * Returns:
  *   - G1_DONE: `detail` is 0.
