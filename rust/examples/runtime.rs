@@ -300,6 +300,7 @@ impl Pause<'_> {
             heap.wipe(*region)?; // the fields of a new object are null
         }
         heap.refine()?; // nothing may be pending at a free
+        let set = heap.collection_set(&set)?;
         wrong += usize::from(heap.free(&set)? != Cleared::Cleared);
         runtime.freed.fetch_add(SET, SeqCst);
         Ok(wrong)

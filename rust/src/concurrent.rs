@@ -43,6 +43,7 @@ mod paused;
 mod readers;
 mod refiner;
 
+pub use crate::numbers::CollectionSet;
 pub use members::{StoreCounts, SweepCounts};
 pub use paused::Members;
 pub use readers::{Reader, Readers};

@@ -38,6 +38,13 @@ impl Home {
     }
 }
 
+/// The regions of a collection set of one heap, whose numbers are there for each call.
+#[derive(Clone, Debug, PartialEq, Eq)]
+pub struct CollectionSet {
+    pub(crate) numbers: Vec<u32>,
+    pub(crate) home: Home,
+}
+
 macro_rules! number {
     ($(#[$doc:meta])* $name:ident) => {
         $(#[$doc])*
@@ -203,9 +210,11 @@ impl Numbers {
     /// The numbers of regions, as the library takes them.
     ///
     /// Refused with [`Refusal::OtherHeap`] if any region is another heap's.
-    pub fn of_regions(&self, regions: &[Region]) -> Result<Vec<u32>, Refusal> {
+    pub fn set_of(&self, regions: &[Region]) -> Result<CollectionSet, Refusal> {
         let number = |region: &Region| self.has(region.home).map(|()| region.number);
-        regions.iter().map(number).collect()
+        let numbers = regions.iter().map(number).collect::<Result<_, _>>()?;
+        let home = self.home;
+        Ok(CollectionSet { numbers, home })
     }
 
     /// Refused with [`Refusal::OtherHeap`] if the slot is another heap's, or with

@@ -75,16 +75,22 @@ fn a_walk_meets_the_members_of_a_region() {
     assert_eq!(met, cards);
     // For several regions each card once, and none that lies in one of them.
     let regions = [1, 3].map(|number| heap.region(number).expect("a region"));
+    let set = heap.collection_set(&regions).expect("a set");
     (met, from) = (Vec::new(), 0);
-    while let Some(card) = heap.next_into(&regions, from).expect("a step") {
+    while let Some(card) = heap.next_into(&set, from).expect("a step") {
         met.push(card);
         from = card.number() + 1;
     }
     assert_eq!(met, cards[..2]);
     let dirty = heap.card(701).expect("a card");
     assert_eq!(heap.next_dirty(0), Ok(Some(dirty)));
-    let other = self::heap().region(1).expect("a region");
-    assert_eq!(heap.next_into(&[region, other], 0), Err(Refusal::OtherHeap));
+    let mut foreign = self::heap();
+    let other = foreign.region(1).expect("a region");
+    assert_eq!(
+        heap.collection_set(&[region, other]),
+        Err(Refusal::OtherHeap)
+    );
+    assert_eq!(foreign.next_into(&set, 0), Err(Refusal::OtherHeap));
     assert_eq!(heap.members_iter(other).err(), Some(Refusal::OtherHeap));
     assert_eq!(heap.next_member(other, 0), Err(Refusal::OtherHeap));
 }
@@ -495,7 +501,8 @@ fn frees_regions_together() {
         heap.store(from, Some(to)).expect("a store");
     }
     heap.store(first, Some(outside)).expect("a store");
-    let set = [first.region(), second.region()];
+    let set = heap.collection_set(&[first.region(), second.region()]);
+    let set = set.expect("a set");
     assert_eq!(heap.free(&set), Ok(Cleared::Pending(3)));
     assert_eq!(heap.refine(), Ok(()));
     assert_eq!(heap.free(&set), Ok(Cleared::StillReferenced(outside)));
@@ -507,7 +514,7 @@ fn frees_regions_together() {
     assert_eq!(heap.target(kept), Ok(Some(data)));
     assert_eq!(heap.word(data), Ok(Word::Data(DATA)));
     assert_eq!(heap.status().map(|totals| totals.recorded), Ok(0));
-    assert_eq!(heap.free(&[]), Ok(Cleared::Cleared));
-    let other = self::heap().region(1).expect("a region");
-    assert_eq!(heap.free(&[set[0], other]), Err(Refusal::OtherHeap));
+    let none = heap.collection_set(&[]).expect("a set");
+    assert_eq!(heap.free(&none), Ok(Cleared::Cleared));
+    assert_eq!(self::heap().free(&set), Err(Refusal::OtherHeap));
 }

@@ -9,7 +9,7 @@ use crate::library::{
     g1_heap_store_data, g1_heap_store_words, g1_heap_verify, g1_heap_wipe, g1_heap_words,
     HeapHandle, DONE, NULL,
 };
-use crate::numbers::{Home, Numbers};
+use crate::numbers::{CollectionSet, Home, Numbers};
 use crate::{Card, Cleared, Counts, Kind, Refusal, Region, Slot, Totals};
 use std::fmt;
 use std::ptr::{null, null_mut};
@@ -149,21 +149,29 @@ impl Paused {
         Ok(self.life.numbers.card(number).ok())
     }
 
-    /// The least card from the number `from` on that lies outside these regions and is recorded for
-    /// one of them: a walk over a collection set meets each card once. Stores, copies and wipes
-    /// change it as little as one by [`Paused::next_member`]. It takes memory for the numbers of the
-    /// regions.
+    /// A collection set of these regions, for [`Paused::next_into`] and [`Paused::free`]. They may
+    /// come in any order, and more than once, or be none. It takes memory for their numbers.
     ///
     /// Refused with [`Refusal::OtherHeap`] if any region is another heap's.
-    pub fn next_into(&mut self, regions: &[Region], from: u32) -> Result<Option<Card>, Refusal> {
-        let numbers = self.life.numbers.of_regions(regions)?;
+    pub fn collection_set(&self, regions: &[Region]) -> Result<CollectionSet, Refusal> {
+        self.life.numbers.set_of(regions)
+    }
+
+    /// The least card from the number `from` on that lies outside the regions of a collection set
+    /// and is recorded for one of them: a walk meets each card once for the whole set. Stores, copies
+    /// and wipes change it as little as one by [`Paused::next_member`]. No memory.
+    ///
+    /// Refused with [`Refusal::OtherHeap`].
+    pub fn next_into(&mut self, set: &CollectionSet, from: u32) -> Result<Option<Card>, Refusal> {
+        self.life.numbers.has(set.home)?;
         let (mut number, handle) = (NULL, &mut self.life.handle);
-        let (given, length) = (numbers.as_ptr(), numbers.len());
+        let (given, length) = (set.numbers.as_ptr(), set.numbers.len());
         done(unsafe { g1_heap_next_into(handle, given, length, from, &mut number) })?;
         Ok(self.life.numbers.card(number).ok())
     }
 
-    /// The least dirty card from the number `from` on. No memory.
+    /// The least dirty card from the number `from` on, in whatever region. A store between two of
+    /// these calls may make a card dirty, which a walk meets if it lies ahead. No memory.
     pub fn next_dirty(&mut self, from: u32) -> Result<Option<Card>, Refusal> {
         let mut number = NULL;
         done(unsafe { g1_heap_next_dirty(&mut self.life.handle, from, &mut number) })?;
@@ -267,13 +275,13 @@ impl Paused {
     /// [`Paused::wipe`] makes these null too.
     ///
     /// Time in the slots of the regions, and of each card that [`Paused::next_into`] would find for
-    /// them, and as of a forget and a clear of each. It takes memory for the numbers of the regions.
+    /// them, and as of a forget and a clear of each. No memory.
     ///
-    /// Refused with [`Refusal::OtherHeap`] if any region is another heap's.
-    pub fn free(&mut self, regions: &[Region]) -> Result<Cleared, Refusal> {
-        let numbers = self.life.numbers.of_regions(regions)?;
+    /// Refused with [`Refusal::OtherHeap`].
+    pub fn free(&mut self, set: &CollectionSet) -> Result<Cleared, Refusal> {
+        self.life.numbers.has(set.home)?;
         let (mut detail, handle) = (0, &mut self.life.handle);
-        let (given, length) = (numbers.as_ptr(), numbers.len());
+        let (given, length) = (set.numbers.as_ptr(), set.numbers.len());
         let word = unsafe { g1_heap_free(handle, given, length, &mut detail) };
         Cleared::of(word, detail, self.life.numbers.home)
     }
