@@ -1,29 +1,28 @@
 -- How counts grow, and what a round does at a shared book and at a desk of it.
 use Rattle.std.specs.Prelude.{◌≡◌, ◌+◌, ◌-◌, ◌/◌, ◌≤◌, if◌then◌else◌, ◌∷◌, ◌++◌}
-use Rattle.g1_shared.specs.{ℕ, Bool, true, false, cond, nat_lt, Option, Some, None, List, [], length, map, refl, sym, subst, ap, ◌∙◌, arith, append_assoc, append-nil, length-append, count_by, Result, Ok, Err, IfOk, OnOk, Line, capacity_of, SharedTerms, AskWork, CallerState, RefinesBy, WorksBy, CallerMark, caller_mark, taken_list, DeskDid, inl, inr, Mutator, length-map, sum_by-append, Shape, Parcel, Taker, taken_of, RefineReply, Entry, Refusal, CallMade, Refused, GainsAtMost, Turn, turn_call, round_calls, round_size, IsRound, CallerCounts, one_call, counts_after, counts_after_then, CountsDid, is_store, MakesFor}
+use Rattle.g1_shared.specs.{ℕ, Bool, true, false, cond, nat_lt, Option, Some, None, List, [], length, map, refl, sym, subst, ap, ◌∙◌, arith, append_assoc, append-nil, length-append, count_by, Result, Ok, Err, IfOk, OnOk, Line, capacity_of, SharedTerms, AskWork, CallerState, RefinesBy, WorksBy, CallerMark, caller_mark, taken_list, DeskDid, inl, inr, Mutator, length-map, sum_by-append, Shape, Parcel, Taker, taken_of, RefineReply, Entry, Refusal, CallMade, Refused, GainsAtMost, Turn, round_calls, round_size, IsRound, CallerCounts, refine_entry, entries_made, did_more, did_nothing, made_by, stored_by, CountsDid, is_store, MakesFor}
 use Rattle.g1_log.specs.Ends.{IsSameTaker}
 use Rattle.g1_steps.specs.Marks.{mutator_mark}
 use Rattle.g1_steps.specs.Rounds.{IsRefused, IsWorkStep}
 use Rattle.g1_steps.specs.Steps.{IsRefineStep}
 use Rattle.g1_steps.proofs.StepLemmas.{gains_nothing}
+use Rattle.g1_steps.proofs.ServedLemmas.{served_round}
+use Rattle.std.proofs.lemmas.List.Sums.{sum_by-cons}
 
 -- how many stores there are with one entry more
 pub stores_more : (es now : List Entry) (e : Entry) (n : ℕ) → n ≡ count_by is_store es → now ≡ es ++ e ∷ [] → n + cond (is_store e) 1 0 ≡ count_by is_store now
 stores_more es now e n was is = let all = sum_by-append (λ x. cond (is_store x) 1 0) es (e ∷ []) in omega (arith, was, all, ap (count_by is_store) is)
 
--- each call of a round counts once, and none is a store
-pub record IsWorked (t : CallerCounts) (calls : ℕ) (u : CallerCounts) : Type 0 where
-  pub number : u.number ≡ t.number
-  pub made : u.made ≡ t.made + calls
-  pub stored : u.stored ≡ t.stored
+-- what counts grow by
+pub grown : (t u : CallerCounts) (es : List Entry) → u ≡ did_more t es → (u.number ≡ t.number) × (made_by u ≡ made_by t + length es) × (stored_by u ≡ stored_by t + count_by is_store es)
+grown t u es is = (ap (λ (c : CallerCounts). c.number) is, ap made_by is ∙ length-append t.did es, ap stored_by is ∙ sum_by-append (λ (e : Entry). cond (is_store e) 1 0) t.did es)
 
-turns_counted : (t : CallerCounts) (turns : List Turn) → IsWorked t (length turns) (counts_after t (map turn_call turns))
-turns_counted t [] = record { number = refl; made = omega arith; stored = refl }
-turns_counted t (x ∷ xs) = let rest = turns_counted (one_call t) xs in record { number = rest.number; made = omega (arith, rest.made); stored = rest.stored }
-
-pub round_counted : (t : CallerCounts) (turns : List Turn) (refused : Option Refusal) → IsWorked t (length turns) (counts_after t (round_calls turns refused))
-round_counted t turns None = turns_counted t turns
-round_counted t turns (Some refusal) = subst (IsWorked t (length turns)) (counts_after_then t (map turn_call turns) (Refused refusal ∷ [])) (turns_counted t turns)
+-- each call of a round is one entry, and none is a store
+round_entries : (n : ℕ) (turns : List Turn) (refused : Option Refusal) → (length (entries_made n (round_calls turns refused)) ≡ length turns) × (count_by is_store (entries_made n (round_calls turns refused)) ≡ 0)
+round_entries n [] None = (refl, refl)
+round_entries n [] (Some refusal) = (refl, refl)
+round_entries n (x ∷ xs) None = let rest = round_entries n xs None in (omega (arith, rest.0), omega (arith, rest.1, sum_by-cons (λ (e : Entry). cond (is_store e) 1 0) (refine_entry n x.reply) (entries_made n (round_calls xs None))))
+round_entries n (x ∷ xs) (Some refusal) = let rest = round_entries n xs (Some refusal) in (omega (arith, rest.0), omega (arith, rest.1, sum_by-cons (λ (e : Entry). cond (is_store e) 1 0) (refine_entry n x.reply) (entries_made n (round_calls xs (Some refusal)))))
 
 size_by : (less : Bool) (start seen : ℕ) → (if less then 0 else seen - start / 4) ≤ seen
 size_by true start seen = omega arith
@@ -52,14 +51,14 @@ round_as did tells old new was now before most named reply after same told h = s
 })
 
 -- a round makes no more entries than its taker gains parcels
-pub round_makes : (layout : Shape) (t : CallerCounts) (before : List Parcel) (most : ℕ) (reply : RefineReply) (after : List Parcel) (u : CallerCounts) → IsRound (CountsDid layout) t before most reply after u → MakesFor t.made before u.made after
+pub round_makes : (layout : Shape) (t : CallerCounts) (before : List Parcel) (most : ℕ) (reply : RefineReply) (after : List Parcel) (u : CallerCounts) → IsRound (CountsDid layout) t before most reply after u → MakesFor (made_by t) before (made_by u) after
 round_makes layout t before most reply after u h =
     let all = map (λ (x : Turn). x.parcel) h.turns in
-    let worked = round_counted t h.turns h.refused in
+    let worked = grown t u _ h.made.0 in
     record {
       parcels = all ++ h.taken.parcels;
       gained = h.taken.gained ∙ append_assoc before all h.taken.parcels;
-      within = omega (arith, ap (λ (c : CallerCounts). c.made) h.made.0, worked.made, length-append all h.taken.parcels, length-map h.turns (λ (x : Turn). x.parcel));
+      within = omega (arith, worked.1, (round_entries t.number h.turns h.refused).0, length-append all h.taken.parcels, length-map h.turns (λ (x : Turn). x.parcel));
     }
 
 -- where none was made, its taker may have gained parcels or not
@@ -117,30 +116,30 @@ refines did layout line old new counts now mutator before after r told h =
 -- the counts after a refused round, and what was given up
 lost_by : (layout : Shape) (counts now : CallerCounts) (before after : List Parcel) (refusal : Refusal) → IsRefused (CountsDid layout) (Unit {0}) counts before refusal now after → (now ≡ counts) × GainsAtMost before 1 after
 lost_by layout counts now before after refusal (inl e) = (e.2, gains_nothing _ _ e.3)
-lost_by layout counts now before after refusal (inr e) = (e.0.0, e.1)
+lost_by layout counts now before after refusal (inr e) = (e.0.0 ∙ sym (did_nothing counts), e.1)
 
 works_by : (terms : SharedTerms) (line : Line) (counts now : CallerCounts) (mutator : Option Mutator) (before after : Taker) (r : Result RefineReply Refusal) → IsWorkStep (CountsDid terms.layout) line terms.settings.start counts before r after now
     → WorksBy terms line (record { counts = counts; mutator = mutator; taker = before }) r (record { counts = now; mutator = mutator; taker = after })
 works_by terms line counts now mutator before after (Ok reply) h =
     let round = h.round.2 in
-    let calls = length round.turns in
-    let worked : IsWorked counts calls now = subst (IsWorked counts calls) (sym round.made.0) (round_counted counts round.turns round.refused) in
+    let worked = grown counts now _ round.made.0 in
+    let calls = round_entries counts.number round.turns round.refused in
     let seen = size_within terms.settings.start h.round.0 in
     record {
-      mark = marked counts now mutator before after worked.number h.same;
+      mark = marked counts now mutator before after worked.0 h.same;
       mutator = refl;
-      stored = worked.stored;
-      made = (omega (arith, worked.made), omega (arith, worked.made, round.within, seen, h.round.1));
+      stored = omega (arith, worked.2, calls.1);
+      made = (omega (arith, worked.1), omega (arith, worked.1, calls.0, round.within, seen, h.round.1));
       step = h;
       err = tt;
     }
 works_by terms line counts now mutator before after (Err refusal) h =
     let lost = lost_by terms.layout counts now (taken_of before) (taken_of after) refusal h.err in
-    let same = ap (λ (n : CallerCounts). n.made) lost.0 in
+    let same = ap made_by lost.0 in
     record {
       mark = marked counts now mutator before after (ap (λ (n : CallerCounts). n.number) lost.0) h.same;
       mutator = refl;
-      stored = ap (λ (n : CallerCounts). n.stored) lost.0;
+      stored = ap stored_by lost.0;
       made = (omega (arith, same), omega (arith, same));
       step = h;
       err = lost;
@@ -156,13 +155,14 @@ pub work_number : {S : Type 0} (did : S → List CallMade → S → Type 0) (ter
 work_number did terms line start old new counts now before after r is told same h = ap (λ (m : CallerMark). m.number) (works did terms line start old new counts now None before after r is told same h).mark
 
 -- what a desk tells of a round
-pub desk_worked : (terms : SharedTerms) (line : Line) (s t : CallerState) (r : Result RefineReply Refusal) → WorksBy terms line s r t → OnOk r (DeskDid (capacity_of line) s (AskWork ∷ []) (capacity_of line) t)
+pub desk_worked : (terms : SharedTerms) (line : Line) (s t : CallerState) (r : Result RefineReply Refusal) → WorksBy terms line s r t → OnOk r (DeskDid terms.layout (capacity_of line) s (AskWork ∷ []) (capacity_of line) t)
 desk_worked terms line s t (Err refusal) h = tt
 desk_worked terms line s t (Ok reply) h =
     let makes = round_makes terms.layout s.counts (taken_list s) _ reply (taken_list t) t.counts h.step.round.2 in (
       refl,
       record {
         mark = h.mark;
+        served = served_round (CountsDid terms.layout) s.counts (taken_list s) _ reply (taken_list t) t.counts h.step.round.2;
         stored = omega (arith, h.stored);
         least = omega (arith, h.made.0);
         log = tt;

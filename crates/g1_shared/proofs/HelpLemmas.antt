@@ -1,91 +1,101 @@
 -- What a store and a flush do to a caller whose counts tell of their calls.
-use Rattle.std.specs.Prelude.{◌≡◌, ◌≢◌, ◌≤◌, ◌∷◌, ◌++◌}
-use Rattle.g1_shared.specs.{ℕ, Bool, List, [], false, Option, Some, None, Result, Ok, Err, IfOk, refl, sym, ap, subst, ◌∙◌, arith, inl, inr, Shape, StoreReply, No, Full, Helped, Stored, CallMade, Help, help_calls, store_answer, CallerCounts, one_store, counts_after, CountsDid, CallerState, caller_log, puts_by, IsHelped, IsStoreAt, IsFlushAt, StoresBy, FlushesBy, Line, Taker, Mutator, Refusal}
-use Rattle.g1_core.specs.declared.reply.Fill.{Fill}
+use Rattle.std.specs.Prelude.{◌≡◌, ◌≤◌, ◌+◌, ◌∷◌, ◌++◌}
+use Rattle.g1_shared.specs.{ℕ, List, [], Option, Some, None, Result, Ok, Err, OnOk, length, count_by, cond, refl, sym, ap, subst, ◌∙◌, arith, append-nil, inl, inr, Shape, Entry, RefineReply, StoreReply, Stored, CallMade, Help, help_calls, entries_made, store_entry, is_store, CallerCounts, did_nothing, CountsDid, CallerState, caller_mark, taken_list, mutator_log, OfMutators, StoresBy, FlushesBy, DeskDid, AskStore, AskFlush, Line, capacity_of, Taker, taken_of, Mutator, Refusal, card_of, MakesFor}
 use Rattle.g1_log.specs.Log.{Cards}
-use Rattle.g1_steps.specs.Steps.{PutsBy, passed, IsFlushed, IsStoreStep, IsFlushStep}
+use Rattle.g1_steps.specs.Steps.{IsFlushed, IsStoreStep, IsFlushStep}
 use Rattle.g1_steps.specs.declared.steps.mutator.FlushReply.{FlushReply}
+use Rattle.g1_steps.proofs.ServedLemmas.{served_store, served_flush}
+use Rattle.g1_shared.proofs.CountLemmas.{grown}
+use Rattle.std.proofs.lemmas.List.Sums.{sum_by-cons}
 
--- a help lists what a refinement of its cards could give, or was refused
-help_ok : (layout : Shape) (cards : List ℕ) (t u : CallerCounts) (help : Help) → CountsDid layout t (help_calls cards help) u → (passed help).fill ≡ Helped → IsHelped layout cards t.made (passed help).refined (passed help).short u.made
-help_ok layout cards t u None did is = absurd (cc is)
-help_ok layout cards t u (Some (Ok reply)) did is = inl (ap (λ (n : CallerCounts). n.made) did.0, record { reply = reply; answer = did.1.0; refined_are = refl; short_is = refl })
-help_ok layout cards t u (Some (Err refusal)) did is = inr (ap (λ (n : CallerCounts). n.made) did.0, refl, refl)
-
--- a store that helped nobody
-own_at : (layout : Shape) (c d : CallerState) (card : ℕ) (fill : Fill) (refined : List ℕ) (short : Bool) → d.counts ≡ one_store c.counts → (refined ≡ []) × (short ≡ false) → fill ≢ Helped → PutsBy fill ((caller_log c).cards ++ card ∷ []) (puts_by c) (puts_by d) → (fill ≢ No → (caller_log d).cards ≡ []) → IsStoreAt layout c card fill refined short d
-own_at layout c d card No refined short made plain own puts empty = (ap (λ (n : CallerCounts). n.made) made, puts, plain.0, plain.1)
-own_at layout c d card Full refined short made plain own puts empty = (ap (λ (n : CallerCounts). n.made) made, puts, empty (λ e. cc e), plain.0, plain.1)
-own_at layout c d card Helped refined short made plain own puts empty = absurd (own refl)
-
-answer_at : (layout : Shape) (c d : CallerState) (card slot : ℕ) (target : Option ℕ) (first : StoreReply) (help : Help) → CountsDid layout c.counts (Stored slot target first ∷ help_calls ((caller_log c).cards ++ card ∷ []) help) d.counts → (first.refined ≡ []) × (first.short ≡ false) → first.fill ≢ Helped
-    → PutsBy (store_answer first help).fill ((caller_log c).cards ++ card ∷ []) (puts_by c) (puts_by d) → ((store_answer first help).fill ≢ No → (caller_log d).cards ≡ []) → IsStoreAt layout c card (store_answer first help).fill (store_answer first help).refined (store_answer first help).short d
-answer_at layout c d card slot target first None did plain own puts empty = own_at layout c d card first.fill first.refined first.short did.0 plain own puts empty
-answer_at layout c d card slot target first (Some (Ok reply)) did plain own puts empty = (help_ok layout ((caller_log c).cards ++ card ∷ []) (one_store c.counts) d.counts (Some (Ok reply)) (did.0, did.1.1) refl, puts, empty (λ e. cc e))
-answer_at layout c d card slot target first (Some (Err refusal)) did plain own puts empty = (help_ok layout ((caller_log c).cards ++ card ∷ []) (one_store c.counts) d.counts (Some (Err refusal)) (did.0, did.1.1) refl, puts, empty (λ e. cc e))
-
-store_at : (layout : Shape) (c d : CallerState) (card slot : ℕ) (target : Option ℕ) (first reply : StoreReply) (help : Help) → reply ≡ store_answer first help → CountsDid layout c.counts (Stored slot target first ∷ help_calls ((caller_log c).cards ++ card ∷ []) help) d.counts → (first.refined ≡ []) × (first.short ≡ false) → first.fill ≢ Helped
-    → PutsBy reply.fill ((caller_log c).cards ++ card ∷ []) (puts_by c) (puts_by d) → (reply.fill ≢ No → (caller_log d).cards ≡ []) → IsStoreAt layout c card reply.fill reply.refined reply.short d
-store_at layout c d card slot target first reply help is did plain own =
-    let P : StoreReply → Type 0 = λ r. PutsBy r.fill ((caller_log c).cards ++ card ∷ []) (puts_by c) (puts_by d) → (r.fill ≢ No → (caller_log d).cards ≡ []) → IsStoreAt layout c card r.fill r.refined r.short d in
-    subst P (sym is) (answer_at layout c d card slot target first help did plain own)
-
-passed_at : (layout : Shape) (c d : CallerState) (help : Help) → CountsDid layout c.counts (help_calls (caller_log c).cards help) d.counts → PutsBy (passed help).fill (caller_log c).cards (puts_by c) (puts_by d) → IsFlushAt layout c (passed help).fill (passed help).refined (passed help).short d
-passed_at layout c d None did puts = (did.0, puts, refl, refl)
-passed_at layout c d (Some (Ok reply)) did puts = (help_ok layout (caller_log c).cards c.counts d.counts (Some (Ok reply)) did refl, puts)
-passed_at layout c d (Some (Err refusal)) did puts = (help_ok layout (caller_log c).cards c.counts d.counts (Some (Err refusal)) did refl, puts)
-
-flush_at : {S : Type 0} (did : S → List CallMade → S → Type 0) (layout : Shape) (old new : S) (c d : CallerState) (reply : FlushReply) → ((ms : List CallMade) → did old ms new → CountsDid layout c.counts ms d.counts) → (new ≡ old → d.counts ≡ c.counts) → IsFlushed did old (caller_log c).cards reply new → PutsBy reply.fill (caller_log c).cards (puts_by c) (puts_by d) → IsFlushAt layout c reply.fill reply.refined reply.short d
-flush_at did layout old new c d reply told same (inl h) =
-    let P : FlushReply → Type 0 = λ r. PutsBy r.fill (caller_log c).cards (puts_by c) (puts_by d) → IsFlushAt layout c r.fill r.refined r.short d in
-    subst P (sym h.1) (λ puts. (same h.2, puts, h.0, refl, refl))
-flush_at did layout old new c d reply told same (inr h) =
-    let P : FlushReply → Type 0 = λ r. PutsBy r.fill (caller_log c).cards (puts_by c) (puts_by d) → IsFlushAt layout c r.fill r.refined r.short d in
-    subst P (sym h.answer) (passed_at layout c d h.help (told (help_calls (caller_log c).cards h.help) h.made))
-
--- a flush that did something had cards
-flush_some : {S : Type 0} (did : S → List CallMade → S → Type 0) (old new : S) (cards : List ℕ) (reply : FlushReply) → IsFlushed did old cards reply new → reply.fill ≢ No → 1 ≤ reply.cards
-flush_some did old new cards reply (inl h) some = absurd (some (ap (λ (r : FlushReply). r.fill) h.1))
-flush_some did old new cards reply (inr h) some = omega (arith, h.some, ap (λ (r : FlushReply). r.cards) h.answer)
-
--- a help is no store
-help_stores : (t : CallerCounts) (cards : List ℕ) (help : Help) → (counts_after t (help_calls cards help)).stored ≡ t.stored
-help_stores t cards None = refl
-help_stores t cards (Some (Ok reply)) = refl
-help_stores t cards (Some (Err refusal)) = refl
-
-flush_stores : {S : Type 0} (did : S → List CallMade → S → Type 0) (layout : Shape) (old new : S) (counts now : CallerCounts) (cards : List ℕ) (reply : FlushReply) → ((ms : List CallMade) → did old ms new → CountsDid layout counts ms now) → (new ≡ old → now ≡ counts) → IsFlushed did old cards reply new → now.stored ≡ counts.stored
-flush_stores did layout old new counts now cards reply told same (inl h) = ap (λ (n : CallerCounts). n.stored) (same h.2)
-flush_stores did layout old new counts now cards reply told same (inr h) = ap (λ (n : CallerCounts). n.stored) (told (help_calls cards h.help) h.made).0 ∙ help_stores counts cards h.help
-
--- what the steps of a mutator do to its caller
-pub flushes : {S : Type 0} (did : S → List CallMade → S → Type 0) (layout : Shape) (line : Line) (old new : S) (counts now : CallerCounts) (m n : Mutator) (taker : Taker) (reply : FlushReply) → ((ms : List CallMade) → did old ms new → CountsDid layout counts ms now) → (new ≡ old → now ≡ counts) → IsFlushStep did line old m reply n new
-    → FlushesBy layout line (record { counts = counts; mutator = Some m; taker = taker }) reply (record { counts = now; mutator = Some n; taker = taker })
-flushes did layout line old new counts now m n taker reply told same h = record {
-  stored = flush_stores did layout old new counts now m.log.cards reply told same h.flushed;
-  taker = refl;
-  cards = h.cards;
-  empty = ap (λ (l : Cards). l.cards) h.log;
-  some = flush_some did old new m.log.cards reply h.flushed;
+-- the same store, of whose calls something else is told
+pub store_as : {S T : Type 0} (did : S → List CallMade → S → Type 0) (tells : T → List CallMade → T → Type 0) (line : Line) (old new : S) (was now : T) (m n : Mutator) (slot : ℕ) (target : Option ℕ) (card : ℕ) (r : Result StoreReply Refusal) → ((calls : List CallMade) → did old calls new → tells was calls now)
+    → IsStoreStep did line old m slot target card r n new → IsStoreStep tells line was m slot target card r n now
+store_as did tells line old new was now m n slot target card (Ok reply) told h = record {
+  stored = record { first = h.stored.first; help = h.stored.help; made = told _ h.stored.made; answer = h.stored.answer; plain = h.stored.plain; own = h.stored.own; full = h.stored.full; helps = h.stored.helps };
+  log = h.log;
+  fill = h.fill;
+  put = h.put;
   helped = h.helped;
-  made = flush_at did layout old new (record { counts = counts; mutator = Some m; taker = taker }) (record { counts = now; mutator = Some n; taker = taker }) reply told same h.flushed h.put;
+  empty = h.empty;
+  same = h.same;
+  err = tt;
+  err_ends = tt;
+}
+store_as did tells line old new was now m n slot target card (Err refusal) told h = record { stored = tt; log = tt; fill = tt; put = tt; helped = tt; empty = tt; same = h.same; err = told _ h.err; err_ends = h.err_ends }
+
+flushed_as : {S T : Type 0} (did : S → List CallMade → S → Type 0) (tells : T → List CallMade → T → Type 0) (old new : S) (was now : T) (cards : List ℕ) (reply : FlushReply) → ((calls : List CallMade) → did old calls new → tells was calls now) → (new ≡ old → now ≡ was)
+    → IsFlushed did old cards reply new → IsFlushed tells was cards reply now
+flushed_as did tells old new was now cards reply told same (inl e) = inl (e.0, e.1, same e.2)
+flushed_as did tells old new was now cards reply told same (inr h) = inr (record { some = h.some; help = h.help; made = told _ h.made; answer = h.answer })
+
+-- and the same flush
+pub flush_as : {S T : Type 0} (did : S → List CallMade → S → Type 0) (tells : T → List CallMade → T → Type 0) (line : Line) (old new : S) (was now : T) (m n : Mutator) (reply : FlushReply) → ((calls : List CallMade) → did old calls new → tells was calls now) → (new ≡ old → now ≡ was)
+    → IsFlushStep did line old m reply n new → IsFlushStep tells line was m reply n now
+flush_as did tells line old new was now m n reply told same h = record {
+  flushed = flushed_as did tells old new was now m.log.cards reply told same h.flushed;
+  cards = h.cards;
+  log = h.log;
+  put = h.put;
+  helped = h.helped;
+  same = h.same;
 }
 
-pub stores : {S : Type 0} (did : S → List CallMade → S → Type 0) (layout : Shape) (line : Line) (old new : S) (counts now : CallerCounts) (m n : Mutator) (taker : Taker) (slot : ℕ) (target : Option ℕ) (card : ℕ) (r : Result StoreReply Refusal) → ((ms : List CallMade) → did old ms new → CountsDid layout counts ms now) → IsStoreStep did line old m slot target card r n new
-    → IfOk r (λ reply. StoresBy layout line (record { counts = counts; mutator = Some m; taker = taker }) card reply (record { counts = now; mutator = Some n; taker = taker }))
-stores did layout line old new counts now m n taker slot target card (Err refusal) told h = tt
-stores did layout line old new counts now m n taker slot target card (Ok reply) told h =
-    let cards = m.log.cards ++ card ∷ [] in
-    let first = h.stored.first in
-    let made = told (Stored slot target first ∷ help_calls cards h.stored.help) h.stored.made in
-    record {
-      stored = ap (λ (n : CallerCounts). n.stored) made.0 ∙ help_stores (one_store counts) cards h.stored.help;
-      taker = refl;
-      log = h.log;
-      fill = h.fill;
-      helped = h.helped;
-      made = store_at layout (record { counts = counts; mutator = Some m; taker = taker }) (record { counts = now; mutator = Some n; taker = taker }) card slot target first reply h.stored.help h.stored.answer made h.stored.plain h.stored.own h.put h.empty;
-    }
+-- a help is one entry at most, and no store
+help_entries : (n : ℕ) (cards : List ℕ) (help : Help) → (length (entries_made n (help_calls cards help)) ≤ 1) × (count_by is_store (entries_made n (help_calls cards help)) ≡ 0)
+help_entries n cards None = (omega arith, refl)
+help_entries n cards (Some (Ok reply)) = (omega arith, refl)
+help_entries n cards (Some (Err refusal)) = (omega arith, refl)
+
+-- what holds of a caller's mutators, by what is left where they are there
+mutators_are : {P : Mutator → Mutator → Type 0} {R : Type 0} (a b : Option Mutator) → ((m n : Mutator) → b ≡ Some n → P m n → R) → OfMutators P a b → R
+mutators_are (Some m) (Some n) then h = then m n refl h
+mutators_are (Some m) None then h = absurd h
+mutators_are None b then h = absurd h
+
+-- what a desk tells of a store
+pub desk_stored : (layout : Shape) (line : Line) (s t : CallerState) (slot : ℕ) (target : Option ℕ) (r : Result StoreReply Refusal) → caller_mark t ≡ caller_mark s → StoresBy layout line s slot target r t → OnOk r (DeskDid layout (capacity_of line) s (AskStore slot target ∷ []) (capacity_of line) t)
+desk_stored layout line s t slot target (Err refusal) mark h = tt
+desk_stored layout line s t slot target (Ok reply) mark h = mutators_are s.mutator t.mutator (λ m n is step.
+    let stored = step.stored in
+    let more = grown s.counts t.counts _ stored.made.0 in
+    let help = help_entries s.counts.number (m.log.cards ++ card_of layout slot ∷ []) stored.help in
+    let all = sum_by-cons (λ (e : Entry). cond (is_store e) 1 0) (store_entry s.counts.number slot target stored.first) (entries_made s.counts.number (help_calls (m.log.cards ++ card_of layout slot ∷ []) stored.help)) in (
+      refl,
+      record {
+        mark = mark;
+        served = served_store (CountsDid layout) s.counts slot target _ reply t.counts stored;
+        stored = omega (arith, more.2, all, help.1);
+        least = omega (arith, more.1);
+        log = tt;
+        most = omega (arith, more.1, help.0);
+        each = record { parcels = []; gained = ap taken_of h.taker ∙ sym (append-nil (taken_list s)); within = omega (arith, more.1, help.0) };
+      },
+    )) h.step
+
+flush_grows : (layout : Shape) (s t : CallerCounts) (cards : List ℕ) (reply : FlushReply) → IsFlushed (CountsDid layout) s cards reply t → (es : List Entry) × (t ≡ record { number = s.number; did = s.did ++ es }) × (length es ≤ 1) × (count_by is_store es ≡ 0)
+flush_grows layout s t cards reply (inl e) = ([], e.2 ∙ did_nothing s, omega arith, refl)
+flush_grows layout s t cards reply (inr h) = let help = help_entries s.number cards h.help in (entries_made s.number (help_calls cards h.help), h.made.0, help.0, help.1)
+
+-- and of a flush
+pub desk_flushed : (layout : Shape) (line : Line) (s t : CallerState) (reply : FlushReply) → caller_mark t ≡ caller_mark s → FlushesBy layout line s reply t → DeskDid layout (capacity_of line) s (AskFlush ∷ []) (capacity_of line) t
+desk_flushed layout line s t reply mark h = mutators_are s.mutator t.mutator (λ m n is step.
+    let grows = flush_grows layout s.counts t.counts m.log.cards reply step.flushed in
+    let more = grown s.counts t.counts grows.0 grows.1 in (
+      refl,
+      record {
+        mark = mark;
+        served = served_flush (CountsDid layout) s.counts m.log.cards reply t.counts (did_nothing s.counts, tt) step.flushed;
+        stored = omega (arith, more.2, grows.3);
+        least = omega (arith, more.1);
+        log = flushed_log t.mutator n is step.log;
+        most = omega (arith, more.1, grows.2);
+        each = record { parcels = []; gained = ap taken_of h.taker ∙ sym (append-nil (taken_list s)); within = omega (arith, more.1, grows.2) };
+      },
+    )) h.step
+  where
+    flushed_log : (m : Option Mutator) (n : Mutator) {size : ℕ} → m ≡ Some n → n.log ≡ record { size = size; cards = [] } → (mutator_log m).cards ≡ []
+    flushed_log m n is log = ap (λ (o : Option Mutator). (mutator_log o).cards) is ∙ ap (λ (l : Cards). l.cards) log
 
 -- a caller whose mutator was lent is that caller
 pub lent_caller : (counts : CallerCounts) (taker : Taker) (m : Mutator) (mutator : Option Mutator) (c : CallerState) → Some m ≡ mutator → record { counts = counts; mutator = mutator; taker = taker } ≡ c → (P : CallerState → Type 0) → P (record { counts = counts; mutator = Some m; taker = taker }) → P c

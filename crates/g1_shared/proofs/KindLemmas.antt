@@ -1,11 +1,11 @@
 -- What is known of the kind of a store under a lock.
 use Rattle.std.specs.Prelude.{◌≡◌, ◌∷◌}
-use Rattle.g1_shared.specs.{ℕ, Bool, List, Option, Some, None, refl, sym, ap, subst, ◌∙◌, Result, Ok, Err, IfOk, Shape, Kind, StoreReply, kind_of, Refusal, History, BookTerms, table_in, SharedTerms, CallMade, Stored, Help, IsStored, help_calls, store_answer, IsKindAt, AreAnswersAt, AreCounted}
+use Rattle.g1_shared.specs.{ℕ, Bool, List, Option, Some, None, refl, sym, ap, subst, ◌∙◌, Result, Ok, Err, IfOk, Shape, Kind, StoreReply, kind_of, Refusal, History, BookTerms, table_in, SharedTerms, CallMade, Stored, Help, IsStored, help_calls, store_answer, IsKindAt, AreAnswersAt, IsRunTo, Entry}
 
 -- the kind of a store at a counted book
-pub kind_at : (keeps : Bool) (terms : SharedTerms) (made stored : ℕ) (h : History) (slot : ℕ) (target : Option ℕ) (kind : Kind)
-    → AreCounted keeps terms made stored h → kind ≡ kind_of (table_in h) slot target → IsKindAt terms.layout slot target kind
-kind_at keeps terms made stored h slot target kind was is = (table_in h, ap (λ (t : BookTerms). t.layout) was.kept, is)
+pub kind_at : (keeps : Bool) (terms : SharedTerms) (es : List Entry) (h : History) (slot : ℕ) (target : Option ℕ) (kind : Kind)
+    → IsRunTo keeps terms es h → kind ≡ kind_of (table_in h) slot target → IsKindAt terms.layout slot target kind
+kind_at keeps terms es h slot target kind was is = (table_in h, ap (λ (t : BookTerms). t.layout) was.kept, is)
 
 answer_kind : (first : StoreReply) (help : Help) → (store_answer first help).kind ≡ first.kind
 answer_kind first None = refl

@@ -3,5 +3,6 @@ pub mod CountLemmas
 pub mod EachLemmas
 pub mod HelpLemmas
 pub mod KindLemmas
+pub mod ToldLemmas
 use CallLemmas.*
 use CountLemmas.*

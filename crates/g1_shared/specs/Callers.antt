@@ -5,14 +5,17 @@ use Rattle.g1_shared.specs.Prelude.{IfSome, IsSome, IsNone, Result, OnOk, OnErr,
 use Rattle.g1_shared.specs.Prelude.{Parcel, line_home, capacity_of, put_of, taken_of, StoreReply}
 use Rattle.g1_shared.specs.Prelude.{IsLent, logged, buffer_of, MayRefuse, RefineReply, No, Full}
 use Rattle.g1_shared.specs.Prelude.{Helped, Mutator, Refusal, GainsAtMost}
-use Rattle.g1_shared.specs.Prelude.{IsNewMutator, sender_rights, sum_by, taker_rights, whole}
+use Rattle.g1_shared.specs.Prelude.{IsNewMutator, sender_rights, sum_by, taker_rights, whole, All}
+use Rattle.g1_shared.specs.Prelude.{IfOk, Entry, Call, Reply, asked_entry, card_of, is_store}
+use Rattle.g1_shared.specs.Prelude.{count_by, entries_of, History}
 use Rattle.g1_steps.specs.Rounds.{IsWorkStep}
-use Rattle.g1_steps.specs.Steps.{IsRefineStep}
+use Rattle.g1_steps.specs.Steps.{IsRefineStep, IsStoreStep, IsFlushStep}
 use Rattle.g1_log.specs.declared.buffer.Buffer.{Buffer}
 use Rattle.g1_log.specs.Log.{Cards}
 use Rattle.g1_core.specs.declared.reply.Fill.{Fill}
 use Rattle.g1_shared.specs.Answers.{IsReplyAt}
-use Rattle.g1_shared.specs.Counts.{CallerCounts, SharedTerms, one_call, CountsDid}
+use Rattle.g1_shared.specs.Counts.{CallerCounts, SharedTerms, CountsDid, did_more, made_by}
+use Rattle.g1_shared.specs.Counts.{stored_by, IsRunTo}
 use Rattle.g1_steps.specs.Marks.{MutatorMark, TakerMark, mutator_mark, taker_mark}
 use Rattle.g1_steps.specs.declared.steps.mutator.FlushReply.{FlushReply}
 
@@ -74,68 +77,24 @@ IsMarkOf line m = IfSome m.mutator (λ s. s.line ≡ line_home line) × (m.taker
 abbrev pub IsCallerOf : Line → CallerState → Type 0
 IsCallerOf line c = IsMarkOf line (caller_mark c)
 
--- What is told of a help is that of refining a buffer of these cards from some state of this heap.
-pub record IsHelpAt (layout : Shape) (cards refined : List ℕ) (short : Bool) : Type 0 where
-  pub reply : RefineReply
-  pub answer : IsReplyAt layout (Some cards) reply
-  pub refined_are : refined ≡ reply.refined
-  pub short_is : short ≡ reply.short
+-- what holds of a caller's mutator before and after, which is there
+abbrev pub OfMutators : (Mutator → Mutator → Type 0) → Option Mutator → Option Mutator → Type 0
+OfMutators P (Some m) (Some n) = P m n
+OfMutators P _ _ = ⊥
 
--- One entry more, of a refinement of these cards; or a refused call: then nothing is refined, and
--- that is short.
-abbrev pub IsHelped : Shape → List ℕ → ℕ → List ℕ → Bool → ℕ → Type 0
-IsHelped layout cards made refined short now =
-    ((now ≡ made + 1) × IsHelpAt layout cards refined short)
-    ⊎ ((now ≡ made) × (refined ≡ []) × (short ≡ true))
-
--- What a store of a card does to its caller, by what became of the log.
-abbrev pub IsStoreAt : Shape → CallerState → ℕ → Fill → List ℕ → Bool → CallerState → Type 0
-IsStoreAt layout c card No refined short d =
-    (d.counts.made ≡ c.counts.made + 1) × (puts_by d ≡ puts_by c) × (refined ≡ [])
-    × (short ≡ false)
-IsStoreAt layout c card Full refined short d =
-    (d.counts.made ≡ c.counts.made + 1)
-    × (puts_by d ≡ puts_by c ++ ((caller_log c).cards ++ card ∷ []) ∷ [])
-    × ((caller_log d).cards ≡ []) × (refined ≡ []) × (short ≡ false)
-IsStoreAt layout c card Helped refined short d =
-    IsHelped layout ((caller_log c).cards ++ card ∷ []) (c.counts.made + 1) refined short
-    d.counts.made
-    × (puts_by d ≡ puts_by c) × ((caller_log d).cards ≡ [])
-
--- A store of this card counts once, and its log goes into the queue where the card fills it, or the
--- caller refines it where the queue hands it back.
-pub record StoresBy (layout : Shape) (line : Line) (c : CallerState) (card : ℕ)
-    (reply : StoreReply) (d : CallerState) : Type 0 where
-  pub stored : d.counts.stored ≡ c.counts.stored + 1
+-- A store of a caller, with its answer: its counts tell of the call, and of the help.
+pub record StoresBy (layout : Shape) (line : Line) (c : CallerState) (slot : ℕ)
+    (target : Option ℕ) (result : Result StoreReply Refusal) (d : CallerState) : Type 0 where
   pub taker : d.taker ≡ c.taker
-  pub log : caller_log d ≡ logged reply.kind (caller_log c) card
-  pub fill : (reply.fill ≡ No) ↔ IsNone (buffer_of reply.kind (caller_log c) card)
-  pub helped : reply.fill ≡ Helped → IfSome c.mutator (λ m. MayRefuse line m.sender)
-  pub made : IsStoreAt layout c card reply.fill reply.refined reply.short d
+  pub step : OfMutators (λ m n. IsStoreStep (CountsDid layout) line c.counts m slot target
+      (card_of layout slot) result n d.counts) c.mutator d.mutator
 
--- What a flush does to its caller, by what became of the log.
-abbrev pub IsFlushAt : Shape → CallerState → Fill → List ℕ → Bool → CallerState → Type 0
-IsFlushAt layout c No refined short d =
-    (d.counts ≡ c.counts) × (puts_by d ≡ puts_by c) × ((caller_log c).cards ≡ []) × (refined ≡ [])
-    × (short ≡ false)
-IsFlushAt layout c Full refined short d =
-    (d.counts ≡ c.counts) × (puts_by d ≡ puts_by c ++ (caller_log c).cards ∷ []) × (refined ≡ [])
-    × (short ≡ false)
-IsFlushAt layout c Helped refined short d =
-    IsHelped layout (caller_log c).cards c.counts.made refined short d.counts.made
-    × (puts_by d ≡ puts_by c)
-
--- A flush empties the log, which goes into the queue where it has cards, or the caller refines it
--- where the queue hands it back. It is no store.
+-- A flush of a caller, with its answer: its counts tell of the help.
 pub record FlushesBy (layout : Shape) (line : Line) (c : CallerState) (reply : FlushReply)
     (d : CallerState) : Type 0 where
-  pub stored : d.counts.stored ≡ c.counts.stored
   pub taker : d.taker ≡ c.taker
-  pub cards : reply.cards ≡ length (caller_log c).cards
-  pub empty : (caller_log d).cards ≡ []
-  pub some : reply.fill ≢ No → 1 ≤ reply.cards
-  pub helped : reply.fill ≡ Helped → IfSome c.mutator (λ m. MayRefuse line m.sender)
-  pub made : IsFlushAt layout c reply.fill reply.refined reply.short d
+  pub step : OfMutators (λ m n. IsFlushStep (CountsDid layout) line c.counts m reply n d.counts)
+      c.mutator d.mutator
 
 -- A refinement of a caller, with its answer: its counts tell of the call, and the reply is one of
 -- that buffer.
@@ -152,8 +111,9 @@ pub record WorksBy (terms : SharedTerms) (line : Line) (c : CallerState)
     (result : Result RefineReply Refusal) (d : CallerState) : Type 0 where
   pub mark : caller_mark d ≡ caller_mark c
   pub mutator : d.mutator ≡ c.mutator
-  pub stored : d.counts.stored ≡ c.counts.stored
-  pub made : (c.counts.made ≤ d.counts.made) × (d.counts.made ≤ c.counts.made + capacity_of line)
+  pub stored : stored_by d.counts ≡ stored_by c.counts
+  pub made : (made_by c.counts ≤ made_by d.counts)
+      × (made_by d.counts ≤ made_by c.counts + capacity_of line)
   pub step : IsWorkStep (CountsDid terms.layout) line terms.settings.start c.counts c.taker result
       d.taker d.counts
   pub err : OnErr result ((d.counts ≡ c.counts) × GainsAtMost (taken_list c) 1 (taken_list d))
@@ -173,27 +133,44 @@ pub record IsCallerAtPause (c d : CallerState) : Type 0 where
 
 -- Caller k as it begins, where the first `mutators` callers are mutators.
 pub record IsNewCaller (line : Line) (log mutators k : ℕ) (c : CallerState) : Type 0 where
-  pub counts : c.counts ≡ record { number = k; made = 0; stored = 0 }
+  pub counts : c.counts ≡ record { number = k; did = [] }
   pub some : k < mutators → IsSome c.mutator
   pub mutator : IfSome c.mutator (IsNewMutator line log k)
   pub of : IsCallerOf line c
   pub taken : taken_list c ≡ []
 
--- the caller after one entry more, which is no store
-abbrev pub called_once : CallerState → CallerState
-called_once c = record c { counts = one_call c.counts }
+-- the caller after one entry more
+abbrev pub called_once : CallerState → Entry → CallerState
+called_once c e = record c { counts = did_more c.counts (e ∷ []) }
 
--- Where the call succeeded, the caller has one call more, which is no store. A refusal leaves it as
--- it was.
-abbrev pub CallsOnce : {X : Type 0} → CallerState → Result X Refusal → CallerState → Type 0
-CallsOnce old result new = OnOk result (new ≡ called_once old) × OnErr result (new ≡ old)
+-- Where the call succeeded, the caller made its entry. A refusal leaves it as it was.
+abbrev pub CallsOnce : {X : Type 0} → CallerState → (X → Entry) → Result X Refusal → CallerState
+    → Type 0
+CallsOnce old entry result new =
+    IfOk result (λ x. new ≡ called_once old (entry x)) × OnErr result (new ≡ old)
+
+-- The same of a call that was asked by its value: of its entry the refined cards are not told.
+abbrev pub AsksOnce : CallerState → Call → Result Reply Refusal → CallerState → Type 0
+AsksOnce old call result new =
+    IfOk result (λ reply. (cards : List ℕ)
+    × (new ≡ called_once old (asked_entry old.counts.number call reply cards)))
+    × OnErr result (new ≡ old)
+
+-- Each of these callers made just the entries with its number, in this order, and all are theirs.
+pub record AreMadeBy (callers : List CallerState) (entries : List Entry) : Type 0 where
+  pub each : All (λ c. c.counts.did ≡ entries_of c.counts.number entries) callers
+  pub all : length entries ≡ sum_by (λ c. made_by c.counts) callers
+  pub stores : count_by is_store entries ≡ sum_by (λ c. stored_by c.counts) callers
+
+-- What the callers of a shared book made was a permitted run, which led to this book.
+pub record IsTold (keeps : Bool) (terms : SharedTerms) (callers : List CallerState)
+    (h : History) : Type 0 where
+  pub entries : List Entry
+  pub run : IsRunTo keeps terms entries h
+  pub made : AreMadeBy callers entries
 
 -- What a store of this card does to a mutator, and the buffer that its log hands out.
-abbrev pub HandsOutOf : Option Mutator → ℕ → StoreReply → Option Buffer → Option Mutator → Type 0
-HandsOutOf (Some m) card reply buffer (Some n) =
-    IsLent card reply m.log n.log buffer × (n.sender ≡ m.sender)
-HandsOutOf _ card reply buffer _ = ⊥
-
 abbrev pub HandsOut : CallerState → ℕ → StoreReply → Option Buffer → CallerState → Type 0
 HandsOut c card reply buffer d =
-    HandsOutOf c.mutator card reply buffer d.mutator × (d.taker ≡ c.taker)
+    OfMutators (λ m n. IsLent card reply m.log n.log buffer × (n.sender ≡ m.sender)) c.mutator
+    d.mutator × (d.taker ≡ c.taker)

@@ -1,29 +1,34 @@
--- What is counted of a caller: its entries, and the stores among them.
+-- What is counted and recorded of the callers: their entries, and the stores among them.
 use Rattle.std.specs.Prelude.{◌≡◌, ◌+◌, ◌∷◌, ◌++◌}
-use Rattle.g1_shared.specs.Prelude.{ℕ, Bool, true, false, List, [], refl, sym, length, count_by}
-use Rattle.g1_shared.specs.Prelude.{Shape, Entry, Machine, IsPermitted, table_after, Table, History}
-use Rattle.g1_shared.specs.Prelude.{BookTerms, is_store, made_of, stored_of, terms_of, table_in}
-use Rattle.g1_shared.specs.Prelude.{layout_in}
-use Rattle.g1_shared.specs.Prelude.{CallMade, Stored, Refined, Refused, fold, fold-append}
-use Rattle.std.specs.Coded.{Coded, code_by, coded×, coded_ℕ}
+use Rattle.g1_shared.specs.Prelude.{ℕ, Bool, true, false, List, [], refl, sym, ap, ◌∙◌, length}
+use Rattle.g1_shared.specs.Prelude.{append-nil, append_assoc, count_by, Shape, Entry}
+use Rattle.g1_shared.specs.Prelude.{Machine, IsPermitted, table_after, Table, History, BookTerms}
+use Rattle.g1_shared.specs.Prelude.{is_store, terms_of, table_in, layout_in, fold, CallMade, Stored}
+use Rattle.g1_shared.specs.Prelude.{Refined, Refused, entries_made, Recorded}
+use Rattle.g1_shared.specs.Prelude.{store_entry, refine_entry}
+use Rattle.std.specs.Coded.{Coded, code_by, coded×, coded_ℕ, coded_list}
+use Rattle.atomic_table.specs.Seated.{TableId}
 use Rattle.g1_core.specs.declared.config.Settings.{Settings}
-use Rattle.g1_shared.specs.Answers.{AreAnswersAt}
+use Rattle.g1_shared.specs.Answers.{AreAnswersAt, answers_then}
 
--- On what terms a book is shared: those that it keeps, and the machine that it begins with.
+-- On what terms a book is shared: those that it keeps, the machine that it begins with, and which
+-- records its callers have.
 pub record SharedTerms : Type 0 where
   pub layout : Shape
   pub settings : Settings
   pub mutators : ℕ
   pub limit : ℕ
   pub began : Machine
+  pub records : TableId
 
-abbrev pub shared_terms : History → SharedTerms
-shared_terms h = record {
+abbrev pub shared_terms : History → TableId → SharedTerms
+shared_terms h records = record {
   layout = layout_in h;
   settings = h.machine.settings;
   mutators = h.mutators;
   limit = h.limit;
   began = h.machine;
+  records = records;
 }
 
 abbrev pub kept_terms : SharedTerms → BookTerms
@@ -34,74 +39,91 @@ kept_terms t = record {
   limit = t.limit;
 }
 
--- A permitted run with this many calls, and this many stores among them, leads from the one table
--- to the other.
-pub record LeadsTo (old : Table) (calls stores : ℕ) (new : Table) : Type 0 where
-  pub entries : List Entry
-  pub run : IsPermitted old entries
-  pub last : new ≡ fold table_after old entries
-  pub made : length entries ≡ calls
-  pub stored : count_by is_store entries ≡ stores
+-- the names of the ledgers of all calls and of the stores, in how many parts each is, and which
+-- records are with them
+pub record LedgerNames : Type 0 where
+  pub made : ℕ
+  pub stored : ℕ
+  pub parts : ℕ
+  pub records : TableId
 
--- What a counted book keeps: the totals of its ledgers are those of the book, on these terms, and
--- as many calls led to its table.
-pub record AreCounted (keeps : Bool) (terms : SharedTerms) (made stored : ℕ)
-    (h : History) : Type 0 where
-  pub calls : made ≡ made_of keeps h.entries h.totals
-  pub stores : stored ≡ stored_of keeps h.entries h.totals
-  pub kept : terms_of h ≡ kept_terms terms
-  pub run : LeadsTo terms.began.state.table made stored (table_in h)
-
--- What is known of such a book without its ledgers.
-abbrev pub IsCounted : Bool → SharedTerms → History → Type 0
-IsCounted keeps terms h =
-    AreCounted keeps terms (made_of keeps h.entries h.totals) (stored_of keeps h.entries h.totals) h
+-- The book has just these entries, or where it keeps none their totals.
+abbrev pub Remembers : Bool → List Entry → History → Type 0
+Remembers true entries h = h.entries ≡ entries
+Remembers false entries h =
+    h.totals ≡ record { made = length entries; stored = count_by is_store entries }
 
 -- no call was made
 abbrev pub AreNone : Bool → History → Type 0
-AreNone true h = h.entries ≡ []
-AreNone false h = h.totals ≡ record { made = 0; stored = 0 }
+AreNone keeps h = Remembers keeps [] h
 
--- a caller's number, how many of its calls were entered, and how many of these are stores
+-- A permitted run of these entries led from the beginning to this book, which remembers them.
+pub record IsRunTo (keeps : Bool) (terms : SharedTerms) (entries : List Entry)
+    (h : History) : Type 0 where
+  pub kept : terms_of h ≡ kept_terms terms
+  pub run : IsPermitted terms.began.state.table entries
+  pub last : table_in h ≡ fold table_after terms.began.state.table entries
+  pub remembers : Remembers keeps entries h
+
+-- What a counted book keeps: the totals of its ledgers are those of the entries that its records
+-- have, which led to it.
+pub record AreCounted (keeps : Bool) (terms : SharedTerms) (made stored : ℕ) (r : Recorded)
+    (h : History) : Type 0 where
+  pub calls : made ≡ length r.entries
+  pub stores : stored ≡ count_by is_store r.entries
+  pub table : r.table ≡ terms.records
+  pub led : IsRunTo keeps terms r.entries h
+
+-- a caller's number, and the entries of its calls in order
 pub record CallerCounts : Type 0 where
   pub number : ℕ
-  pub made : ℕ
-  pub stored : ℕ
+  pub did : List Entry
 
 -- it is stored as the tuple of its fields
-abbrev pub counts_code : Coded CallerCounts
-counts_code =
-    code_by (ℕ × (ℕ × ℕ)) (coded× coded_ℕ (coded× coded_ℕ coded_ℕ))
-    (λ t. (t.number, (t.made, t.stored)))
-    (λ p. record { number = p.0; made = p.1.0; stored = p.1.1 }) (λ _. refl)
+abbrev pub counts_code : Coded Entry → Coded CallerCounts
+counts_code entry =
+    code_by (ℕ × List Entry) (coded× coded_ℕ (coded_list entry)) (λ t. (t.number, t.did))
+    (λ p. record { number = p.0; did = p.1 }) (λ _. refl)
 
--- one entry more, which is no store, or is one
-abbrev pub one_call : CallerCounts → CallerCounts
-one_call t = record t { made = t.made + 1 }
+-- how many entries a caller made, and how many of these are stores
+abbrev pub made_by : CallerCounts → ℕ
+made_by t = length t.did
 
-abbrev pub one_store : CallerCounts → CallerCounts
-one_store t = record t { made = t.made + 1; stored = t.stored + 1 }
+abbrev pub stored_by : CallerCounts → ℕ
+stored_by t = count_by is_store t.did
 
--- the counts after a call, and after some: a refused one is no entry
-abbrev pub counts_with : CallerCounts → CallMade → CallerCounts
-counts_with t (Stored slot target reply) = one_store t
-counts_with t (Refined buffer reply) = one_call t
-counts_with t (Refused refusal) = t
+-- with these entries more
+abbrev pub did_more : CallerCounts → List Entry → CallerCounts
+did_more t es = record t { did = t.did ++ es }
 
-abbrev pub counts_after : CallerCounts → List CallMade → CallerCounts
-counts_after t ms = fold counts_with t ms
-
--- the counts tell of the calls that were made, and the heap which answers these can have
+-- The counts tell of the calls that were made, and the heap which answers these can have. A refused
+-- call is no entry.
 abbrev pub CountsDid : Shape → CallerCounts → List CallMade → CallerCounts → Type 0
-CountsDid layout t calls u = (u ≡ counts_after t calls) × AreAnswersAt layout calls
+CountsDid layout t calls u =
+    (u ≡ did_more t (entries_made t.number calls)) × AreAnswersAt layout calls
 
-pub counts_after_then : (t : CallerCounts) (xs ys : List CallMade)
-    → counts_after (counts_after t xs) ys ≡ counts_after t (xs ++ ys)
-counts_after_then t xs ys = sym (fold-append counts_with t xs ys)
+pub did_nothing : (t : CallerCounts) → t ≡ did_more t []
+did_nothing t = ap (λ es. record { number = t.number; did = es }) (sym (append-nil t.did))
 
-pub counts_after_number : (t : CallerCounts) (ms : List CallMade)
-    → (counts_after t ms).number ≡ t.number
-counts_after_number t [] = refl
-counts_after_number t (Stored slot target reply ∷ ms) = counts_after_number (one_store t) ms
-counts_after_number t (Refined buffer reply ∷ ms) = counts_after_number (one_call t) ms
-counts_after_number t (Refused refusal ∷ ms) = counts_after_number t ms
+entries_then : (n : ℕ) (xs ys : List CallMade)
+    → entries_made n xs ++ entries_made n ys ≡ entries_made n (xs ++ ys)
+entries_then n [] ys = refl
+entries_then n (Stored slot target reply ∷ xs) ys =
+    ap (λ es. store_entry n slot target reply ∷ es) (entries_then n xs ys)
+entries_then n (Refined buffer reply ∷ xs) ys =
+    ap (λ es. refine_entry n reply ∷ es) (entries_then n xs ys)
+entries_then n (Refused refusal ∷ xs) ys = entries_then n xs ys
+
+pub did_then : (t u v : CallerCounts) (xs ys : List CallMade)
+    → u ≡ did_more t (entries_made t.number xs) → v ≡ did_more u (entries_made u.number ys)
+    → v ≡ did_more t (entries_made t.number (xs ++ ys))
+did_then t u v xs ys h k =
+    k ∙ ap (λ n. did_more n (entries_made n.number ys)) h
+    ∙ ap (λ es. record { number = t.number; did = es })
+    (append_assoc t.did (entries_made t.number xs) (entries_made t.number ys)
+    ∙ ap (λ es. t.did ++ es) (entries_then t.number xs ys))
+
+pub counts_did_then : (layout : Shape) (t u v : CallerCounts) (xs ys : List CallMade)
+    → CountsDid layout t xs u → CountsDid layout u ys v → CountsDid layout t (xs ++ ys) v
+counts_did_then layout t u v xs ys h k =
+    (did_then t u v xs ys h.0 k.0, answers_then layout xs ys h.1 k.1)

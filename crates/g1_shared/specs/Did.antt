@@ -3,7 +3,8 @@ use Rattle.std.specs.Prelude.{◌≡◌, ◌+◌, ◌≤◌, ◌∷◌, ◌++◌
 use Rattle.g1_shared.specs.Prelude.{ℕ, Bool, cond, List, [], count_by, sum_by, refl, sym, ap, subst}
 use Rattle.g1_shared.specs.Prelude.{◌∙◌, arith, append-nil, append_assoc, length-append}
 use Rattle.g1_shared.specs.Prelude.{sum_by-append, Ask, AskStore, AskFlush, AskWork, is_store_ask}
-use Rattle.g1_shared.specs.Prelude.{GainsAtMost}
+use Rattle.g1_shared.specs.Prelude.{GainsAtMost, Shape, HasServed, served_then}
+use Rattle.g1_shared.specs.Counts.{CountsDid, counts_did_then, did_nothing, made_by, stored_by}
 use Rattle.g1_shared.specs.Callers.{CallerState, MakesFor, caller_mark, mutator_log, taken_list}
 
 -- how many entries are made for a call at most, where a round makes at most `limit`
@@ -39,26 +40,29 @@ left_then P Q t u [] (y ∷ ys) same h k = k
 left_then P Q t u (x ∷ xs) ys same h k =
     left_then (Leaves x t) (Leaves x u) t u xs ys (leaves_same x t u) h k
 
--- A caller made these calls: it is the same caller, each store counts once, and each store makes at
--- least one entry. At most two are made for a store, one for a flush, and one for each parcel that
--- its taker gained.
-pub record CallerDid (limit : ℕ) (s : CallerState) (asks : List Ask)
+-- A caller made the calls that serve what it was asked, each of which is an entry: it is the same
+-- caller, and each store makes at least one entry. At most two are made for a store, one for a
+-- flush, and one for each parcel that its taker gained.
+pub record CallerDid (layout : Shape) (limit : ℕ) (s : CallerState) (asks : List Ask)
     (t : CallerState) : Type 0 where
   pub mark : caller_mark t ≡ caller_mark s
-  pub stored : t.counts.stored ≡ s.counts.stored + count_by is_store_ask asks
-  pub least : s.counts.made + count_by is_store_ask asks ≤ t.counts.made
+  pub served : HasServed (CountsDid layout) s.counts asks t.counts
+  pub stored : stored_by t.counts ≡ stored_by s.counts + count_by is_store_ask asks
+  pub least : made_by s.counts + count_by is_store_ask asks ≤ made_by t.counts
   pub log : LeavesLog s asks t
-  pub most : t.counts.made ≤ s.counts.made + sum_by (most_for limit) asks
-  pub each : MakesFor (s.counts.made + sum_by (most_for 0) asks) (taken_list s)
-      t.counts.made (taken_list t)
+  pub most : made_by t.counts ≤ made_by s.counts + sum_by (most_for limit) asks
+  pub each : MakesFor (made_by s.counts + sum_by (most_for 0) asks) (taken_list s)
+      (made_by t.counts) (taken_list t)
 
 count_more : {X : Type 0} (p : X → Bool) (xs ys : List X)
     → count_by p (xs ++ ys) ≡ count_by p xs + count_by p ys
 count_more p xs ys = sum_by-append (λ x. cond (p x) 1 0) xs ys
 
-pub caller_did_none : (limit : ℕ) (s : CallerState) → CallerDid limit s [] s
-caller_did_none limit s = record {
+pub caller_did_none : (layout : Shape) (limit : ℕ) (s : CallerState)
+    → CallerDid layout limit s [] s
+caller_did_none layout limit s = record {
   mark = refl;
+  served = record { calls = []; made = (did_nothing s.counts, tt); serves = refl };
   stored = omega arith;
   least = omega arith;
   log = refl;
@@ -66,10 +70,13 @@ caller_did_none limit s = record {
   each = record { parcels = []; gained = sym (append-nil (taken_list s)); within = omega arith };
 }
 
-pub caller_did_then : (limit : ℕ) (s t u : CallerState) (xs ys : List Ask) → CallerDid limit s xs t
-    → CallerDid limit t ys u → CallerDid limit s (xs ++ ys) u
-caller_did_then limit s t u xs ys p q = record {
+pub caller_did_then : (layout : Shape) (limit : ℕ) (s t u : CallerState) (xs ys : List Ask)
+    → CallerDid layout limit s xs t → CallerDid layout limit t ys u
+    → CallerDid layout limit s (xs ++ ys) u
+caller_did_then layout limit s t u xs ys p q = record {
   mark = q.mark ∙ p.mark;
+  served = served_then (CountsDid layout) (counts_did_then layout) s.counts t.counts u.counts xs ys
+      p.served q.served;
   stored = omega (arith, p.stored, q.stored, count_more is_store_ask xs ys);
   least = omega (arith, p.least, q.least, count_more is_store_ask xs ys);
   log = left_then (t.mutator ≡ s.mutator) (u.mutator ≡ s.mutator) t u xs ys (λ e h. e ∙ h) p.log
@@ -98,11 +105,11 @@ IsRefusedAt s AskWork t =
     (t.counts ≡ s.counts) × (t.mutator ≡ s.mutator) × GainsAtMost (taken_list s) 1 (taken_list t)
 
 -- What a caller made, at a desk whose line stays of one capacity.
-abbrev pub DeskDid : ℕ → CallerState → List Ask → ℕ → CallerState → Type 0
-DeskDid limit s asks limit' t = (limit' ≡ limit) × CallerDid limit s asks t
+abbrev pub DeskDid : Shape → ℕ → CallerState → List Ask → ℕ → CallerState → Type 0
+DeskDid layout limit s asks limit' t = (limit' ≡ limit) × CallerDid layout limit s asks t
 
-pub desk_did_then : (l m n : ℕ) (s t u : CallerState) (xs ys : List Ask) → DeskDid l s xs m t
-    → DeskDid m t ys n u → DeskDid l s (xs ++ ys) n u
-desk_did_then l m n s t u xs ys p q =
-    let P : ℕ → Type 0 = λ k. CallerDid k t ys u in
-    (q.0 ∙ p.0, caller_did_then l s t u xs ys p.1 (subst P p.0 q.1))
+pub desk_did_then : (layout : Shape) (l m n : ℕ) (s t u : CallerState) (xs ys : List Ask)
+    → DeskDid layout l s xs m t → DeskDid layout m t ys n u → DeskDid layout l s (xs ++ ys) n u
+desk_did_then layout l m n s t u xs ys p q =
+    let P : ℕ → Type 0 = λ k. CallerDid layout k t ys u in
+    (q.0 ∙ p.0, caller_did_then layout l s t u xs ys p.1 (subst P p.0 q.1))

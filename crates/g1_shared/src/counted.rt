@@ -2,11 +2,13 @@
 //! Its calls are in [`calls`](crate::calls).
 ghost use Rattle.std.specs.Prelude.{◌≡◌};
 
+use crate::caller::Caller;
 use crate::ledgers::Terms;
 use g1_history::{Book, Keeps, Kept};
+use g1_records::Records;
 use std::marker::Model;
 use std::sync::ledger;
-use std::sync::ledger::{Ledger, Share};
+use std::sync::ledger::Ledger;
 
 /// A book with the totals of its calls and of its stores. Contracts see the book.
 ///
@@ -18,6 +20,7 @@ pub struct Counted<M: Terms, S: Ledger, H: Keeps = Kept> {
     pub(crate) book: Book<H>,
     pub(crate) made: ledger::Book<M>,
     pub(crate) stored: ledger::Book<S>,
+    pub(crate) records: Records,
 }
 
 impl<M: Terms, S: Ledger, H: Keeps> Model for Counted<M, S, H> {
@@ -31,35 +34,61 @@ impl<M: Terms, S: Ledger, H: Keeps> Model for Counted<M, S, H> {
 
     ghost view = { λ c. c.book };
 
-    ghost invariant = { λ c. AreCounted H.KEEPS M.terms c.made.total c.stored.total c.book };
+    ghost invariant = { λ c.
+        AreCounted H.KEEPS M.terms c.made.total c.stored.total c.records c.book };
 }
 
 impl<M: Terms, S: Ledger, H: Keeps> Counted<M, S, H> {
-    ghost use Rattle.g1_shared.specs.Counts.{AreCounted, IsCounted};
+    ghost use Rattle.std.specs.Prelude.{◌<◌, true, vec_len};
+    ghost use Rattle.g1_shared.specs.Prelude.{List, Entry, entries_of};
+    ghost use Rattle.g1_shared.specs.Counts.{IsRunTo};
+    ghost use Rattle.g1_shared.specs.Callers.{IsTold};
 
-    /// The book, on the terms that the callers know. As many calls as it has made, with as many
-    /// stores, led from the machine that it was shared with to its own. Constant time.
+    /// The book, on the terms that the callers know. A permitted run, which it remembers, led to it
+    /// from the machine that was shared. Constant time.
     pub fn book(&self) -> &Book<H>
         ensures book { result.now ≡ self.now }
-        ensures counted { IsCounted H.KEEPS M.terms self.now }
+        ensures run { (entries : List Entry) × IsRunTo H.KEEPS M.terms entries self.now }
     {
         &self.book
     }
 
-    /// The book, whose entries are as many as the shares with all parts say.
-    pub(crate) fn audited(self, made: &mut Share<M>, stored: &mut Share<S>) -> Book<H>
-        requires made { made.old.parts ≡ M.parts }
-        requires stored { stored.old.parts ≡ S.parts }
+    /// The record of a caller is what the book has of it, where it keeps its entries: just those
+    /// with the caller's number, in order. This is a fact for proofs, and takes three loads.
+    pub fn check(&mut self, caller: &mut Caller<M, S>)
+        ensures same { (self.new ≡ self.old) × (caller.new ≡ caller.old) }
+        ensures did { H.KEEPS ≡ true → caller.old.counts.did
+            ≡ entries_of caller.old.counts.number self.old.entries }
+    {
+        self.records.check(&mut caller.counts.own);
+    }
+
+    /// The book, once all callers are handed in. Their shares have all parts, so what it remembers
+    /// is just what they made.
+    pub(crate) fn end(self, callers: Vec<Caller<M, S>>) -> Book<H>
+        requires some { 0 < vec_len callers }
+        requires parts { (vec_len callers ≡ M.parts) × (vec_len callers ≡ S.parts) }
         ensures book { result ≡ self }
-        ensures counted { AreCounted H.KEEPS M.terms made.old.amount stored.old.amount result }
+        ensures told { IsTold H.KEEPS M.terms callers.items result }
     {
         let Counted {
             book,
             made: mut all_made,
             stored: mut all_stored,
+            mut records,
         } = self;
-        all_made.audit(made);
-        all_stored.audit(stored);
+        let mut callers = callers;
+        let last = callers.take_last();
+        let (mut made, mut stored, mut own) = last.into_shares();
+        records.check(&mut own);
+        while let Some(caller) = callers.pop() {
+            let (its_made, its_stored, mut its_own) = caller.into_shares();
+            records.check(&mut its_own);
+            made.merge(its_made);
+            stored.merge(its_stored);
+        }
+        all_made.audit(&mut made);
+        all_stored.audit(&mut stored);
         book
     }
 }

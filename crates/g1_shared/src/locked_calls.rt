@@ -1,8 +1,7 @@
 //! The calls of one caller at a book or core under a lock.
 ghost use Rattle.std.specs.Prelude.{◌≡◌};
 ghost use Rattle.g1_shared.specs.Prelude.{refl, nat_lt, ◌∙◌, ap};
-ghost use Rattle.g1_shared.specs.Counts.{counts_after, counts_after_then, counts_after_number};
-ghost use Rattle.g1_shared.specs.Answers.{AreAnswersAt, answers_then};
+ghost use Rattle.g1_shared.specs.Counts.{CountsDid, counts_did_then, did_nothing};
 
 use crate::caller::CallerCounts;
 use crate::counted::Counted;
@@ -36,8 +35,7 @@ impl<'a, R: Wait, M: Terms, S: Ledger, H: Keeps> Calls for LockedCalls<'a, R, M,
     ghost may_store = { λ s. nat_lt s.counts.now.number M.terms.mutators };
 
     ghost did = { λ s ms t. (t.counts.ghost_name ≡ s.counts.ghost_name)
-        × (t.counts.now ≡ counts_after s.counts.now ms)
-        × AreAnswersAt M.terms.layout ms };
+        × CountsDid M.terms.layout s.counts.now ms t.counts.now };
 
     #[inline(always)]
     fn store(
@@ -60,17 +58,15 @@ impl<'a, R: Wait, M: Terms, S: Ledger, H: Keeps> Calls for LockedCalls<'a, R, M,
         self.alloc
     }
 
-    ghost none = { λ s. (refl, refl, tt) };
+    ghost none = { λ s. (refl, (did_nothing s.counts.now, tt)) };
 
     ghost then = { λ s t u xs ys h k. (
       k.0 ∙ h.0,
-      k.1 ∙ ap (λ n. counts_after n ys) h.1 ∙ counts_after_then s.counts.now xs ys,
-      answers_then M.terms.layout xs ys h.2 k.2,
+      counts_did_then M.terms.layout s.counts.now t.counts.now u.counts.now xs ys h.1 k.1,
     ) };
 
     ghost stays = { λ s t ms h. (
       refl,
-      ap (λ n. nat_lt n M.terms.mutators)
-          (ap (λ t. t.number) h.1 ∙ counts_after_number s.counts.now ms),
+      ap (λ n. nat_lt n M.terms.mutators) (ap (λ t. t.number) h.1.0),
     ) };
 }

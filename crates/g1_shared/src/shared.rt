@@ -49,17 +49,18 @@ impl<M: Terms, S: Ledger, H: Keeps> Model for Shared<M, S, H> {
 
 impl<M: Terms, S: Ledger, H: Keeps> Shared<M, S, H> {
     ghost use Rattle.std.specs.Sync.Mutex.{mutex_guard_value};
-    ghost use Rattle.g1_shared.specs.Prelude.{IsSound, IsKept};
-    ghost use Rattle.g1_shared.specs.Counts.{IsCounted};
+    ghost use Rattle.g1_shared.specs.Prelude.{IsSound, IsKept, List, Entry};
+    ghost use Rattle.g1_shared.specs.Counts.{IsRunTo};
 
     /// Waits for the lock, and returns the counted book until the guard is dropped.
     ///
-    /// Whatever the threads did, a permitted run of as many calls as were made, with as many
-    /// stores, leads from the machine that was shared to the one under the lock. Where the book
-    /// keeps its entries, these are such a run.
+    /// Whatever the threads did, a permitted run, which the book remembers, leads from the machine
+    /// that was shared to the one under the lock. What a caller that is shown to the guard has made
+    /// are just the entries with its number, in order ([`Counted::check`]).
     pub fn lock<R: Wait>(&self, rt: &R) -> MutexGuard<'_, Counted<M, S, H>>
         ensures history { IsKept H.KEEPS (mutex_guard_value result) }
-        ensures counted { IsCounted H.KEEPS M.terms (mutex_guard_value result) }
+        ensures run { (entries : List Entry)
+            × IsRunTo H.KEEPS M.terms entries (mutex_guard_value result) }
         ensures sound { let h = mutex_guard_value result in IsSound h.machine.state }
     {
         let guard = self.counted.lock(rt);

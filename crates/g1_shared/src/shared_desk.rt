@@ -1,6 +1,6 @@
 //! A desk at a shared book.
 ghost use Rattle.std.specs.Prelude.{◌≡◌, ◌≤◌};
-ghost use Rattle.g1_shared.specs.Prelude.{refl, nat_lt, slot_count, card_of, capacity_of, Ok};
+ghost use Rattle.g1_shared.specs.Prelude.{refl, nat_lt, slot_count, capacity_of, Ok};
 ghost use Rattle.std.proofs.Props.{props};
 ghost use Rattle.g1_shared.specs.Callers.{IsCallerOf, StoresBy, FlushesBy, WorksBy};
 ghost use Rattle.g1_shared.specs.Did.{IsRefusedAt};
@@ -55,15 +55,15 @@ impl<'a, R, M: Terms, S: Ledger, H: Keeps> SharedDesk<'a, R, M, S, H> {
 
 #[tactic(auto, using(crate::proofs::makes_none, crate::proofs::makes_lost))]
 impl<'a, R: Wait, M: Terms, S: Ledger, H: Keeps> Desk for SharedDesk<'a, R, M, S, H> {
-    ghost did = { λ s asks t. DeskDid (capacity_of s.shared.now) s.caller asks
+    ghost did = { λ s asks t. DeskDid M.terms.layout (capacity_of s.shared.now) s.caller asks
         (capacity_of t.shared.now) t.caller };
 
     ghost slots = { λ s. slot_count M.terms.layout };
 
     ghost may_store = { λ s. nat_lt s.caller.counts.number M.terms.mutators };
 
-    ghost stored = { λ s slot target reply t. StoresBy M.terms.layout s.shared.now s.caller
-        (card_of M.terms.layout slot) reply t.caller
+    ghost stored = { λ s slot target reply t.
+        StoresBy M.terms.layout s.shared.now s.caller slot target (Ok reply) t.caller
         × IsKindAt M.terms.layout slot target reply.kind };
 
     ghost flushed = { λ s reply t.
@@ -86,8 +86,9 @@ impl<'a, R: Wait, M: Terms, S: Ledger, H: Keeps> Desk for SharedDesk<'a, R, M, S
         self.shared.work(self.rt, &mut self.caller)
     }
 
-    ghost none = { λ s. (refl, caller_did_none (capacity_of s.shared.now) s.caller) };
+    ghost none = { λ s.
+        (refl, caller_did_none M.terms.layout (capacity_of s.shared.now) s.caller) };
 
-    ghost then = { λ s t u. desk_did_then (capacity_of s.shared.now) (capacity_of t.shared.now)
-        (capacity_of u.shared.now) s.caller t.caller u.caller };
+    ghost then = { λ s t u. desk_did_then M.terms.layout (capacity_of s.shared.now)
+        (capacity_of t.shared.now) (capacity_of u.shared.now) s.caller t.caller u.caller };
 }

@@ -4,7 +4,7 @@ ghost use Rattle.g1_core.specs.Calls.{target_entry, pending_entry, members_entry
 ghost use Rattle.g1_core.specs.Calls.{DoesTarget, DoesPending, DoesMembers, DoesStatus};
 ghost use Rattle.g1_shared.specs.{IfOk, slot_count, card_count, drain_entry, clear_entry};
 ghost use Rattle.g1_shared.specs.{redirect_entry, DoesDrain, DoesClear, DoesRedirect, IsAsked};
-ghost use Rattle.g1_shared.specs.{MakesCall, MakesAsked, AnswersBy, CallsOnce};
+ghost use Rattle.g1_shared.specs.{MakesCall, MakesAsked, AnswersBy, CallsOnce, AsksOnce};
 
 use crate::caller::Caller;
 use crate::calls::stores::raise_made;
@@ -25,10 +25,12 @@ impl<M: Terms, S: Ledger, H: Keeps> Counted<M, S, H> {
         requires { slot < slot_count M.terms.layout }
         ensures call { MakesCall H.KEEPS self.old (target_entry caller.old.counts.number slot)
             (DoesTarget slot) result self.new }
-        ensures counts { CallsOnce caller.old result caller.new }
+        ensures counts { CallsOnce caller.old (target_entry caller.old.counts.number slot)
+            result caller.new }
     {
         let target = self.book.target(caller.counts.number(), slot)?;
-        raise_made(&self.book, &mut self.made, &mut caller.counts);
+        let (made, records) = (&mut self.made, &mut self.records);
+        raise_made(&self.book, made, records, &mut caller.counts, &slot, &target);
         Ok(target)
     }
 
@@ -37,10 +39,12 @@ impl<M: Terms, S: Ledger, H: Keeps> Counted<M, S, H> {
         requires { card < card_count M.terms.layout }
         ensures call { MakesCall H.KEEPS self.old (pending_entry caller.old.counts.number card)
             (DoesPending card) result self.new }
-        ensures counts { CallsOnce caller.old result caller.new }
+        ensures counts { CallsOnce caller.old (pending_entry caller.old.counts.number card)
+            result caller.new }
     {
         let answer = self.book.is_pending(caller.counts.number(), card)?;
-        raise_made(&self.book, &mut self.made, &mut caller.counts);
+        let (made, records) = (&mut self.made, &mut self.records);
+        raise_made(&self.book, made, records, &mut caller.counts, &card, &answer);
         Ok(answer)
     }
 
@@ -53,10 +57,12 @@ impl<M: Terms, S: Ledger, H: Keeps> Counted<M, S, H> {
         requires { region < M.terms.layout.regions }
         ensures call { MakesCall H.KEEPS self.old (members_entry caller.old.counts.number region)
             (DoesMembers region) result self.new }
-        ensures counts { CallsOnce caller.old result caller.new }
+        ensures counts { CallsOnce caller.old (members_entry caller.old.counts.number region)
+            result caller.new }
     {
         let cards = self.book.members(caller.counts.number(), region)?;
-        raise_made(&self.book, &mut self.made, &mut caller.counts);
+        let (made, records) = (&mut self.made, &mut self.records);
+        raise_made(&self.book, made, records, &mut caller.counts, &region, &cards);
         Ok(cards)
     }
 
@@ -64,10 +70,12 @@ impl<M: Terms, S: Ledger, H: Keeps> Counted<M, S, H> {
     pub fn status(&mut self, caller: &mut Caller<M, S>) -> Result<Status, Refusal>
         ensures call { MakesCall H.KEEPS self.old (status_entry caller.old.counts.number)
             DoesStatus result self.new }
-        ensures counts { CallsOnce caller.old result caller.new }
+        ensures counts { CallsOnce caller.old (status_entry caller.old.counts.number)
+            result caller.new }
     {
         let status = self.book.status(caller.counts.number())?;
-        raise_made(&self.book, &mut self.made, &mut caller.counts);
+        let (made, records) = (&mut self.made, &mut self.records);
+        raise_made(&self.book, made, records, &mut caller.counts, &(), &status);
         Ok(status)
     }
 
@@ -76,11 +84,13 @@ impl<M: Terms, S: Ledger, H: Keeps> Counted<M, S, H> {
         requires { region < M.terms.layout.regions }
         ensures call { MakesCall H.KEEPS self.old (drain_entry caller.old.counts.number region)
             (DoesDrain region) result self.new }
-        ensures counts { CallsOnce caller.old result caller.new }
+        ensures counts { CallsOnce caller.old (drain_entry caller.old.counts.number region)
+            result caller.new }
         ensures exact { IfOk result (AnswersBy H.KEEPS self.old region) }
     {
         let answer = self.book.drain(caller.counts.number(), region)?;
-        raise_made(&self.book, &mut self.made, &mut caller.counts);
+        let (made, records) = (&mut self.made, &mut self.records);
+        raise_made(&self.book, made, records, &mut caller.counts, &region, &answer);
         Ok(answer)
     }
 
@@ -93,10 +103,12 @@ impl<M: Terms, S: Ledger, H: Keeps> Counted<M, S, H> {
         requires { region < M.terms.layout.regions }
         ensures call { MakesCall H.KEEPS self.old (clear_entry caller.old.counts.number region)
             (DoesClear region) result self.new }
-        ensures counts { CallsOnce caller.old result caller.new }
+        ensures counts { CallsOnce caller.old (clear_entry caller.old.counts.number region)
+            result caller.new }
     {
         let answer = self.book.clear(caller.counts.number(), region)?;
-        raise_made(&self.book, &mut self.made, &mut caller.counts);
+        let (made, records) = (&mut self.made, &mut self.records);
+        raise_made(&self.book, made, records, &mut caller.counts, &region, &answer);
         Ok(answer)
     }
 
@@ -112,10 +124,12 @@ impl<M: Terms, S: Ledger, H: Keeps> Counted<M, S, H> {
         requires apart { from ≢ to }
         ensures call { MakesCall H.KEEPS self.old (redirect_entry caller.old.counts.number from to)
             (DoesRedirect from to) result self.new }
-        ensures counts { CallsOnce caller.old result caller.new }
+        ensures counts { CallsOnce caller.old (redirect_entry caller.old.counts.number from to)
+            result caller.new }
     {
         let answer = self.book.redirect(caller.counts.number(), from, to)?;
-        raise_made(&self.book, &mut self.made, &mut caller.counts);
+        let (made, records) = (&mut self.made, &mut self.records);
+        raise_made(&self.book, made, records, &mut caller.counts, &(from, to), &answer);
         Ok(answer)
     }
 
@@ -123,11 +137,18 @@ impl<M: Terms, S: Ledger, H: Keeps> Counted<M, S, H> {
     pub fn ask(&mut self, caller: &mut Caller<M, S>, call: Call) -> Result<Reply, Refusal>
         requires { IsAsked M.terms.layout call }
         ensures call { MakesAsked H.KEEPS self.old caller.old.counts.number call result self.new }
-        ensures counts { CallsOnce caller.old result caller.new }
+        ensures counts { AsksOnce caller.old call result caller.new }
     {
-        let reply = self.book.ask(caller.counts.number(), call)?;
-        raise_made(&self.book, &mut self.made, &mut caller.counts);
-        Ok(reply)
+        match call {
+            Call::Target(slot) => Ok(Reply::Target(self.target(caller, slot)?)),
+            Call::Pending(card) => Ok(Reply::Pending(self.is_pending(caller, card)?)),
+            Call::Members(region) => Ok(Reply::Cards(self.members(caller, region)?)),
+            Call::Status => Ok(Reply::Status(self.status(caller)?)),
+            Call::Drain(region) => Ok(Reply::from(self.drain(caller, region)?)),
+            Call::Clear(region) => Ok(Reply::Clear(self.clear(caller, region)?)),
+            Call::Redirect { from, to } => Ok(Reply::from(&self.redirect(caller, from, to)?)),
+            Call::Store { .. } | Call::Refine => unreachable!(),
+        }
     }
 }
 
@@ -144,7 +165,8 @@ impl<M: Terms, S: Ledger, H: Keeps> Shared<M, S, H> {
         slot: Slot,
     ) -> Result<Option<Slot>, Refusal>
         requires { slot < slot_count M.terms.layout }
-        ensures counts { CallsOnce caller.old result caller.new }
+        ensures counts { CallsOnce caller.old (target_entry caller.old.counts.number slot)
+            result caller.new }
     {
         self.counted.lock(rt).target(caller, slot)
     }
@@ -157,7 +179,8 @@ impl<M: Terms, S: Ledger, H: Keeps> Shared<M, S, H> {
         card: Card,
     ) -> Result<bool, Refusal>
         requires { card < card_count M.terms.layout }
-        ensures counts { CallsOnce caller.old result caller.new }
+        ensures counts { CallsOnce caller.old (pending_entry caller.old.counts.number card)
+            result caller.new }
     {
         self.counted.lock(rt).is_pending(caller, card)
     }
@@ -171,14 +194,16 @@ impl<M: Terms, S: Ledger, H: Keeps> Shared<M, S, H> {
         region: Region,
     ) -> Result<CardList, Refusal>
         requires { region < M.terms.layout.regions }
-        ensures counts { CallsOnce caller.old result caller.new }
+        ensures counts { CallsOnce caller.old (members_entry caller.old.counts.number region)
+            result caller.new }
     {
         self.counted.lock(rt).members(caller, region)
     }
 
     /// Returns how much is pending and recorded, by a call under the lock (`Counted::status`).
     pub fn status<R: Wait>(&self, rt: &R, caller: &mut Caller<M, S>) -> Result<Status, Refusal>
-        ensures counts { CallsOnce caller.old result caller.new }
+        ensures counts { CallsOnce caller.old (status_entry caller.old.counts.number)
+            result caller.new }
     {
         self.counted.lock(rt).status(caller)
     }
@@ -192,7 +217,8 @@ impl<M: Terms, S: Ledger, H: Keeps> Shared<M, S, H> {
         region: Region,
     ) -> Result<Drained, Refusal>
         requires { region < M.terms.layout.regions }
-        ensures counts { CallsOnce caller.old result caller.new }
+        ensures counts { CallsOnce caller.old (drain_entry caller.old.counts.number region)
+            result caller.new }
     {
         self.counted.lock(rt).drain(caller, region)
     }
@@ -205,7 +231,8 @@ impl<M: Terms, S: Ledger, H: Keeps> Shared<M, S, H> {
         region: Region,
     ) -> Result<ClearReply, Refusal>
         requires { region < M.terms.layout.regions }
-        ensures counts { CallsOnce caller.old result caller.new }
+        ensures counts { CallsOnce caller.old (clear_entry caller.old.counts.number region)
+            result caller.new }
     {
         self.counted.lock(rt).clear(caller, region)
     }
@@ -221,7 +248,8 @@ impl<M: Terms, S: Ledger, H: Keeps> Shared<M, S, H> {
         requires from { from < M.terms.layout.regions }
         requires to { to < M.terms.layout.regions }
         requires apart { from ≢ to }
-        ensures counts { CallsOnce caller.old result caller.new }
+        ensures counts { CallsOnce caller.old (redirect_entry caller.old.counts.number from to)
+            result caller.new }
     {
         self.counted.lock(rt).redirect(caller, from, to)
     }
@@ -235,7 +263,7 @@ impl<M: Terms, S: Ledger, H: Keeps> Shared<M, S, H> {
         call: Call,
     ) -> Result<Reply, Refusal>
         requires { IsAsked M.terms.layout call }
-        ensures counts { CallsOnce caller.old result caller.new }
+        ensures counts { AsksOnce caller.old call result caller.new }
     {
         self.counted.lock(rt).ask(caller, call)
     }

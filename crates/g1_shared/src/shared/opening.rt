@@ -3,19 +3,21 @@ ghost use Rattle.std.specs.Prelude.{◌≡◌, ◌<◌, ◌≤◌};
 ghost use Rattle.g1_shared.specs.{ℕ, sum_by, slice_index_or, IfOk, IfErr, vec_len, vec_capacity};
 ghost use Rattle.g1_shared.specs.{All, capacity_of, IsNewTaker, made_of, stored_of, terms_of};
 ghost use Rattle.g1_shared.specs.{table_in, AreNewMutators, CallerState, IsNewCaller, AreNone};
-ghost use Rattle.g1_shared.specs.{LeadsTo, kept_terms, shared_terms, map, AreAll, AreAllCallers};
+ghost use Rattle.g1_shared.specs.{IsTold, kept_terms, shared_terms, map, AreAll, AreAllCallers};
+ghost use Rattle.g1_shared.specs.{made_by, stored_by, recorded, []};
 
 use crate::caller::{Caller, CallerCounts};
 use crate::counted::Counted;
-use crate::ledgers::Terms;
+use crate::ledgers::{Ledgers, Terms};
 use crate::lock::Lock;
 use crate::shared::Shared;
 use g1_core::Config;
 use g1_history::{Book, Keeps};
 use g1_layout::NoMemory;
 use g1_log::{Line, Taker};
+use g1_records::Records;
 use g1_steps::{Mutator, open_line};
-use std::sync::ledger::{Blank, Ledger, Share};
+use std::sync::ledger::{Ledger, Share};
 
 impl<M: Terms, S: Ledger, H: Keeps> Shared<M, S, H> {
     /// Puts a book without entries under a lock, with a queue of completed buffers beside it, and
@@ -24,21 +26,19 @@ impl<M: Terms, S: Ledger, H: Keeps> Shared<M, S, H> {
     /// There are at least as many callers as the book has mutators, and at most 12, numbered from
     /// 0. Caller `k` below the mutators is mutator `k`, with an empty log and sender `k`; only
     /// these store and flush. Each caller has a taker, and all ends of the queue are theirs. The
-    /// queue holds as many buffers as the settings' limit. The ledgers are cut into one part for
-    /// each caller.
+    /// queue holds as many buffers as the settings' limit. The ledgers have one part for each
+    /// caller, and each caller's record is empty.
     ///
     /// If a growth was refused, the book is returned as it was, and the ledgers are given up.
     #[tactic(auto, using(crate::proofs::none_counted, crate::proofs::kept_mutators))]
     pub fn open(
-        made: Blank,
-        stored: Blank,
+        ledgers: Ledgers,
         book: Book<H>,
         callers: u32,
     ) -> Result<(Shared<M, S, H>, Vec<Caller<M, S>>), (Book<H>, NoMemory)>
-        requires ledgers { ((made.name ≡ M.name) × (made.parts ≡ M.parts)
-            × (made.parts ≡ callers)) × (stored.name ≡ S.name) × (stored.parts ≡ S.parts)
-            × (stored.parts ≡ callers) }
-        requires terms { shared_terms book ≡ M.terms }
+        requires ledgers { (ledgers.made ≡ M.name) × (ledgers.stored ≡ S.name) }
+        requires parts { (ledgers.parts ≡ callers) × (M.parts ≡ callers) × (S.parts ≡ callers) }
+        requires terms { shared_terms book ledgers.records ≡ M.terms }
         requires empty { AreNone H.KEEPS book }
         requires callers { (M.terms.mutators ≤ callers) × (callers ≤ 12) }
         ensures callers { IfOk result (λ opened. vec_len opened.1 ≡ callers) }
@@ -60,11 +60,22 @@ impl<M: Terms, S: Ledger, H: Keeps> Shared<M, S, H> {
         let Ok((line, mutators, takers)) = open_line(alloc, config, mutators, callers) else {
             return Err((book, NoMemory));
         };
+        let Ledgers {
+            made,
+            stored,
+            mut records,
+        } = ledgers;
         let (made, made_share) = made.open::<M>();
         let (stored, stored_share) = stored.open::<S>();
         let shares = (made_share, stored_share);
-        let all = callers_of(&line, &config, callers, shares, (mutators, takers), room);
-        let counted = Counted { book, made, stored };
+        let ends = (mutators, takers);
+        let all = callers_of(&line, &config, callers, shares, &mut records, ends, room);
+        let counted = Counted {
+            book,
+            made,
+            stored,
+            records,
+        };
         let shared = Shared {
             counted: Lock::new(counted, !H::KEEPS),
             line,
@@ -77,33 +88,25 @@ impl<M: Terms, S: Ledger, H: Keeps> Shared<M, S, H> {
     /// Ends the sharing and returns the book, once all callers are handed in (docs/rules.md, The
     /// history under a lock).
     ///
-    /// The book has as many entries as its callers have made, and as many stores among them as they
-    /// have stored; and a permitted run with as many calls and stores leads from the machine that
-    /// was shared to the one that comes back. What is left in logs and queue is given up: each card
-    /// there is pending by its mark, unless it was refined meanwhile. No memory is taken.
+    /// What the callers made was a permitted run, which led from the machine that was shared to the
+    /// one that comes back (`IsTold`): each caller's record is just the entries of this run with
+    /// its number, in their order, each with the reply that it was given, and all entries are of
+    /// these callers. Where the book keeps its entries, they are this run. What is left in logs and
+    /// queue is given up: each card there is pending by its mark, unless it was refined meanwhile.
+    /// No memory is taken.
     pub fn finish(self, callers: Vec<Caller<M, S>>) -> Book<H>
         requires some { 0 < vec_len callers }
         requires made { vec_len callers ≡ M.parts }
         requires stored { vec_len callers ≡ S.parts }
         ensures made { made_of H.KEEPS result.entries result.totals
-            ≡ sum_by (λ caller. caller.counts.made) callers.items }
+            ≡ sum_by (λ caller. made_by caller.counts) callers.items }
         ensures stored { stored_of H.KEEPS result.entries result.totals
-            ≡ sum_by (λ caller. caller.counts.stored) callers.items }
+            ≡ sum_by (λ caller. stored_by caller.counts) callers.items }
         ensures terms { terms_of result ≡ kept_terms M.terms }
-        ensures run { LeadsTo M.terms.began.state.table
-            (sum_by (λ caller. caller.counts.made) callers.items)
-            (sum_by (λ caller. caller.counts.stored) callers.items) (table_in result) }
+        ensures told { IsTold H.KEEPS M.terms callers.items result }
     {
         let Shared { counted, .. } = self;
-        let mut callers = callers;
-        let last = callers.take_last();
-        let (mut made, mut stored) = last.into_shares();
-        while let Some(caller) = callers.pop() {
-            let (its_made, its_stored) = caller.into_shares();
-            made.merge(its_made);
-            stored.merge(its_stored);
-        }
-        counted.into_inner().audited(&mut made, &mut stored)
+        counted.into_inner().end(callers)
     }
 }
 
@@ -115,6 +118,7 @@ fn callers_of<M: Terms, S: Ledger>(
     config: &Config,
     count: u32,
     shares: (Share<M>, Share<S>),
+    records: &mut Records,
     ends: (Vec<Mutator>, Vec<Taker>),
     room: Vec<Caller<M, S>>,
 ) -> Vec<Caller<M, S>>
@@ -125,7 +129,9 @@ fn callers_of<M: Terms, S: Ledger>(
     requires takers { (vec_len ends.1 ≡ count) × All (IsNewTaker line.now) ends.1.items }
     requires few { M.terms.mutators ≤ count }
     requires all { AreAll (map (λ m. m.sender) ends.0.items) ends.1.items }
+    requires records { records.old ≡ recorded M.terms.records [] 0 }
     requires room { (vec_len room ≡ 0) × (count ≤ vec_capacity room) }
+    ensures records { (records.new.table ≡ M.terms.records) × (records.new.entries ≡ []) }
     ensures len { vec_len result ≡ count }
     ensures all { AreAllCallers result.items }
     ensures each { (k : ℕ) (d : CallerState) → k < count
@@ -136,7 +142,8 @@ fn callers_of<M: Terms, S: Ledger>(
     let (mutators, mut takers) = ends;
     let mut mutators = mutators.into_iter();
     for number in 0..count {
-        let counts = CallerCounts::new(number, made.split_off(1, 0), stored.split_off(1, 0));
+        let shares = (made.split_off(1, 0), stored.split_off(1, 0));
+        let counts = CallerCounts::new(number, shares.0, shares.1, records.caller());
         let mutator = mutators.next();
         let taker = takers.take_last();
         all.push_reserved(Caller {

@@ -1,7 +1,7 @@
 //! The steps of a caller over the locked book, and the pause.
 ghost use Rattle.std.specs.Prelude.{◌≡◌, ◌<◌, ◌≤◌};
 ghost use Rattle.g1_shared.specs.{ℕ, length, IfOk, OnErr, IfSome, All, slice_index_or, true, false};
-ghost use Rattle.g1_shared.specs.{slot_count, card_of, capacity_of, Empties, IsKindAt};
+ghost use Rattle.g1_shared.specs.{slot_count, capacity_of, Empties, IsKindAt};
 ghost use Rattle.g1_shared.specs.{CallerState, caller_mark, IsCallerOf, taken_list, StoresBy};
 ghost use Rattle.g1_shared.specs.{FlushesBy, RefinesBy, WorksBy, IsCallerAtPause};
 
@@ -35,10 +35,9 @@ impl<M: Terms, S: Ledger, H: Keeps> Shared<M, S, H> {
         requires target { IfSome target (λ place. place < slot_count M.terms.layout) }
         requires mine { IsCallerOf self.now caller.old }
         ensures mark { caller_mark caller.new ≡ caller_mark caller.old }
+        ensures stored { StoresBy M.terms.layout self.now caller.old slot target result
+            caller.new }
         ensures kind { IfOk result (λ reply. IsKindAt M.terms.layout slot target reply.kind) }
-        ensures stored { IfOk result (λ reply.
-            StoresBy M.terms.layout self.now caller.old
-            (card_of M.terms.layout slot) reply caller.new) }
         ensures err { OnErr result (caller.new ≡ caller.old) }
     {
         let mutator = caller.mutator.as_mut().unwrap();

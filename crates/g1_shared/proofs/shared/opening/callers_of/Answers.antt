@@ -24,6 +24,7 @@ loop-number-preserved g c =
       next.1,
       rights_kept _ _ _ _ _ _ _ _ c.push_reserved.ensures.items c.next-mutator.ensures.items c.take_last-taker.ensures.items was.10,
       each_more (IsNewCaller c.args.line.now c.args.config.now.log g.M.Terms.terms.mutators) _ _ _ c.loop-number.number c.push_reserved.ensures.items len was.11 new,
+      search rules,
     )
 
 pub returns-clause-all : goal.returns-clause-all
