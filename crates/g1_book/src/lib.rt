@@ -9,7 +9,7 @@
 #![tactic(auto)]
 
 pub use g1_history::{Book, Call, Entry, Keeps, Kept, Refusal, Reply, Tallied};
-pub use g1_shared::{Caller, Counted, Shared, SharedCore, SharedDesk, Terms};
+pub use g1_shared::{Caller, Counted, Ledgers, Shared, SharedCore, SharedDesk, Terms};
 pub use g1_steps::{
     Calls, Desk, FlushReply, Job, LentBook, LocalDesk, Mutator, NotStarted, Outcome, Script, Step,
     empty_line, mutate, open_line, refine, refiner, run_crew, stand_still, work,
