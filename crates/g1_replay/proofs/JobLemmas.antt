@@ -1,100 +1,131 @@
 -- What the jobs of a crew came to, by their outcomes and by the callers that are left.
-use Rattle.std.specs.Prelude.{◌≡◌, ◌+◌, ◌<◌, ◌≤◌, ◌∷◌}
-use Rattle.g1_replay.specs.{ℕ, zero, suc, List, [], length, map, drop, drop-cons, length-drop, add-zero, zero-add, option_or, Mutate, Refine, asks_of, refusal_in, stores_in, cond, get_or, refl, sym, subst, ap, ◌∙◌, arith, Option, Some, None, Result, Ok, Err, count_by, sum_by, All, AllZip, get_or-map, length-map, length_all_zip, sum_by-cons, Refusal, Ask, asks_in, is_store_ask, JobRan, Ran, Script, Step, Job, CallerCounts, CallerState, IsScriptAt, IsScriptFor, AreScripts, Options, Command, first_refusal, JobEnd, asked_by, stored_by, HasEntered, HasCome, most_for}
+use Rattle.std.specs.Prelude.{◌≡◌, ◌+◌, ◌<◌, ◌≤◌, ◌∷◌, ◌++◌}
+use Rattle.g1_replay.specs.{ℕ, zero, suc, List, [], length, map, drop, drop-cons, length-drop, add-zero, zero-add, option_or, Mutate, Refine, asks_of, refusal_in, stores_in, cond, get_or, refl, sym, subst, ap, ◌∙◌, arith, Option, Some, None, Result, Ok, Err, count_by, sum_by, All, AllZip, get_or-map, length-map, length_all_zip, sum_by-cons, Refusal, Ask, asks_in, is_store_ask, JobRan, Ran, Script, Step, Job, CallerCounts, CallerState, IsScriptAt, IsScriptFor, AreScripts, Options, Command, first_refusal, JobEnd, asked_by, stored_by, made_by, stores_asked, Entry, AreMadeBy, Shape, entries_made, is_store, HasEntered, HasCome, most_for}
 use Rattle.std.specs.Prelude.{replicate}
 use Rattle.std.proofs.lemmas.List.{nil_from_length}
+use Rattle.g1_shared.specs.Callers.{CallerMark}
+use Rattle.g1_shared.specs.Prelude.{entries_of}
 use Rattle.g1_shared.specs.Did.{DeskDid, CallerDid}
+use Rattle.std.proofs.lemmas.List.Elements.{All-head, All-tail}
 use Rattle.g1_steps.specs.Ask.{AskWork}
 
 -- calls at a desk of a shared book
-abbrev DidAt : {X : Type 0} → (X → ℕ) → (X → CallerState) → X → List Ask → X → Type 0
-DidAt limit stood s asks t = DeskDid (limit s) (stood s) asks (limit t) (stood t)
+abbrev DidAt : {X : Type 0} → Shape → (X → ℕ) → (X → CallerState) → X → List Ask → X → Type 0
+DidAt layout limit stood s asks t = DeskDid layout (limit s) (stood s) asks (limit t) (stood t)
 
--- a job as it came back, with how many entries its caller counts
+-- a job as it came back, with the entries that its caller made
 abbrev end_of : {X : Type 0} → (X → CallerState) → Job X → JobEnd
-end_of stood job = record { script = job.script; outcome = job.outcome; made = (stood job.desk).counts.made }
+end_of stood job = record { script = job.script; outcome = job.outcome; did = (stood job.desk).counts.did }
 
-did_by : {X : Type 0} (limit : X → ℕ) (stood : X → CallerState) (script : Script) (outcome : Option (Result ℕ (ℕ × Refusal))) (d e : X) → Ran (DidAt limit stood) (asks_in script) d outcome e
-    → CallerDid (limit d) (stood d) (asked_by script outcome) (stood e)
-did_by limit stood script (Some (Ok made)) d e h = h.1.1
-did_by limit stood script (Some (Err refused)) d e h = h.1.1
-did_by limit stood script None d e h = absurd h
+did_by : {X : Type 0} (layout : Shape) (limit : X → ℕ) (stood : X → CallerState) (script : Script) (outcome : Option (Result ℕ (ℕ × Refusal))) (d e : X) → Ran (DidAt layout limit stood) (asks_in script) d outcome e
+    → CallerDid layout (limit d) (stood d) (asked_by script outcome) (stood e)
+did_by layout limit stood script (Some (Ok made)) d e h = h.1.1
+did_by layout limit stood script (Some (Err refused)) d e h = h.1.1
+did_by layout limit stood script None d e h = absurd h
 
 -- each caller has as many stores more as its job asked for
-all_store : {X : Type 0} (limit : X → ℕ) (stood : X → CallerState) (begun done : List (Job X)) → AllZip (JobRan (DidAt limit stood)) begun done
-    → sum_by (λ (c : CallerState). c.counts.stored) (map (λ (j : Job X). stood j.desk) done) ≡ sum_by (λ (c : CallerState). c.counts.stored) (map (λ (j : Job X). stood j.desk) begun) + sum_by stored_by (map (end_of stood) done)
-all_store limit stood [] [] h = refl
-all_store {X} limit stood (a ∷ begun) (b ∷ done) h =
-    let stored : CallerState → ℕ = λ c. c.counts.stored in
+all_store : {X : Type 0} (layout : Shape) (limit : X → ℕ) (stood : X → CallerState) (begun done : List (Job X)) → AllZip (JobRan (DidAt layout limit stood)) begun done
+    → sum_by (λ (c : CallerState). stored_by c.counts) (map (λ (j : Job X). stood j.desk) done) ≡ sum_by (λ (c : CallerState). stored_by c.counts) (map (λ (j : Job X). stood j.desk) begun) + sum_by stores_asked (map (end_of stood) done)
+all_store layout limit stood [] [] h = refl
+all_store {X} layout limit stood (a ∷ begun) (b ∷ done) h =
+    let stored : CallerState → ℕ = λ c. stored_by c.counts in
     let stand : Job X → CallerState = λ j. stood j.desk in
-    let made : stored (stand b) ≡ stored (stand a) + count_by is_store_ask (asked_by a.script b.outcome) = (did_by limit stood a.script b.outcome a.desk b.desk h.0.1).stored in
-    let same : stored_by (end_of stood b) ≡ count_by is_store_ask (asked_by a.script b.outcome) = ap (λ s. count_by is_store_ask (asked_by s b.outcome)) h.0.0 in
-    let rest : sum_by stored (map stand done) ≡ sum_by stored (map stand begun) + sum_by stored_by (map (end_of stood) done) = all_store limit stood begun done h.1 in
-    omega (arith, made, same, rest, sum_by-cons stored (stand b) (map stand done), sum_by-cons stored (stand a) (map stand begun), sum_by-cons stored_by (end_of stood b) (map (end_of stood) done))
-all_store limit stood begun done h = absurd h
+    let made : stored (stand b) ≡ stored (stand a) + count_by is_store_ask (asked_by a.script b.outcome) = (did_by layout limit stood a.script b.outcome a.desk b.desk h.0.1).stored in
+    let same : stores_asked (end_of stood b) ≡ count_by is_store_ask (asked_by a.script b.outcome) = ap (λ s. count_by is_store_ask (asked_by s b.outcome)) h.0.0 in
+    let rest : sum_by stored (map stand done) ≡ sum_by stored (map stand begun) + sum_by stores_asked (map (end_of stood) done) = all_store layout limit stood begun done h.1 in
+    omega (arith, made, same, rest, sum_by-cons stored (stand b) (map stand done), sum_by-cons stored (stand a) (map stand begun), sum_by-cons stores_asked (end_of stood b) (map (end_of stood) done))
+all_store layout limit stood begun done h = absurd h
 
-none_stored : (callers : List CallerState) → ((k : ℕ) (d : CallerState) → k < length callers → (get_or callers k d).counts.stored ≡ 0) → sum_by (λ (c : CallerState). c.counts.stored) callers ≡ 0
+none_stored : (callers : List CallerState) → ((k : ℕ) (d : CallerState) → k < length callers → stored_by (get_or callers k d).counts ≡ 0) → sum_by (λ (c : CallerState). stored_by c.counts) callers ≡ 0
 none_stored [] none = refl
 none_stored (c ∷ callers) none =
-    let first : c.counts.stored ≡ 0 = none 0 c (omega arith) in
-    let rest : sum_by (λ (c : CallerState). c.counts.stored) callers ≡ 0 = none_stored callers (λ k d lt. none (suc k) d (omega (arith, lt))) in
-    omega (arith, first, rest, sum_by-cons (λ (c : CallerState). c.counts.stored) c callers)
+    let first : stored_by c.counts ≡ 0 = none 0 c (omega arith) in
+    let rest : sum_by (λ (c : CallerState). stored_by c.counts) callers ≡ 0 = none_stored callers (λ k d lt. none (suc k) d (omega (arith, lt))) in
+    omega (arith, first, rest, sum_by-cons (λ (c : CallerState). stored_by c.counts) c callers)
 
 -- what holds of each job that came back, by what held when it began
-each_end : {X : Type 0} (limit : X → ℕ) (stood : X → CallerState) (Q : ℕ → Job X → Type 0) (P : ℕ → JobEnd → Type 0) → ((k : ℕ) (b e : Job X) → Q k b → JobRan (DidAt limit stood) b e → P k (end_of stood e))
-    → (begun done : List (Job X)) → AllZip (JobRan (DidAt limit stood)) begun done → ((k : ℕ) (d : Job X) → k < length begun → Q k (get_or begun k d))
+each_end : {X : Type 0} (stood : X → CallerState) (R : Job X → Job X → Type 0) (Q : ℕ → Job X → Type 0) (P : ℕ → JobEnd → Type 0) → ((k : ℕ) (b e : Job X) → Q k b → R b e → P k (end_of stood e))
+    → (begun done : List (Job X)) → AllZip R begun done → ((k : ℕ) (d : Job X) → k < length begun → Q k (get_or begun k d))
     → (k : ℕ) (d : JobEnd) → k < length (map (end_of stood) done) → P k (get_or (map (end_of stood) done) k d)
-each_end limit stood Q P one [] [] h all k d lt = absurd (omega (arith, lt))
-each_end limit stood Q P one [] (b ∷ done) h all k d lt = absurd h
-each_end limit stood Q P one (a ∷ begun) [] h all k d lt = absurd h
-each_end limit stood Q P one (a ∷ begun) (b ∷ done) h all zero d lt = one 0 a b (all 0 a (omega arith)) h.0
-each_end limit stood Q P one (a ∷ begun) (b ∷ done) h all (suc k) d lt =
-    each_end limit stood (λ i. Q (suc i)) (λ i. P (suc i)) (λ i. one (suc i)) begun done h.1 (λ i e less. all (suc i) e (omega (arith, less))) k d (omega (arith, lt))
+each_end stood R Q P one [] [] h all k d lt = absurd (omega (arith, lt))
+each_end stood R Q P one [] (b ∷ done) h all k d lt = absurd h
+each_end stood R Q P one (a ∷ begun) [] h all k d lt = absurd h
+each_end stood R Q P one (a ∷ begun) (b ∷ done) h all zero d lt = one 0 a b (all 0 a (omega arith)) h.0
+each_end stood R Q P one (a ∷ begun) (b ∷ done) h all (suc k) d lt =
+    each_end stood R (λ i. Q (suc i)) (λ i. P (suc i)) (λ i. one (suc i)) begun done h.1 (λ i e less. all (suc i) e (omega (arith, less))) k d (omega (arith, lt))
 
--- a caller that had made no call counts what its job made
-one_entered : {X : Type 0} (limit : X → ℕ) (stood : X → CallerState) (most : ℕ) (b e : Job X) → (limit b.desk ≡ most) × ((stood b.desk).counts.made ≡ 0) → JobRan (DidAt limit stood) b e → HasEntered most (end_of stood e)
-one_entered limit stood most b e begun ran =
-    let did : CallerDid (limit b.desk) (stood b.desk) (asked_by e.script e.outcome) (stood e.desk) =
-    subst (λ (s : Script). CallerDid (limit b.desk) (stood b.desk) (asked_by s e.outcome) (stood e.desk)) (sym ran.0) (did_by limit stood b.script e.outcome b.desk e.desk ran.1) in
-    let high : (stood e.desk).counts.made ≤ (stood b.desk).counts.made + sum_by (most_for most) (asked_by e.script e.outcome) =
-    subst (λ (n : ℕ). (stood e.desk).counts.made ≤ (stood b.desk).counts.made + sum_by (most_for n) (asked_by e.script e.outcome)) begun.0 did.most in
-    (omega (arith, did.least, begun.1), omega (arith, high, begun.1))
+-- jobs that came back, with what holds of their callers
+zip_with : {X : Type 0} (stood : X → CallerState) (R : Job X → Job X → Type 0) (P : CallerState → Type 0) (begun done : List (Job X)) → AllZip R begun done → All P (map (λ (j : Job X). stood j.desk) done) → AllZip (λ b e. R b e × P (stood e.desk)) begun done
+zip_with stood R P [] [] h all = tt
+zip_with stood R P [] (b ∷ done) h all = absurd h
+zip_with stood R P (a ∷ begun) [] h all = absurd h
+zip_with {X} stood R P (a ∷ begun) (b ∷ done) h all =
+    let rest = map (λ (j : Job X). stood j.desk) done in
+    ((h.0, All-head P (stood b.desk) rest all), zip_with stood R P begun done h.1 (All-tail P (stood b.desk) rest all))
 
-sum_made : {X : Type 0} (stood : X → CallerState) (done : List (Job X)) → sum_by (λ (c : CallerState). c.counts.made) (map (λ (j : Job X). stood j.desk) done) ≡ sum_by (λ (e : JobEnd). e.made) (map (end_of stood) done)
+ran_by : {X : Type 0} (layout : Shape) (limit : X → ℕ) (stood : X → CallerState) (b e : Job X) → JobRan (DidAt layout limit stood) b e → CallerDid layout (limit b.desk) (stood b.desk) (asked_by e.script e.outcome) (stood e.desk)
+ran_by layout limit stood b e ran =
+    subst (λ (s : Script). CallerDid layout (limit b.desk) (stood b.desk) (asked_by s e.outcome) (stood e.desk)) (sym ran.0) (did_by layout limit stood b.script e.outcome b.desk e.desk ran.1)
+
+-- a caller that had made no call made what serves its job
+one_entered : {X : Type 0} (layout : Shape) (limit : X → ℕ) (stood : X → CallerState) (k most : ℕ) (b e : Job X) → (limit b.desk ≡ most) × ((stood b.desk).counts ≡ record { number = k; did = [] }) → JobRan (DidAt layout limit stood) b e → HasEntered k most (end_of stood e)
+one_entered layout limit stood k most b e begun ran =
+    let did = ran_by layout limit stood b e ran in
+    let none : made_by (stood b.desk).counts ≡ 0 = ap made_by begun.1 in
+    let high : made_by (stood e.desk).counts ≤ made_by (stood b.desk).counts + sum_by (most_for most) (asked_by e.script e.outcome) =
+    subst (λ (n : ℕ). made_by (stood e.desk).counts ≤ made_by (stood b.desk).counts + sum_by (most_for n) (asked_by e.script e.outcome)) begun.0 did.most in
+    record {
+      calls = did.served.calls;
+      did = ap (λ (t : CallerCounts). t.did) did.served.made.0 ∙ ap (λ (t : CallerCounts). t.did ++ entries_made t.number did.served.calls) begun.1;
+      serves = did.served.serves;
+      most = omega (arith, high, none);
+    }
+
+-- and its record is that of its number
+one_own : {X : Type 0} (layout : Shape) (limit : X → ℕ) (stood : X → CallerState) (entries : List Entry) (k : ℕ) (b e : Job X) → (stood b.desk).counts ≡ record { number = k; did = [] } → JobRan (DidAt layout limit stood) b e × ((stood e.desk).counts.did ≡ entries_of (stood e.desk).counts.number entries) → (end_of stood e).did ≡ entries_of k entries
+one_own layout limit stood entries k b e begun ran =
+    let did = ran_by layout limit stood b e ran.0 in
+    ran.1 ∙ ap (λ n. entries_of n entries) (ap (λ (m : CallerMark). m.number) did.mark ∙ ap (λ (t : CallerCounts). t.number) begun)
+
+sum_made : {X : Type 0} (stood : X → CallerState) (done : List (Job X)) → sum_by (λ (c : CallerState). made_by c.counts) (map (λ (j : Job X). stood j.desk) done) ≡ sum_by (λ (e : JobEnd). length e.did) (map (end_of stood) done)
 sum_made stood [] = refl
 sum_made {X} stood (b ∷ done) =
     let rest = sum_made stood done in
-    omega (arith, rest, sum_by-cons (λ (c : CallerState). c.counts.made) (stood b.desk) (map (λ (j : Job X). stood j.desk) done), sum_by-cons (λ (e : JobEnd). e.made) (end_of stood b) (map (end_of stood) done))
+    omega (arith, rest, sum_by-cons (λ (c : CallerState). made_by c.counts) (stood b.desk) (map (λ (j : Job X). stood j.desk) done), sum_by-cons (λ (e : JobEnd). length e.did) (end_of stood b) (map (end_of stood) done))
 
 outcomes_of : {X : Type 0} (stood : X → CallerState) (done : List (Job X)) → map (λ (e : JobEnd). e.outcome) (map (end_of stood) done) ≡ map (λ (j : Job X). j.outcome) done
 outcomes_of stood [] = refl
 outcomes_of stood (b ∷ done) = ap (λ os. b.outcome ∷ os) (outcomes_of stood done)
 
 -- The jobs of callers that have made no call came back.
-pub has_come : {X : Type 0} (limit : X → ℕ) (stood : X → CallerState) (At : ℕ → Script → Type 0) (count most : ℕ) (refused : Option Refusal) (stored made : ℕ) (callers after : List CallerState) (begun done : List (Job X))
-    → AllZip (JobRan (DidAt limit stood)) begun done → All (λ (j : Job X). At (stood j.desk).counts.number j.script) begun → All (λ (j : Job X). limit j.desk ≡ most) begun
+pub has_come : {X : Type 0} (layout : Shape) (limit : X → ℕ) (stood : X → CallerState) (At : ℕ → Script → Type 0) (count most : ℕ) (refused : Option Refusal) (entries : List Entry) (callers after : List CallerState) (begun done : List (Job X))
+    → AllZip (JobRan (DidAt layout limit stood)) begun done → All (λ (j : Job X). At (stood j.desk).counts.number j.script) begun → All (λ (j : Job X). limit j.desk ≡ most) begun
     → map (λ (j : Job X). stood j.desk) begun ≡ callers → length callers ≡ count
-    → ((k : ℕ) (d : CallerState) → k < length callers → (get_or callers k d).counts ≡ record { number = k; made = 0; stored = 0 })
+    → ((k : ℕ) (d : CallerState) → k < length callers → (get_or callers k d).counts ≡ record { number = k; did = [] })
     → refused ≡ first_refusal (map (λ (j : Job X). j.outcome) done) → after ≡ map (λ (j : Job X). stood j.desk) done
-    → stored ≡ sum_by (λ (c : CallerState). c.counts.stored) after → made ≡ sum_by (λ (c : CallerState). c.counts.made) after → HasCome At count most refused stored made
-has_come {X} limit stood At count most refused stored made callers after begun done ran scripts room at many new first left are entered =
+    → AreMadeBy after entries → HasCome At count most refused entries
+has_come {X} layout limit stood At count most refused entries callers after begun done ran scripts room at many new first left made =
     let stand : Job X → CallerState = λ j. stood j.desk in
+    let R : Job X → Job X → Type 0 = JobRan (DidAt layout limit stood) in
     let n = length-map begun stand in
-    let zip = length_all_zip (JobRan (DidAt limit stood)) begun done ran in
+    let zip = length_all_zip R begun done ran in
     let called = ap (λ (l : List CallerState). length l) at in
-    let none = none_stored callers (λ k d lt. ap (λ (t : CallerCounts). t.stored) (new k d lt)) in
-    let counts : (k : ℕ) (d : Job X) → k < length begun → (stand (get_or begun k d)).counts ≡ record { number = k; made = 0; stored = 0 } =
+    let none = none_stored callers (λ k d lt. ap stored_by (new k d lt)) in
+    let counts : (k : ℕ) (d : Job X) → k < length begun → (stand (get_or begun k d)).counts ≡ record { number = k; did = [] } =
     λ k d lt. ap (λ (c : CallerState). c.counts) (sym (get_or-map stand begun k d (stand d) lt) ∙ ap (λ (l : List CallerState). get_or l k (stand d)) at) ∙ new k (stand d) (omega (arith, lt, n, called)) in
+    let has : All (λ (c : CallerState). c.counts.did ≡ entries_of c.counts.number entries) (map stand done) = subst (All (λ (c : CallerState). c.counts.did ≡ entries_of c.counts.number entries)) left made.each in
     record {
       jobs = map (end_of stood) done;
       many = omega (arith, length-map done (end_of stood), zip, n, called, many);
-      scripts = each_end limit stood (λ k j. At k j.script) (λ k e. At k e.script) (λ k b e is go. subst (At k) (sym go.0) is) begun done ran
+      scripts = each_end stood R (λ k j. At k j.script) (λ k e. At k e.script) (λ k b e is go. subst (At k) (sym go.0) is) begun done ran
           (λ k d lt. subst (λ i. At i (get_or begun k d).script) (ap (λ (t : CallerCounts). t.number) (counts k d lt)) (scripts k d lt));
-      entered = each_end limit stood (λ k j. (limit j.desk ≡ most) × ((stood j.desk).counts.made ≡ 0)) (λ k e. HasEntered most e) (λ k b e is go. one_entered limit stood most b e is go) begun done ran
-          (λ k d lt. (room k d lt, ap (λ (t : CallerCounts). t.made) (counts k d lt)));
+      entered = each_end stood R (λ k j. (limit j.desk ≡ most) × ((stood j.desk).counts ≡ record { number = k; did = [] })) (λ k e. HasEntered k most e) (λ k b e is go. one_entered layout limit stood k most b e is go) begun done ran
+          (λ k d lt. (room k d lt, counts k d lt));
+      own = each_end stood (λ b e. R b e × ((stood e.desk).counts.did ≡ entries_of (stood e.desk).counts.number entries)) (λ k j. (stood j.desk).counts ≡ record { number = k; did = [] }) (λ k e. e.did ≡ entries_of k entries)
+          (λ k b e is go. one_own layout limit stood entries k b e is go) begun done (zip_with stood R (λ (c : CallerState). c.counts.did ≡ entries_of c.counts.number entries) begun done ran has) counts;
       first = first ∙ ap first_refusal (sym (outcomes_of stood done));
-      stored = omega (arith, are, ap (sum_by (λ (c : CallerState). c.counts.stored)) left, all_store limit stood begun done ran, ap (sum_by (λ (c : CallerState). c.counts.stored)) at, none);
-      made_are = entered ∙ ap (sum_by (λ (c : CallerState). c.counts.made)) left ∙ sum_made stood done;
+      stored = omega (arith, made.stores, ap (sum_by (λ (c : CallerState). stored_by c.counts)) left, all_store layout limit stood begun done ran, ap (sum_by (λ (c : CallerState). stored_by c.counts)) at, none);
+      all = made.all ∙ ap (sum_by (λ (c : CallerState). made_by c.counts)) left ∙ sum_made stood done;
     }
 
 pub none_first : (a b : Option Refusal) → option_or a b ≡ None → (a ≡ None) × (b ≡ None)
@@ -135,20 +166,20 @@ module _ {E : Type 0} (steps : E → List Step) (rounds : ℕ) (asked : List E) 
 
   -- what the jobs from a place on have stored, if none was refused
   jobs_stored : (j : ℕ) (jobs : List JobEnd) → first_refusal (map (λ job. job.outcome) jobs) ≡ None
-      → ((k : ℕ) (d : JobEnd) → k < length jobs → IsScriptAt steps rounds asked (j + k) (get_or jobs k d).script) → length asked ≤ j + length jobs → sum_by stored_by jobs ≡ sum_by stores (drop j asked)
+      → ((k : ℕ) (d : JobEnd) → k < length jobs → IsScriptAt steps rounds asked (j + k) (get_or jobs k d).script) → length asked ≤ j + length jobs → sum_by stores_asked jobs ≡ sum_by stores (drop j asked)
   jobs_stored j [] none each le = sym (none_behind j (omega (arith, le)))
   jobs_stored j (x ∷ xs) none each le =
       let first = none_first (refusal_in x.outcome) (first_refusal (map (λ job. job.outcome) xs)) none in
       let script : IsScriptAt steps rounds asked j x.script = subst (λ n. IsScriptAt steps rounds asked n x.script) (add-zero j) (each 0 x (omega arith)) in
-      let here : stored_by x ≡ count_by is_store_ask (asks_in x.script) = ap (λ (asks : List Ask). count_by is_store_ask asks) (asked_all x.script x.outcome first.0) in
+      let here : stores_asked x ≡ count_by is_store_ask (asks_in x.script) = ap (λ (asks : List Ask). count_by is_store_ask asks) (asked_all x.script x.outcome first.0) in
       let one = one_stored j x.script script in
-      let rest : sum_by stored_by xs ≡ sum_by stores (drop (suc j) asked) =
+      let rest : sum_by stores_asked xs ≡ sum_by stores (drop (suc j) asked) =
       jobs_stored (suc j) xs first.1 (λ k d lt. let next : j + suc k ≡ suc j + k = omega arith in subst (λ n. IsScriptAt steps rounds asked n (get_or xs k d).script) next (each (suc k) d (omega (arith, lt)))) (omega (arith, le)) in
-      omega (arith, here, one, rest, sum_by-cons stored_by x xs)
+      omega (arith, here, one, rest, sum_by-cons stores_asked x xs)
 
   -- if no job was refused, as many stores were entered as the scripts have
-  pub all_stored : (count most : ℕ) (refused : Option Refusal) (stored made : ℕ) → HasCome (IsScriptAt steps rounds asked) count most refused stored made → refused ≡ None → length asked ≤ count → stored ≡ sum_by stores asked
-  all_stored count most refused stored made come none le =
+  pub all_stored : (count most : ℕ) (refused : Option Refusal) (entries : List Entry) → HasCome (IsScriptAt steps rounds asked) count most refused entries → refused ≡ None → length asked ≤ count → count_by is_store entries ≡ sum_by stores asked
+  all_stored count most refused entries come none le =
       come.stored ∙ jobs_stored 0 come.jobs (sym come.first ∙ none) (λ k d lt. subst (λ n. IsScriptAt steps rounds asked n (get_or come.jobs k d).script) (sym (zero-add k)) (come.scripts k d lt)) (omega (arith, come.many, le))
 
 -- the script of a caller, by the commands of the trace
@@ -157,14 +188,15 @@ script_for steps o asked cs k (Mutate made) are many h =
     (omega (arith, h.1, many), h.3 ∙ sym (ap steps (h.2 h.0)) ∙ sym (get_or-map steps asked k h.0 [] h.1) ∙ are.each k h.1)
 script_for steps o asked cs k (Refine made) are many h = (omega (arith, h.0, many), h.1)
 
-pub come_for : {E : Type 0} (steps : E → List Step) (o : Options) (asked : List E) (cs : List Command) (count most : ℕ) (refused : Option Refusal) (stored made : ℕ) → AreScripts steps asked cs → length asked ≡ o.mutators
-    → HasCome (IsScriptAt steps o.rounds asked) count most refused stored made → HasCome (IsScriptFor o cs) count most refused stored made
-come_for steps o asked cs count most refused stored made are many h = record {
+pub come_for : {E : Type 0} (steps : E → List Step) (o : Options) (asked : List E) (cs : List Command) (count most : ℕ) (refused : Option Refusal) (entries : List Entry) → AreScripts steps asked cs → length asked ≡ o.mutators
+    → HasCome (IsScriptAt steps o.rounds asked) count most refused entries → HasCome (IsScriptFor o cs) count most refused entries
+come_for steps o asked cs count most refused entries are many h = record {
   jobs = h.jobs;
   many = h.many;
   scripts = λ k d lt. script_for steps o asked cs k (get_or h.jobs k d).script are many (h.scripts k d lt);
   entered = h.entered;
+  own = h.own;
   first = h.first;
   stored = h.stored;
-  made_are = h.made_are;
+  all = h.all;
 }

@@ -48,15 +48,15 @@ pub record CrewDrained (history : ℕ) (l : Shape) (refused : Option Refusal) (e
 abbrev pub IsUnrun : Result (Unit {0}) Stop → List Entry → List ℕ → Type 0
 IsUnrun r entries text = IsErrAnd r IsUnstarted × (entries ≡ []) × (text ≡ [])
 
--- The entries are those of the callers of a crew: their jobs came back from the scripts of these
--- commands, and they count just as many, and as many stores.
+-- The entries are those of the callers of a crew, whose jobs came back from the scripts of these
+-- commands: of each mutator just its stores, in their order, and refinements of its own help, and
+-- of each refinement thread refinements alone.
 abbrev pub AreOfCallers : Options → List Command → Option Refusal → List Entry → Type 0
 AreOfCallers o commands refused entries =
-    HasCome (IsScriptFor o commands) (o.mutators + o.refiners) o.config.limit refused
-    (count_by is_store entries) (length entries)
+    HasCome (IsScriptFor o commands) (o.mutators + o.refiners) o.config.limit refused entries
 
 -- The scripts of these commands were run, and came to entries of a permitted run, which drains of
--- the first regions end. There are as many entries before these drains as the callers count.
+-- the first regions end. What stands before these drains is what the callers made.
 pub record CrewRan (o : Options) (l : Shape) (commands : List Command)
     (r : Result (Unit {0}) Stop) (text : List ℕ) : Type 0 where
   pub refused : Option Refusal

@@ -79,16 +79,19 @@ pub use Rattle.g1_race_words.specs.Rule.{StoreHistory}
 pub use Rattle.g1_race_words.specs.Steps.{gains_store}
 pub use Rattle.g1_race_words.specs.declared.view.View.{View}
 pub use Rattle.g1_shared.specs.Callers.{CallerState, IsCallerOf}
-pub use Rattle.g1_shared.specs.Counts.{CallerCounts, kept_terms, shared_terms}
+pub use Rattle.g1_shared.specs.Callers.{AreMadeBy, IsTold}
+pub use Rattle.g1_shared.specs.Counts.{CallerCounts, kept_terms, made_by, shared_terms}
+pub use Rattle.g1_shared.specs.Counts.{stored_by}
 pub use Rattle.g1_shared.specs.Did.{most_for}
 pub use Rattle.g1_steps.proofs.StepLemmas.{grows_none, grows_then}
 pub use Rattle.g1_steps.specs.Ask.{Ask, AskFlush, asks_in, asks_of, AskStore, AskWork, is_store_ask}
 pub use Rattle.g1_steps.specs.Ask.{JobRan, Ran, ScriptFits, StepFits}
 pub use Rattle.g1_steps.specs.Lent.{Grows, IsBookCall}
-pub use Rattle.g1_steps.specs.Made.{AreCalls, CallMade, Refined, Stored}
+pub use Rattle.g1_steps.specs.Made.{AreCalls, CallMade, entries_made, Refined, Stored}
 pub use Rattle.g1_steps.specs.Opening.{AreNewMutators}
 pub use Rattle.g1_steps.specs.Rounds.{IsRound, IsWorkStep, replies_of, round_calls, round_size}
 pub use Rattle.g1_steps.specs.Rounds.{Turn}
+pub use Rattle.g1_steps.specs.Served.{HasServed, ServesAll, was_made}
 pub use Rattle.g1_steps.specs.Steps.{called, Empties, filled, flush_answer, Help, help_calls}
 pub use Rattle.g1_steps.specs.Steps.{IsFlushStep, IsRefineStep, IsStopped, IsStored, IsStoreStep}
 pub use Rattle.g1_steps.specs.Steps.{nothing_flushed, PutsBy, store_answer}

@@ -6,7 +6,10 @@ use Rattle.g1_replay.specs.Prelude.{subst, ap, ◌∙◌, append-nil, append_ass
 use Rattle.g1_replay.specs.Prelude.{add_assoc, add-zero, sum_by-append, sum_by, cond, filter_map}
 use Rattle.g1_replay.specs.Prelude.{option_or, Ask, asks_in, asks_of, is_store_ask, Step, Script}
 use Rattle.g1_replay.specs.Prelude.{Mutate, Refine, Refusal, Command, Store, Flush, Options}
-use Rattle.g1_replay.specs.Prelude.{most_for}
+use Rattle.g1_replay.specs.Prelude.{most_for, Entry, CallMade, entries_made, ServesAll, was_made}
+use Rattle.g1_replay.specs.Prelude.{is_store}
+use Rattle.g1_shared.specs.Prelude.{entries_of}
+use Rattle.std.specs.Prelude.{filter}
 use Rattle.g1_steps.specs.declared.crew.desk.Step.TheVariants as step
 
 -- the call that a command asks of a mutator, and of which
@@ -115,12 +118,12 @@ IsScriptFor o cs number (Mutate made) =
     (number < o.mutators) × (made.items ≡ filter_map (step_for number) cs)
 IsScriptFor o cs number (Refine made) = (o.mutators ≤ number) × (made ≡ o.rounds)
 
--- A job of a crew as it came back: what it was to do, its outcome, and how many entries its caller
--- has made.
+-- A job of a crew as it came back: what it was to do, its outcome, and the entries that its caller
+-- made, in order.
 pub record JobEnd : Type 0 where
   pub script : Script
   pub outcome : Option (Result ℕ (ℕ × Refusal))
-  pub made : ℕ
+  pub did : List Entry
 
 -- what it asked for: all of its script, or what stands before the call that was refused
 abbrev pub asked_by : Script → Option (Result ℕ (ℕ × Refusal)) → List Ask
@@ -128,26 +131,30 @@ asked_by script (Some (Err refused)) = take refused.0 (asks_in script)
 asked_by script outcome = asks_in script
 
 -- how many stores are among that
-abbrev pub stored_by : JobEnd → ℕ
-stored_by job = count_by is_store_ask (asked_by job.script job.outcome)
+abbrev pub stores_asked : JobEnd → ℕ
+stores_asked job = count_by is_store_ask (asked_by job.script job.outcome)
 
--- Its caller made an entry for each store, and no more than the calls can have, where a round makes
--- at most `limit`.
-abbrev pub HasEntered : ℕ → JobEnd → Type 0
-HasEntered limit job =
-    (stored_by job ≤ job.made)
-    × (job.made ≤ sum_by (most_for limit) (asked_by job.script job.outcome))
+-- The entries of the caller of this number are those of calls that serve just what its job asked
+-- for, in order: a store its own and that of a help, a flush that of a help, a round refinements,
+-- at most `limit` of them. Refused calls may stand among them.
+pub record HasEntered (number limit : ℕ) (job : JobEnd) : Type 0 where
+  pub calls : List CallMade
+  pub did : job.did ≡ entries_made number calls
+  pub serves : ServesAll (asked_by job.script job.outcome) (filter was_made calls)
+  pub most : length job.did ≤ sum_by (most_for limit) (asked_by job.script job.outcome)
 
--- The jobs of a crew came back, one a caller, in order. Each had the script of its caller,
--- `refused` is why the first of those that were refused was, and as many stores were entered as all
--- of them asked for, and as many entries made as their callers count.
+-- The jobs of a crew came back, one a caller, in order. Each had the script of its caller, and
+-- `refused` is why the first of those that were refused was. What each caller made are just the
+-- entries with its number, and all entries are of these callers.
 pub record HasCome (IsAt : ℕ → Script → Type 0) (callers limit : ℕ) (refused : Option Refusal)
-    (stores made : ℕ) : Type 0 where
+    (entries : List Entry) : Type 0 where
   pub jobs : List JobEnd
   pub many : length jobs ≡ callers
   pub scripts : (k : ℕ) (d : JobEnd) → k < length jobs → IsAt k (slice_index_or jobs k d).script
   pub entered : (k : ℕ) (d : JobEnd) → k < length jobs
-      → HasEntered limit (slice_index_or jobs k d)
+      → HasEntered k limit (slice_index_or jobs k d)
+  pub own : (k : ℕ) (d : JobEnd) → k < length jobs
+      → (slice_index_or jobs k d).did ≡ entries_of k entries
   pub first : refused ≡ first_refusal (map (λ job. job.outcome) jobs)
-  pub stored : stores ≡ sum_by stored_by jobs
-  pub made_are : made ≡ sum_by (λ job. job.made) jobs
+  pub stored : count_by is_store entries ≡ sum_by stores_asked jobs
+  pub all : length entries ≡ sum_by (λ job. length job.did) jobs

@@ -25,8 +25,12 @@ impl Model for Ledgers {
 
     ghost Value = { LedgerNames };
 
-    ghost view = { λ a. record { made = a.made.name; stored = a.stored.name;
-        parts = a.made.parts; records = a.records.table } };
+    ghost view = { λ a. record {
+      made = a.made.name;
+      stored = a.stored.name;
+      parts = a.made.parts;
+      records = a.records.table;
+    } };
 
     ghost invariant = { λ a. (a.stored.parts ≡ a.made.parts)
         × (a.records ≡ recorded a.records.table [] 0) };

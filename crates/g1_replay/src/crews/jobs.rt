@@ -3,7 +3,7 @@ ghost use Rattle.std.specs.Prelude.{◌≡◌, ◌+◌, ◌≤◌, ◌^◌, ◌<
 ghost use Rattle.g1_replay.specs.{[], true, length, IfErr, IfOk, All, map, count_by, sum_by};
 ghost use Rattle.g1_replay.specs.{vec_len, vec_capacity, IsCallerOf, is_store, kept_terms};
 ghost use Rattle.g1_replay.specs.{shared_terms, terms_of, slot_count, StepFits, AllFrom};
-ghost use Rattle.g1_replay.specs.{IsUnstarted, first_refusal, HasCome, IsScriptAt};
+ghost use Rattle.g1_replay.specs.{IsUnstarted, first_refusal, HasCome, IsScriptAt, stored_by};
 ghost use Rattle.g1_replay.specs.{layout_in, IsOpened};
 
 use crate::scripts::{next_script, refusal_of};
@@ -11,12 +11,12 @@ use crate::stop::Stop;
 use g1_history::{Book, Refusal};
 use g1_layout::NoMemory;
 use g1_options::Options;
-use g1_shared::{Caller, Shared, SharedDesk, Terms};
+use g1_shared::{Caller, Ledgers, Shared, SharedDesk, Terms};
 use g1_steps::{Job, Script, Step, run_crew};
 use std::alloc::Global;
 use std::marker::Send;
 use std::sync::Wait;
-use std::sync::ledger::{Blank, Ledger};
+use std::sync::ledger::Ledger;
 use std::thread::Threads;
 
 // One job for each caller, in the order of the callers: each mutator's calls, and then rounds of
@@ -61,7 +61,7 @@ fn callers_of<'a, T, M: Terms, S: Ledger>(
     requires { (vec_len room ≡ 0) × (vec_len jobs ≤ vec_capacity room) }
     ensures callers { result.0.items ≡ map (λ job. job.desk.caller) jobs.entry.items }
     ensures len { vec_len result.0 ≡ vec_len jobs.entry }
-    ensures stores { let sum = sum_by (λ caller. caller.counts.stored) result.0.items in
+    ensures stores { let sum = sum_by (λ caller. stored_by caller.counts) result.0.items in
         sum < 2 ^ 64 → result.1 ≡ sum }
     ensures first { result.2 ≡ first_refusal (map (λ job. job.outcome) jobs.entry.items) }
 {
@@ -80,25 +80,24 @@ fn callers_of<'a, T, M: Terms, S: Ledger>(
 
 /// Runs one job for each mutator, with its script, and one for each refinement thread, over a book
 /// that was opened by the options. Returns the book, how many of its entries are stores, and why
-/// the first of the jobs that were refused was, in the order of the callers. The stores are those
-/// of the scripts, of each up to its refusal. The book has as many entries as the callers count,
-/// and none beside.
+/// the first of the jobs that were refused was, in the order of the callers. What each caller made
+/// are the calls that serve its script, up to its refusal, in order, and the entries of the book
+/// are these and none beside.
 ///
 /// Returns `NoMemory` if a growth for callers, jobs or scripts was refused, and `NoThread` if a
 /// thread could not be started. The book is then given up.
 pub(crate) fn run_jobs<T: Threads + Wait + Sync, M: Terms + Send + Sync, S: Ledger + Send + Sync>(
     rt: &T,
     alloc: Global,
-    blanks: (Blank, Blank),
+    ledgers: Ledgers,
     book: Book,
     scripts: Vec<Vec<Step>>,
     options: &Options,
 ) -> Result<(Book, u64, Option<Refusal>), Stop>
-    requires made { (blanks.0.name ≡ M.name) × (blanks.0.parts ≡ M.parts)
-        × (blanks.0.parts ≡ options.now.mutators + options.now.refiners) }
-    requires stored { (blanks.1.name ≡ S.name) × (blanks.1.parts ≡ S.parts)
-        × (blanks.1.parts ≡ options.now.mutators + options.now.refiners) }
-    requires terms { shared_terms book ≡ M.terms }
+    requires ledgers { (ledgers.made ≡ M.name) × (ledgers.stored ≡ S.name) }
+    requires parts { let callers = options.now.mutators + options.now.refiners in
+        (ledgers.parts ≡ callers) × (M.parts ≡ callers) × (S.parts ≡ callers) }
+    requires terms { shared_terms book ledgers.records ≡ M.terms }
     requires mutators { options.now.mutators ≡ M.terms.mutators }
     requires opened { IsOpened (layout_in book) options.now book }
     requires empty { book.entries ≡ [] }
@@ -110,13 +109,12 @@ pub(crate) fn run_jobs<T: Threads + Wait + Sync, M: Terms + Send + Sync, S: Ledg
     ensures came { IfOk result (λ done. HasCome
         (IsScriptAt (λ steps. steps.items) options.now.rounds scripts.items)
         (options.now.mutators + options.now.refiners) M.terms.settings.limit
-        done.2 done.1 (length done.0.entries)) }
+        done.2 done.0.entries) }
     ensures stops { IfErr result IsUnstarted }
 {
-    let (made, stored) = blanks;
     let count = options.mutators + options.refiners;
     let room = Vec::with_capacity(alloc, count as usize)?;
-    let Ok((shared, callers)) = Shared::<M, S>::open(made, stored, book, count) else {
+    let Ok((shared, callers)) = Shared::<M, S>::open(ledgers, book, count) else {
         return Err(Stop::NoMemory);
     };
     let jobs = jobs_of(rt, alloc, &shared, callers, scripts, options.rounds)?;

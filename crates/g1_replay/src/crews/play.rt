@@ -15,13 +15,13 @@ use crate::stop::Stop;
 use g1_history::Book;
 use g1_layout::Layout;
 use g1_options::Options;
+use g1_shared::Ledgers;
 use g1_steps::Step;
 use g1_trace::Mode;
 use std::alloc::Global;
 use std::io::{BufRead, Write};
 use std::marker::Brand;
 use std::sync::Wait;
-use std::sync::ledger::Blank;
 use std::thread::Threads;
 
 // Runs the scripts, and prints the result.
@@ -41,7 +41,6 @@ fn run_scripts<T: Threads + Wait + Sync, W: Write>(
         → PrintsSome (CrewRan options.now layout commands)
         (W.contents output.old) (W.contents output.new) result }
 {
-    let count = u64::from(options.mutators + options.refiners);
     let book = Book::open(
         alloc,
         layout,
@@ -49,9 +48,9 @@ fn run_scripts<T: Threads + Wait + Sync, W: Write>(
         options.mutators,
         options.history as usize,
     )?;
-    let blanks = (Blank::new(count), Blank::new(count));
+    let ledgers = Ledgers::open(alloc, options.mutators + options.refiners)?;
     let (mut book, stores, refused) = run_jobs::<T, Brand, Brand>(
-        rt, alloc, blanks, book, scripts, options,
+        rt, alloc, ledgers, book, scripts, options,
     )?;
     put_crew(&mut book, stores, refused, options.history, output)
 }
@@ -78,8 +77,10 @@ fn play_crew<T: Threads + Wait + Sync, R: BufRead, W: Write>(
 /// of each region returns (docs/traces.md).
 ///
 /// It writes how many stores the trace has, then the lines of the drains of each region in order,
-/// and then the line of the end, if it has one. Some permitted run of the plain table has as many
-/// stores and ends with these drains, and before them it has as many entries as the callers count.
+/// and then the line of the end, if it has one. A permitted run of the plain table ends with these
+/// drains. What stands before them is what the callers made: of each mutator just its stores, in
+/// the order of the trace, with the refinements of its own help, and of each refinement thread
+/// refinements alone.
 /// Returns `Whole` only if the trace has no fault and all regions were drained, and `Refused` only
 /// if the trace has a fault: then nothing was run, and only the fault's line was written. With
 /// `Stopped`, either the threads were refused a call, memory or a thread, and that line is all that

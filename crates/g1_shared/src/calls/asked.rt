@@ -30,7 +30,14 @@ impl<M: Terms, S: Ledger, H: Keeps> Counted<M, S, H> {
     {
         let target = self.book.target(caller.counts.number(), slot)?;
         let (made, records) = (&mut self.made, &mut self.records);
-        raise_made(&self.book, made, records, &mut caller.counts, &slot, &target);
+        raise_made(
+            &self.book,
+            made,
+            records,
+            &mut caller.counts,
+            &slot,
+            &target,
+        );
         Ok(target)
     }
 
@@ -44,7 +51,14 @@ impl<M: Terms, S: Ledger, H: Keeps> Counted<M, S, H> {
     {
         let answer = self.book.is_pending(caller.counts.number(), card)?;
         let (made, records) = (&mut self.made, &mut self.records);
-        raise_made(&self.book, made, records, &mut caller.counts, &card, &answer);
+        raise_made(
+            &self.book,
+            made,
+            records,
+            &mut caller.counts,
+            &card,
+            &answer,
+        );
         Ok(answer)
     }
 
@@ -62,7 +76,14 @@ impl<M: Terms, S: Ledger, H: Keeps> Counted<M, S, H> {
     {
         let cards = self.book.members(caller.counts.number(), region)?;
         let (made, records) = (&mut self.made, &mut self.records);
-        raise_made(&self.book, made, records, &mut caller.counts, &region, &cards);
+        raise_made(
+            &self.book,
+            made,
+            records,
+            &mut caller.counts,
+            &region,
+            &cards,
+        );
         Ok(cards)
     }
 
@@ -90,7 +111,14 @@ impl<M: Terms, S: Ledger, H: Keeps> Counted<M, S, H> {
     {
         let answer = self.book.drain(caller.counts.number(), region)?;
         let (made, records) = (&mut self.made, &mut self.records);
-        raise_made(&self.book, made, records, &mut caller.counts, &region, &answer);
+        raise_made(
+            &self.book,
+            made,
+            records,
+            &mut caller.counts,
+            &region,
+            &answer,
+        );
         Ok(answer)
     }
 
@@ -108,7 +136,14 @@ impl<M: Terms, S: Ledger, H: Keeps> Counted<M, S, H> {
     {
         let answer = self.book.clear(caller.counts.number(), region)?;
         let (made, records) = (&mut self.made, &mut self.records);
-        raise_made(&self.book, made, records, &mut caller.counts, &region, &answer);
+        raise_made(
+            &self.book,
+            made,
+            records,
+            &mut caller.counts,
+            &region,
+            &answer,
+        );
         Ok(answer)
     }
 
@@ -129,7 +164,14 @@ impl<M: Terms, S: Ledger, H: Keeps> Counted<M, S, H> {
     {
         let answer = self.book.redirect(caller.counts.number(), from, to)?;
         let (made, records) = (&mut self.made, &mut self.records);
-        raise_made(&self.book, made, records, &mut caller.counts, &(from, to), &answer);
+        raise_made(
+            &self.book,
+            made,
+            records,
+            &mut caller.counts,
+            &(from, to),
+            &answer,
+        );
         Ok(answer)
     }
 

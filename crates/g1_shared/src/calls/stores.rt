@@ -117,7 +117,14 @@ impl<M: Terms, S: Ledger, H: Keeps> Counted<M, S, H> {
         ensures err { OnErr result (counts.new ≡ counts.old) }
     {
         let reply = self.book.refine(counts.number(), buffer)?;
-        raise_made(&self.book, &mut self.made, &mut self.records, counts, &(), &reply);
+        raise_made(
+            &self.book,
+            &mut self.made,
+            &mut self.records,
+            counts,
+            &(),
+            &reply,
+        );
         Ok(reply)
     }
 }
