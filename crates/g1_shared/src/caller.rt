@@ -95,7 +95,7 @@ impl<M: Terms, S: Ledger> CallerCounts<M, S> {
 }
 
 /// One of the callers of a shared book or core: its counts, its taker, and if it is a mutator its
-/// log and sender.
+/// log and sender. Contracts also see the entries that it made, in order (`counts.did`).
 ///
 /// It belongs to one thread at a time, and each call borrows it. A caller is used with the
 /// `Shared` that made it.

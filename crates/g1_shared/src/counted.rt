@@ -13,8 +13,8 @@ use std::sync::ledger::Ledger;
 /// A book with the totals of its calls and of its stores. Contracts see the book.
 ///
 /// Each call is the book's call of that name, by the caller's number, with the same reply and
-/// errors. An entered call is counted for its caller. A refused one leaves book and caller as they
-/// were.
+/// errors. An entered call is counted for its caller, whose record has its entry. A refused one
+/// leaves book and caller as they were.
 #[derive(Drop)]
 pub struct Counted<M: Terms, S: Ledger, H: Keeps = Kept> {
     pub(crate) book: Book<H>,

@@ -195,9 +195,10 @@ impl<M: Terms, S: Ledger, H: Keeps> Counted<M, S, H> {
 }
 
 /// Each call waits for the lock, makes the call of what is kept under it for the caller, and
-/// returns its reply. It counts as one call of that caller (an entry, where entries are kept), or
-/// is refused, which leaves the caller as it was. A clause can say no more of what was under the
-/// lock. The guard (`lock`) makes the same calls with their whole contracts.
+/// returns its reply. The caller's record has one entry more, of this call with this reply, or the
+/// call is refused, which leaves the caller as it was. No clause can name what was under the lock:
+/// that the entry stands in a permitted run `finish` says. The guard (`lock`) makes the same calls
+/// with their whole contracts.
 impl<M: Terms, S: Ledger, H: Keeps> Shared<M, S, H> {
     /// Returns what a slot refers to, by a call under the lock (`Counted::target`).
     pub fn target<R: Wait>(
@@ -250,8 +251,8 @@ impl<M: Terms, S: Ledger, H: Keeps> Shared<M, S, H> {
         self.counted.lock(rt).status(caller)
     }
 
-    /// Drains a region by a call under the lock (`Counted::drain`). No clause says what it lists;
-    /// the guard's drain has that clause.
+    /// Drains a region by a call under the lock (`Counted::drain`). Its list is exact where its
+    /// entry stands in the history; the guard's drain has a clause that says so at once.
     pub fn drain<R: Wait>(
         &self,
         rt: &R,
