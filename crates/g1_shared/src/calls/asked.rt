@@ -30,14 +30,8 @@ impl<M: Terms, S: Ledger, H: Keeps> Counted<M, S, H> {
     {
         let target = self.book.target(caller.counts.number(), slot)?;
         let (made, records) = (&mut self.made, &mut self.records);
-        raise_made(
-            &self.book,
-            made,
-            records,
-            &mut caller.counts,
-            &slot,
-            &target,
-        );
+        let counts = &mut caller.counts;
+        raise_made(&self.book, made, records, counts, &slot, &target);
         Ok(target)
     }
 
@@ -51,14 +45,8 @@ impl<M: Terms, S: Ledger, H: Keeps> Counted<M, S, H> {
     {
         let answer = self.book.is_pending(caller.counts.number(), card)?;
         let (made, records) = (&mut self.made, &mut self.records);
-        raise_made(
-            &self.book,
-            made,
-            records,
-            &mut caller.counts,
-            &card,
-            &answer,
-        );
+        let counts = &mut caller.counts;
+        raise_made(&self.book, made, records, counts, &card, &answer);
         Ok(answer)
     }
 
@@ -76,14 +64,8 @@ impl<M: Terms, S: Ledger, H: Keeps> Counted<M, S, H> {
     {
         let cards = self.book.members(caller.counts.number(), region)?;
         let (made, records) = (&mut self.made, &mut self.records);
-        raise_made(
-            &self.book,
-            made,
-            records,
-            &mut caller.counts,
-            &region,
-            &cards,
-        );
+        let counts = &mut caller.counts;
+        raise_made(&self.book, made, records, counts, &region, &cards);
         Ok(cards)
     }
 
@@ -96,7 +78,8 @@ impl<M: Terms, S: Ledger, H: Keeps> Counted<M, S, H> {
     {
         let status = self.book.status(caller.counts.number())?;
         let (made, records) = (&mut self.made, &mut self.records);
-        raise_made(&self.book, made, records, &mut caller.counts, &(), &status);
+        let counts = &mut caller.counts;
+        raise_made(&self.book, made, records, counts, &(), &status);
         Ok(status)
     }
 
@@ -111,14 +94,8 @@ impl<M: Terms, S: Ledger, H: Keeps> Counted<M, S, H> {
     {
         let answer = self.book.drain(caller.counts.number(), region)?;
         let (made, records) = (&mut self.made, &mut self.records);
-        raise_made(
-            &self.book,
-            made,
-            records,
-            &mut caller.counts,
-            &region,
-            &answer,
-        );
+        let counts = &mut caller.counts;
+        raise_made(&self.book, made, records, counts, &region, &answer);
         Ok(answer)
     }
 
@@ -136,14 +113,8 @@ impl<M: Terms, S: Ledger, H: Keeps> Counted<M, S, H> {
     {
         let answer = self.book.clear(caller.counts.number(), region)?;
         let (made, records) = (&mut self.made, &mut self.records);
-        raise_made(
-            &self.book,
-            made,
-            records,
-            &mut caller.counts,
-            &region,
-            &answer,
-        );
+        let counts = &mut caller.counts;
+        raise_made(&self.book, made, records, counts, &region, &answer);
         Ok(answer)
     }
 
@@ -164,14 +135,8 @@ impl<M: Terms, S: Ledger, H: Keeps> Counted<M, S, H> {
     {
         let answer = self.book.redirect(caller.counts.number(), from, to)?;
         let (made, records) = (&mut self.made, &mut self.records);
-        raise_made(
-            &self.book,
-            made,
-            records,
-            &mut caller.counts,
-            &(from, to),
-            &answer,
-        );
+        let counts = &mut caller.counts;
+        raise_made(&self.book, made, records, counts, &(from, to), &answer);
         Ok(answer)
     }
 
