@@ -5,7 +5,7 @@ use lib.ListN.{get_elem?}
 use Rattle.atomic_table.proofs.Lists.{at_set}
 use Rattle.g1_core.specs.declared.entry.Entry.{Entry}
 use Rattle.g1_records.specs.declared.view.View.{View}
-use Rattle.g1_records.specs.Views.{entries_of, keeper, caller_view, both_with, nobody, keeper_in, Fits, AreExact}
+use Rattle.g1_records.specs.Views.{entries_by, keeper, caller_view, both_with, nobody, keeper_in, Fits, AreExact}
 
 off : false ≡ true → ⊥
 off e = true≢false (sym e)
@@ -27,15 +27,15 @@ more_mine : (n : ℕ) (e x : Entry) (ys xs : List Entry) → ys ≡ xs ++ e ∷ 
 more_mine n e x ys xs is true = ap (λ l. x ∷ l) is
 more_mine n e x ys xs is false = is
 
-pub of_mine : (n : ℕ) (e : Entry) (xs : List Entry) → e.caller ≡ n → entries_of n (xs ++ e ∷ []) ≡ entries_of n xs ++ e ∷ []
+pub of_mine : (n : ℕ) (e : Entry) (xs : List Entry) → e.caller ≡ n → entries_by n (xs ++ e ∷ []) ≡ entries_by n xs ++ e ∷ []
 of_mine n e [] is = ap (λ b. cond b (e ∷ []) []) (eq-eqb e.caller n is)
-of_mine n e (x ∷ xs) is = more_mine n e x (entries_of n (xs ++ e ∷ [])) (entries_of n xs) (of_mine n e xs is) (eqb x.caller n)
+of_mine n e (x ∷ xs) is = more_mine n e x (entries_by n (xs ++ e ∷ [])) (entries_by n xs) (of_mine n e xs is) (eqb x.caller n)
 
-pub of_other : (n : ℕ) (e : Entry) (xs : List Entry) → e.caller ≢ n → entries_of n (xs ++ e ∷ []) ≡ entries_of n xs
+pub of_other : (n : ℕ) (e : Entry) (xs : List Entry) → e.caller ≢ n → entries_by n (xs ++ e ∷ []) ≡ entries_by n xs
 of_other n e [] not = ap (λ b. cond b (e ∷ []) []) (ne_eqb e.caller n not)
 of_other n e (x ∷ xs) not = ap (λ l. cond (eqb x.caller n) (x ∷ l) l) (of_other n e xs not)
 
--- the owners, with another one entries_of n
+-- the owners, with another one entries_by n
 abbrev owned : (ℕ → ℕ) → ℕ → ℕ → ℕ → ℕ
 owned owner n by m = cond (eqb m n) by (owner m)
 
@@ -47,7 +47,7 @@ owned_else owner n by m not = ap (λ b. cond b by (owner m)) (ne_eqb m n not)
 
 -- what else is known of a seat stays so
 fits_on : (seat : ℕ) (owner : ℕ → ℕ) (callers : ℕ) (log now : List Entry) (n to more j : ℕ) (u : View) → Fits seat owner callers log j u → (u.knows ≡ true → ⊥) → (u.calls ≡ true → u.number ≢ n)
-    → callers ≡ more ⊎ callers + 1 ≡ more → ((m : ℕ) → m ≢ n → entries_of m now ≡ entries_of m log) → Fits seat (owned owner n to) more now j u
+    → callers ≡ more ⊎ callers + 1 ≡ more → ((m : ℕ) → m ≢ n → entries_by m now ≡ entries_by m log) → Fits seat (owned owner n to) more now j u
 fits_on seat owner callers log now n to more j u h not apart grows same = (
   (λ k. absurd (not k)),
   (λ c. let t = h.1 c in let ne = apart c in (t.0 ∙ sym (owned_else owner n to u.number ne), below grows t.1, t.2 ∙ sym (same u.number ne))),
@@ -71,7 +71,7 @@ begins = (0, (λ n. 0), 0, [], one)
 -- A caller's seat goes into the book's, which then has this view.
 pub joins : (views : List View) (id : ℕ) (v : View) (other : ℕ) (w both : View) (tail : List Entry) → v.knows ≡ true → w.calls ≡ true
     → both ≡ both_with v w tail
-    → ((log : List Entry) → entries_of w.number (log ++ tail) ≡ entries_of w.number log ++ tail) → ((log : List Entry) (m : ℕ) → m ≢ w.number → entries_of m (log ++ tail) ≡ entries_of m log)
+    → ((log : List Entry) → entries_by w.number (log ++ tail) ≡ entries_by w.number log ++ tail) → ((log : List Entry) (m : ℕ) → m ≢ w.number → entries_by m (log ++ tail) ≡ entries_by m log)
     → AreExact views → get_elem? views id ≡ some v → ¬ (other ≡ id) → get_elem? (set views id both) other ≡ some w → AreExact (set (set views id both) other nobody)
 joins views id v other w both tail knows calls is mine others (seat, owner, callers, log, all) at apart there = (seat, owned owner w.number id, callers, log ++ tail, each)
   where
@@ -81,7 +81,7 @@ joins views id v other w both tail knows calls is mine others (seat, owner, call
     book : (id ≡ seat) × (v.all ≡ log) × (v.callers ≡ callers)
     book = (all id v at).0 knows
 
-    caller : (other ≡ owner w.number) × (w.number < callers) × (w.own ≡ entries_of w.number log)
+    caller : (other ≡ owner w.number) × (w.number < callers) × (w.own ≡ entries_by w.number log)
     caller = (all other w was).1 calls
 
     new : View
@@ -111,7 +111,7 @@ joins views id v other w both tail knows calls is mine others (seat, owner, call
 -- A seat of a caller is split off the book's.
 pub splits : (views : List View) (id : ℕ) (v left right : View) (n more : ℕ) (mine : List Entry) → v.knows ≡ true → left ≡ keeper v.all more → right ≡ caller_view n mine
     → v.callers ≡ more ⊎ v.callers + 1 ≡ more → n < more
-    → ((seat : ℕ) (owner : ℕ → ℕ) (callers : ℕ) (log : List Entry) → v.all ≡ log → v.callers ≡ callers → Fits seat owner callers log id v → mine ≡ entries_of n log)
+    → ((seat : ℕ) (owner : ℕ → ℕ) (callers : ℕ) (log : List Entry) → v.all ≡ log → v.callers ≡ callers → Fits seat owner callers log id v → mine ≡ entries_by n log)
     → ((seat : ℕ) (owner : ℕ → ℕ) (callers : ℕ) (log : List Entry) → v.callers ≡ callers → Fits seat owner callers log id v → (j : ℕ) (u : View) → j ≢ id → Fits seat owner callers log j u → u.calls ≡ true → u.number ≢ n)
     → AreExact views → get_elem? views id ≡ some v → AreExact (set views id left ++ right ∷ [])
 splits views id v left right n more mine knows is_left is_right grows below exact alone (seat, owner, callers, log, all) at = (seat, owned owner n last, more, log, each)

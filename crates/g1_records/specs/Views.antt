@@ -12,9 +12,9 @@ abbrev pub no_entry : Entry
 no_entry = record { caller = 0; call = call.Refine; reply = reply.Short; refined = [] }
 
 -- the entries of this caller, in order
-abbrev pub entries_of : ℕ → List Entry → List Entry
-entries_of n [] = []
-entries_of n (e ∷ es) = if e.caller == n then e ∷ entries_of n es else entries_of n es
+abbrev pub entries_by : ℕ → List Entry → List Entry
+entries_by n [] = []
+entries_by n (e ∷ es) = if e.caller == n then e ∷ entries_by n es else entries_by n es
 
 -- the seat of the history
 abbrev pub keeper : List Entry → ℕ → View
@@ -75,7 +75,7 @@ abbrev pub one_more : View → View
 one_more v = keeper v.all (v.callers + 1)
 
 abbrev pub new_caller : View → View
-new_caller v = caller_view v.callers (entries_of v.callers v.all)
+new_caller v = caller_view v.callers (entries_by v.callers v.all)
 
 -- One seat at most knows the history. Of each number below `callers` one seat at most has the
 -- record, which is what the history has of that number.
@@ -83,7 +83,7 @@ abbrev pub Fits : ℕ → (ℕ → ℕ) → ℕ → List Entry → ℕ → View 
 Fits seat owner callers log by v =
     (v.knows ≡ true → (by ≡ seat) × (v.all ≡ log) × (v.callers ≡ callers))
     × (v.calls ≡ true → (by ≡ owner v.number) × (v.number < callers)
-    × (v.own ≡ entries_of v.number log))
+    × (v.own ≡ entries_by v.number log))
 
 abbrev pub AreExact : List View → Type 0
 AreExact views =
@@ -91,7 +91,7 @@ AreExact views =
     × ((by : ℕ) (v : View) → get_elem? views by ≡ some v → Fits seat owner callers log by v)
 
 abbrev pub IsExact : View → Type 0
-IsExact v = v.own ≡ entries_of v.number v.all
+IsExact v = v.own ≡ entries_by v.number v.all
 
 -- the view of a badge
 abbrev pub view_in : List View → View

@@ -1,6 +1,6 @@
 //! The records beside a history.
 ghost use Rattle.std.specs.Prelude.{◌≡◌, ◌+◌, [], IfOk};
-ghost use Rattle.g1_records.specs.Views.{entries_of};
+ghost use Rattle.g1_records.specs.Views.{entries_by};
 ghost use Rattle.g1_records.specs.Records.{recorded, own_record, gained, made};
 
 use crate::asks::Asks;
@@ -48,7 +48,7 @@ impl Records {
         ensures records { self.new
             ≡ recorded self.old.table self.old.entries (self.old.callers + 1) }
         ensures caller { result ≡ own_record self.old.table self.old.callers
-            (entries_of self.old.callers self.old.entries) }
+            (entries_by self.old.callers self.old.entries) }
     {
         let Records { table, seat } = self;
         let own = table.shared.split_seat::<Makes>(seat);
@@ -96,7 +96,7 @@ impl Records {
     pub fn check(&mut self, own: &mut CallerRecord)
         requires { own.old.table ≡ self.old.table }
         ensures same { (self.new ≡ self.old) × (own.new ≡ own.old) }
-        ensures exact { own.old.entries ≡ entries_of own.old.number self.old.entries }
+        ensures exact { own.old.entries ≡ entries_by own.old.number self.old.entries }
     {
         let Records { table, seat } = self;
         let badge = mem::replace(&mut own.badge, Badge::blank());

@@ -1,10 +1,10 @@
 -- What the jobs of a crew came to, by their outcomes and by the callers that are left.
 use Rattle.std.specs.Prelude.{◌≡◌, ◌+◌, ◌<◌, ◌≤◌, ◌∷◌, ◌++◌}
-use Rattle.g1_replay.specs.{ℕ, zero, suc, List, [], length, map, drop, drop-cons, length-drop, add-zero, zero-add, option_or, Mutate, Refine, asks_of, refusal_in, stores_in, cond, get_or, refl, sym, subst, ap, ◌∙◌, arith, Option, Some, None, Result, Ok, Err, count_by, sum_by, All, AllZip, get_or-map, length-map, length_all_zip, sum_by-cons, Refusal, Ask, asks_in, is_store_ask, JobRan, Ran, Script, Step, Job, CallerCounts, CallerState, IsScriptAt, IsScriptFor, AreScripts, Options, Command, first_refusal, JobEnd, asked_by, stored_by, made_by, stores_asked, Entry, AreMadeBy, Shape, entries_made, is_store, HasEntered, HasCome, most_for}
+use Rattle.g1_replay.specs.{ℕ, zero, suc, List, [], length, map, drop, drop-cons, length-drop, add-zero, zero-add, option_or, Mutate, Refine, asks_of, refusal_in, stores_in, cond, get_or, refl, sym, subst, ap, ◌∙◌, arith, Option, Some, None, Result, Ok, Err, count_by, sum_by, All, AllZip, get_or-map, length-map, length_all_zip, sum_by-cons, Refusal, Ask, asks_in, is_store_ask, JobRan, Ran, Script, Step, Job, CallerCounts, CallerState, IsScriptAt, IsScriptFor, AreScripts, Options, Command, first_refusal, JobEnd, asked_by, stored_by, made_by, stores_asked, IsRefusedWithin, Entry, AreMadeBy, Shape, entries_made, is_store, HasEntered, HasCome, most_for}
 use Rattle.std.specs.Prelude.{replicate}
 use Rattle.std.proofs.lemmas.List.{nil_from_length}
-use Rattle.g1_shared.specs.Callers.{CallerMark}
-use Rattle.g1_shared.specs.Prelude.{entries_of}
+use Rattle.g1_shared.specs.Callers.{CallerMark, HasOwn}
+use Rattle.g1_shared.specs.Prelude.{entries_by}
 use Rattle.g1_shared.specs.Did.{DeskDid, CallerDid}
 use Rattle.std.proofs.lemmas.List.Elements.{All-head, All-tail}
 use Rattle.g1_steps.specs.Ask.{AskWork}
@@ -22,6 +22,11 @@ did_by : {X : Type 0} (layout : Shape) (limit : X → ℕ) (stood : X → Caller
 did_by layout limit stood script (Some (Ok made)) d e h = h.1.1
 did_by layout limit stood script (Some (Err refused)) d e h = h.1.1
 did_by layout limit stood script None d e h = absurd h
+
+within_by : {X : Type 0} (did : X → List Ask → X → Type 0) (script : Script) (outcome : Option (Result ℕ (ℕ × Refusal))) (d e : X) → Ran did (asks_in script) d outcome e → IsRefusedWithin script outcome
+within_by did script (Some (Ok made)) d e h = tt
+within_by did script (Some (Err refused)) d e h = h.0
+within_by did script None d e h = tt
 
 -- each caller has as many stores more as its job asked for
 all_store : {X : Type 0} (layout : Shape) (limit : X → ℕ) (stood : X → CallerState) (begun done : List (Job X)) → AllZip (JobRan (DidAt layout limit stood)) begun done
@@ -79,13 +84,14 @@ one_entered layout limit stood k most b e begun ran =
       did = ap (λ (t : CallerCounts). t.did) did.served.made.0 ∙ ap (λ (t : CallerCounts). t.did ++ entries_made t.number did.served.calls) begun.1;
       serves = did.served.serves;
       most = omega (arith, high, none);
+      within = subst (λ (s : Script). IsRefusedWithin s e.outcome) (sym ran.0) (within_by (DidAt layout limit stood) b.script e.outcome b.desk e.desk ran.1);
     }
 
 -- and its record is that of its number
-one_own : {X : Type 0} (layout : Shape) (limit : X → ℕ) (stood : X → CallerState) (entries : List Entry) (k : ℕ) (b e : Job X) → (stood b.desk).counts ≡ record { number = k; did = [] } → JobRan (DidAt layout limit stood) b e × ((stood e.desk).counts.did ≡ entries_of (stood e.desk).counts.number entries) → (end_of stood e).did ≡ entries_of k entries
+one_own : {X : Type 0} (layout : Shape) (limit : X → ℕ) (stood : X → CallerState) (entries : List Entry) (k : ℕ) (b e : Job X) → (stood b.desk).counts ≡ record { number = k; did = [] } → JobRan (DidAt layout limit stood) b e × HasOwn entries (stood e.desk) → (end_of stood e).did ≡ entries_by k entries
 one_own layout limit stood entries k b e begun ran =
     let did = ran_by layout limit stood b e ran.0 in
-    ran.1 ∙ ap (λ n. entries_of n entries) (ap (λ (m : CallerMark). m.number) did.mark ∙ ap (λ (t : CallerCounts). t.number) begun)
+    ran.1 ∙ ap (λ n. entries_by n entries) (ap (λ (m : CallerMark). m.number) did.mark ∙ ap (λ (t : CallerCounts). t.number) begun)
 
 sum_made : {X : Type 0} (stood : X → CallerState) (done : List (Job X)) → sum_by (λ (c : CallerState). made_by c.counts) (map (λ (j : Job X). stood j.desk) done) ≡ sum_by (λ (e : JobEnd). length e.did) (map (end_of stood) done)
 sum_made stood [] = refl
@@ -113,7 +119,7 @@ has_come {X} layout limit stood At count most refused entries callers after begu
     let none = none_stored callers (λ k d lt. ap stored_by (new k d lt)) in
     let counts : (k : ℕ) (d : Job X) → k < length begun → (stand (get_or begun k d)).counts ≡ record { number = k; did = [] } =
     λ k d lt. ap (λ (c : CallerState). c.counts) (sym (get_or-map stand begun k d (stand d) lt) ∙ ap (λ (l : List CallerState). get_or l k (stand d)) at) ∙ new k (stand d) (omega (arith, lt, n, called)) in
-    let has : All (λ (c : CallerState). c.counts.did ≡ entries_of c.counts.number entries) (map stand done) = subst (All (λ (c : CallerState). c.counts.did ≡ entries_of c.counts.number entries)) left made.each in
+    let has : All (HasOwn entries) (map stand done) = subst (All (HasOwn entries)) left made.each in
     record {
       jobs = map (end_of stood) done;
       many = omega (arith, length-map done (end_of stood), zip, n, called, many);
@@ -121,8 +127,8 @@ has_come {X} layout limit stood At count most refused entries callers after begu
           (λ k d lt. subst (λ i. At i (get_or begun k d).script) (ap (λ (t : CallerCounts). t.number) (counts k d lt)) (scripts k d lt));
       entered = each_end stood R (λ k j. (limit j.desk ≡ most) × ((stood j.desk).counts ≡ record { number = k; did = [] })) (λ k e. HasEntered k most e) (λ k b e is go. one_entered layout limit stood k most b e is go) begun done ran
           (λ k d lt. (room k d lt, counts k d lt));
-      own = each_end stood (λ b e. R b e × ((stood e.desk).counts.did ≡ entries_of (stood e.desk).counts.number entries)) (λ k j. (stood j.desk).counts ≡ record { number = k; did = [] }) (λ k e. e.did ≡ entries_of k entries)
-          (λ k b e is go. one_own layout limit stood entries k b e is go) begun done (zip_with stood R (λ (c : CallerState). c.counts.did ≡ entries_of c.counts.number entries) begun done ran has) counts;
+      own = each_end stood (λ b e. R b e × HasOwn entries (stood e.desk)) (λ k j. (stood j.desk).counts ≡ record { number = k; did = [] }) (λ k e. e.did ≡ entries_by k entries)
+          (λ k b e is go. one_own layout limit stood entries k b e is go) begun done (zip_with stood R (HasOwn entries) begun done ran has) counts;
       first = first ∙ ap first_refusal (sym (outcomes_of stood done));
       stored = omega (arith, made.stores, ap (sum_by (λ (c : CallerState). stored_by c.counts)) left, all_store layout limit stood begun done ran, ap (sum_by (λ (c : CallerState). stored_by c.counts)) at, none);
       all = made.all ∙ ap (sum_by (λ (c : CallerState). made_by c.counts)) left ∙ sum_made stood done;

@@ -8,7 +8,7 @@ use Rattle.g1_replay.specs.Prelude.{option_or, Ask, asks_in, asks_of, is_store_a
 use Rattle.g1_replay.specs.Prelude.{Mutate, Refine, Refusal, Command, Store, Flush, Options}
 use Rattle.g1_replay.specs.Prelude.{most_for, Entry, CallMade, entries_made, ServesAll, was_made}
 use Rattle.g1_replay.specs.Prelude.{is_store}
-use Rattle.g1_shared.specs.Prelude.{entries_of}
+use Rattle.g1_shared.specs.Prelude.{entries_by}
 use Rattle.std.specs.Prelude.{filter}
 use Rattle.g1_steps.specs.declared.crew.desk.Step.TheVariants as step
 
@@ -130,18 +130,24 @@ abbrev pub asked_by : Script → Option (Result ℕ (ℕ × Refusal)) → List A
 asked_by script (Some (Err refused)) = take refused.0 (asks_in script)
 asked_by script outcome = asks_in script
 
+-- A refused call is one of the script.
+abbrev pub IsRefusedWithin : Script → Option (Result ℕ (ℕ × Refusal)) → Type 0
+IsRefusedWithin script (Some (Err refused)) = refused.0 < length (asks_in script)
+IsRefusedWithin script outcome = Unit {0}
+
 -- how many stores are among that
 abbrev pub stores_asked : JobEnd → ℕ
 stores_asked job = count_by is_store_ask (asked_by job.script job.outcome)
 
 -- The entries of the caller of this number are those of calls that serve just what its job asked
--- for, in order: a store its own and that of a help, a flush that of a help, a round refinements,
--- at most `limit` of them. Refused calls may stand among them.
+-- for, in order: a store its own and at most one refinement, if it filled its log, a flush at most
+-- one, a round at most `limit`. Refused calls may stand among them.
 pub record HasEntered (number limit : ℕ) (job : JobEnd) : Type 0 where
   pub calls : List CallMade
   pub did : job.did ≡ entries_made number calls
   pub serves : ServesAll (asked_by job.script job.outcome) (filter was_made calls)
   pub most : length job.did ≤ sum_by (most_for limit) (asked_by job.script job.outcome)
+  pub within : IsRefusedWithin job.script job.outcome
 
 -- The jobs of a crew came back, one a caller, in order. Each had the script of its caller, and
 -- `refused` is why the first of those that were refused was. What each caller made are just the
@@ -154,7 +160,7 @@ pub record HasCome (IsAt : ℕ → Script → Type 0) (callers limit : ℕ) (ref
   pub entered : (k : ℕ) (d : JobEnd) → k < length jobs
       → HasEntered k limit (slice_index_or jobs k d)
   pub own : (k : ℕ) (d : JobEnd) → k < length jobs
-      → (slice_index_or jobs k d).did ≡ entries_of k entries
+      → (slice_index_or jobs k d).did ≡ entries_by k entries
   pub first : refused ≡ first_refusal (map (λ job. job.outcome) jobs)
   pub stored : count_by is_store entries ≡ sum_by stores_asked jobs
   pub all : length entries ≡ sum_by (λ job. length job.did) jobs

@@ -164,7 +164,6 @@ desk_worked terms line s t (Ok reply) h =
         mark = h.mark;
         served = served_round (CountsDid terms.layout) s.counts (taken_list s) _ reply (taken_list t) t.counts h.step.round.2;
         stored = omega (arith, h.stored);
-        least = omega (arith, h.made.0);
         log = tt;
         most = omega (arith, h.made.1);
         each = record { parcels = makes.parcels; gained = makes.gained; within = omega (arith, makes.within) };

@@ -66,7 +66,6 @@ desk_stored layout line s t slot target (Ok reply) mark h = mutators_are s.mutat
         mark = mark;
         served = served_store (CountsDid layout) s.counts slot target _ reply t.counts stored;
         stored = omega (arith, more.2, all, help.1);
-        least = omega (arith, more.1);
         log = tt;
         most = omega (arith, more.1, help.0);
         each = record { parcels = []; gained = ap taken_of h.taker ∙ sym (append-nil (taken_list s)); within = omega (arith, more.1, help.0) };
@@ -87,7 +86,6 @@ desk_flushed layout line s t reply mark h = mutators_are s.mutator t.mutator (λ
         mark = mark;
         served = served_flush (CountsDid layout) s.counts m.log.cards reply t.counts (did_nothing s.counts, tt) step.flushed;
         stored = omega (arith, more.2, grows.3);
-        least = omega (arith, more.1);
         log = flushed_log t.mutator n is step.log;
         most = omega (arith, more.1, grows.2);
         each = record { parcels = []; gained = ap taken_of h.taker ∙ sym (append-nil (taken_list s)); within = omega (arith, more.1, grows.2) };

@@ -1,22 +1,18 @@
 -- What callers made that are handed in one after the other.
 use Rattle.std.specs.Prelude.{◌≡◌, ◌+◌, ◌∷◌, ◌++◌}
-use Rattle.g1_shared.specs.{ℕ, List, [], All, ap, sym, subst, ◌∙◌, Entry, CallerState, Recorded, own_record, entries_of, made_by, stored_by, sum_by, sum_by-append, arith}
+use Rattle.g1_shared.specs.{ℕ, List, [], All, ap, sym, subst, ◌∙◌, Entry, CallerState, Recorded, own_record, entries_by, HasOwn, made_by, stored_by, sum_by, sum_by-append, arith}
 use Rattle.atomic_table.specs.Seated.{TableId}
 use Rattle.g1_records.specs.Records.{OwnRecord}
 use Rattle.std.proofs.lemmas.List.Elements.{All-push}
 
--- the caller's record is what these entries have of it
-abbrev pub Has : List Entry → CallerState → Type 0
-Has entries c = c.counts.did ≡ entries_of c.counts.number entries
-
 -- one more whose record was shown
-pub has_more : (xs ys : List CallerState) (x : CallerState) (own : OwnRecord) (table : TableId) (was now : Recorded) → xs ≡ ys ++ x ∷ [] → own ≡ own_record table x.counts.number x.counts.did → own.entries ≡ entries_of own.number was.entries → now ≡ was → All (Has now.entries) ys → All (Has now.entries) xs
-has_more xs ys x own table was now is shown exact same all = subst (All (Has now.entries)) (sym is) (All-push (Has now.entries) ys x all
-    (sym (ap (λ (r : OwnRecord). r.entries) shown) ∙ exact ∙ ap (λ (r : OwnRecord). entries_of r.number was.entries) shown ∙ ap (λ (r : Recorded). entries_of x.counts.number r.entries) (sym same)))
+pub has_more : (xs ys : List CallerState) (x : CallerState) (own : OwnRecord) (table : TableId) (was now : Recorded) → xs ≡ ys ++ x ∷ [] → own ≡ own_record table x.counts.number x.counts.did → own.entries ≡ entries_by own.number was.entries → now ≡ was → All (HasOwn now.entries) ys → All (HasOwn now.entries) xs
+has_more xs ys x own table was now is shown exact same all = subst (All (HasOwn now.entries)) (sym is) (All-push (HasOwn now.entries) ys x all
+    (sym (ap (λ (r : OwnRecord). r.entries) shown) ∙ exact ∙ ap (λ (r : OwnRecord). entries_by r.number was.entries) shown ∙ ap (λ (r : Recorded). entries_by x.counts.number r.entries) (sym same)))
 
 -- the same of all, where the records stay
-pub has_on : (xs all : List CallerState) (was now : Recorded) → now ≡ was → (All (Has was.entries) xs → All (Has was.entries) all) → All (Has now.entries) xs → All (Has now.entries) all
-has_on xs all was now same then = subst (λ (r : Recorded). All (Has r.entries) xs → All (Has r.entries) all) (sym same) then
+pub has_on : (xs all : List CallerState) (was now : Recorded) → now ≡ was → (All (HasOwn was.entries) xs → All (HasOwn was.entries) all) → All (HasOwn now.entries) xs → All (HasOwn now.entries) all
+has_on xs all was now same then = subst (λ (r : Recorded). All (HasOwn r.entries) xs → All (HasOwn r.entries) all) (sym same) then
 
 -- the sums of what was made and stored, with one caller more
 sum_last : (f : CallerState → ℕ) (xs ys : List CallerState) (x : CallerState) → xs ≡ ys ++ x ∷ [] → sum_by f xs ≡ sum_by f ys + f x

@@ -7,7 +7,7 @@ use Rattle.g1_shared.specs.Prelude.{IsLent, logged, buffer_of, MayRefuse, Refine
 use Rattle.g1_shared.specs.Prelude.{Helped, Mutator, Refusal, GainsAtMost}
 use Rattle.g1_shared.specs.Prelude.{IsNewMutator, sender_rights, sum_by, taker_rights, whole, All}
 use Rattle.g1_shared.specs.Prelude.{IfOk, Entry, Call, Reply, asked_entry, card_of, is_store}
-use Rattle.g1_shared.specs.Prelude.{count_by, entries_of, History}
+use Rattle.g1_shared.specs.Prelude.{count_by, entries_by, History}
 use Rattle.g1_steps.specs.Rounds.{IsWorkStep}
 use Rattle.g1_steps.specs.Steps.{IsRefineStep, IsStoreStep, IsFlushStep}
 use Rattle.g1_log.specs.declared.buffer.Buffer.{Buffer}
@@ -156,13 +156,18 @@ AsksOnce old call result new =
     × (new ≡ called_once old (asked_entry old.counts.number call reply cards)))
     × OnErr result (new ≡ old)
 
--- Each of these callers made just the entries with its number, in this order, and all are theirs.
+-- The caller made just the entries with its number, in this order.
+abbrev pub HasOwn : List Entry → CallerState → Type 0
+HasOwn entries c = c.counts.did ≡ entries_by c.counts.number entries
+
+-- Each of these callers made just the entries with its number, and there are as many entries as they
+-- made: where their numbers differ, as those of the callers of one book do, all are theirs.
 pub record AreMadeBy (callers : List CallerState) (entries : List Entry) : Type 0 where
-  pub each : All (λ c. c.counts.did ≡ entries_of c.counts.number entries) callers
+  pub each : All (HasOwn entries) callers
   pub all : length entries ≡ sum_by (λ c. made_by c.counts) callers
   pub stores : count_by is_store entries ≡ sum_by (λ c. stored_by c.counts) callers
 
--- What the callers of a shared book made was a permitted run, which led to this book.
+-- What the callers of a shared book made was a permitted run, which led to the table of this book.
 pub record IsTold (keeps : Bool) (terms : SharedTerms) (callers : List CallerState)
     (h : History) : Type 0 where
   pub entries : List Entry

@@ -57,7 +57,8 @@ Remembers false entries h =
 abbrev pub AreNone : Bool → History → Type 0
 AreNone keeps h = Remembers keeps [] h
 
--- A permitted run of these entries led from the beginning to this book, which remembers them.
+-- A permitted run of these entries led from the table at the beginning to that of this book, which
+-- is on these terms, and remembers them.
 pub record IsRunTo (keeps : Bool) (terms : SharedTerms) (entries : List Entry)
     (h : History) : Type 0 where
   pub kept : terms_of h ≡ kept_terms terms
@@ -96,8 +97,8 @@ stored_by t = count_by is_store t.did
 abbrev pub did_more : CallerCounts → List Entry → CallerCounts
 did_more t es = record t { did = t.did ++ es }
 
--- The counts tell of the calls that were made, and the heap which answers these can have. A refused
--- call is no entry.
+-- The caller has the entries of these calls more, with answers that a book of this heap can give. A
+-- refused call is no entry.
 abbrev pub CountsDid : Shape → CallerCounts → List CallMade → CallerCounts → Type 0
 CountsDid layout t calls u =
     (u ≡ did_more t (entries_made t.number calls)) × AreAnswersAt layout calls

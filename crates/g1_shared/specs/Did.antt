@@ -40,15 +40,14 @@ left_then P Q t u [] (y ∷ ys) same h k = k
 left_then P Q t u (x ∷ xs) ys same h k =
     left_then (Leaves x t) (Leaves x u) t u xs ys (leaves_same x t u) h k
 
--- A caller made the calls that serve what it was asked, each of which is an entry: it is the same
--- caller, and each store makes at least one entry. At most two are made for a store, one for a
--- flush, and one for each parcel that its taker gained.
+-- A caller made the calls that serve what it was asked, each of which is an entry, and it is the same
+-- caller. At most two are made for a store, one for a flush, and one for each parcel that its taker
+-- gained.
 pub record CallerDid (layout : Shape) (limit : ℕ) (s : CallerState) (asks : List Ask)
     (t : CallerState) : Type 0 where
   pub mark : caller_mark t ≡ caller_mark s
   pub served : HasServed (CountsDid layout) s.counts asks t.counts
   pub stored : stored_by t.counts ≡ stored_by s.counts + count_by is_store_ask asks
-  pub least : made_by s.counts + count_by is_store_ask asks ≤ made_by t.counts
   pub log : LeavesLog s asks t
   pub most : made_by t.counts ≤ made_by s.counts + sum_by (most_for limit) asks
   pub each : MakesFor (made_by s.counts + sum_by (most_for 0) asks) (taken_list s)
@@ -64,7 +63,6 @@ caller_did_none layout limit s = record {
   mark = refl;
   served = record { calls = []; made = (did_nothing s.counts, tt); serves = refl };
   stored = omega arith;
-  least = omega arith;
   log = refl;
   most = omega arith;
   each = record { parcels = []; gained = sym (append-nil (taken_list s)); within = omega arith };
@@ -78,7 +76,6 @@ caller_did_then layout limit s t u xs ys p q = record {
   served = served_then (CountsDid layout) (counts_did_then layout) s.counts t.counts u.counts xs ys
       p.served q.served;
   stored = omega (arith, p.stored, q.stored, count_more is_store_ask xs ys);
-  least = omega (arith, p.least, q.least, count_more is_store_ask xs ys);
   log = left_then (t.mutator ≡ s.mutator) (u.mutator ≡ s.mutator) t u xs ys (λ e h. e ∙ h) p.log
       q.log;
   most = omega (arith, p.most, q.most, sum_by-append (most_for limit) xs ys);

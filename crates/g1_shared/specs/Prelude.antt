@@ -39,7 +39,7 @@ pub use Rattle.g1_log.specs.declared.line.Line.{Line}
 pub use Rattle.g1_log.specs.declared.parcel.Parcel.{Parcel}
 pub use Rattle.g1_steps.specs.Ask.{Ask, AskFlush, AskStore, AskWork, is_store_ask}
 pub use Rattle.g1_records.specs.Records.{gained, own_record, Recorded, recorded}
-pub use Rattle.g1_records.specs.Views.{entries_of}
+pub use Rattle.g1_records.specs.Views.{entries_by}
 pub use Rattle.g1_steps.specs.Made.{CallMade, entries_made, Refined, Refused, Stored}
 pub use Rattle.g1_steps.specs.Opening.{AreNewMutators, IsNewMutator}
 pub use Rattle.g1_steps.specs.Rounds.{IsRound, round_calls, round_size, Turn, turn_call}

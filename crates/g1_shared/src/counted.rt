@@ -1,4 +1,4 @@
-//! A book with the ledgers of its calls and of its stores: what a shared book keeps under its lock.
+//! A book with the ledgers of its calls and of its stores, and the records of its callers: what a shared book keeps under its lock.
 //! Its calls are in [`calls`](crate::calls).
 ghost use Rattle.std.specs.Prelude.{◌≡◌};
 
@@ -10,7 +10,8 @@ use std::marker::Model;
 use std::sync::ledger;
 use std::sync::ledger::Ledger;
 
-/// A book with the totals of its calls and of its stores. Contracts see the book.
+/// A book with the totals of its calls and of its stores, and the records of its callers. Contracts
+/// see the book.
 ///
 /// Each call is the book's call of that name, by the caller's number, with the same reply and
 /// errors. An entered call is counted for its caller, whose record has its entry. A refused one
@@ -39,13 +40,13 @@ impl<M: Terms, S: Ledger, H: Keeps> Model for Counted<M, S, H> {
 }
 
 impl<M: Terms, S: Ledger, H: Keeps> Counted<M, S, H> {
-    ghost use Rattle.std.specs.Prelude.{◌<◌, true, vec_len};
-    ghost use Rattle.g1_shared.specs.Prelude.{List, Entry, entries_of};
+    ghost use Rattle.std.specs.Prelude.{◌<◌, vec_len};
+    ghost use Rattle.g1_shared.specs.Prelude.{List, Entry};
     ghost use Rattle.g1_shared.specs.Counts.{IsRunTo};
-    ghost use Rattle.g1_shared.specs.Callers.{IsTold};
+    ghost use Rattle.g1_shared.specs.Callers.{HasOwn, IsTold};
 
-    /// The book, on the terms that the callers know. A permitted run, which it remembers, led to it
-    /// from the machine that was shared. Constant time.
+    /// The book, on the terms that the callers know. A permitted run, which it remembers, led from
+    /// the table that was shared to its own. Constant time.
     pub fn book(&self) -> &Book<H>
         ensures book { result.now ≡ self.now }
         ensures run { (entries : List Entry) × IsRunTo H.KEEPS M.terms entries self.now }
@@ -53,12 +54,13 @@ impl<M: Terms, S: Ledger, H: Keeps> Counted<M, S, H> {
         &self.book
     }
 
-    /// The record of a caller is what the book has of it, where it keeps its entries: just those
-    /// with the caller's number, in order. This is a fact for proofs, and takes three loads.
+    /// The caller made just the entries with its number, in this order, of a permitted run that led
+    /// to the book: of the book's own entries, where it keeps them. This is a fact for proofs, and
+    /// takes three loads.
     pub fn check(&mut self, caller: &mut Caller<M, S>)
         ensures same { (self.new ≡ self.old) × (caller.new ≡ caller.old) }
-        ensures did { H.KEEPS ≡ true → caller.old.counts.did
-            ≡ entries_of caller.old.counts.number self.old.entries }
+        ensures did { (entries : List Entry) × IsRunTo H.KEEPS M.terms entries self.old
+            × HasOwn entries caller.old }
     {
         self.records.check(&mut caller.counts.own);
     }

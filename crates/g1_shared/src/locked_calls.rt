@@ -19,7 +19,7 @@ use std::sync::ledger::Ledger;
 /// A counted book or core under its lock, which each call takes and leaves, and the counts of the
 /// caller.
 ///
-/// A clause cannot name what is under the lock, so these calls promise only the caller's counts and
+/// A clause cannot name what is under the lock, so these calls promise only the caller's record and
 /// what follows from the arguments.
 #[derive(Drop)]
 pub(crate) struct LockedCalls<'a, R, M: Terms, S: Ledger, H: Keeps> {

@@ -54,7 +54,7 @@ impl<M: Terms, S: Ledger, H: Keeps> Shared<M, S, H> {
 
     /// Waits for the lock, and returns the counted book until the guard is dropped.
     ///
-    /// Whatever the threads did, a permitted run, which the book remembers, leads from the machine
+    /// Whatever the threads did, a permitted run, which the book remembers, leads from the table
     /// that was shared to the one under the lock. What a caller that is shown to the guard has made
     /// are just the entries with its number, in order ([`Counted::check`]).
     pub fn lock<R: Wait>(&self, rt: &R) -> MutexGuard<'_, Counted<M, S, H>>

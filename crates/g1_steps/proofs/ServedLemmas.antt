@@ -1,6 +1,7 @@
 -- Which steps serve what a worker asked for.
-use Rattle.std.specs.Prelude.{◌∷◌}
-use Rattle.g1_steps.specs.{ℕ, List, [], Option, Some, None, refl, sym, subst, inl, inr, append-nil, filter, Ok, Err, Parcel, StoreReply, RefineReply, Refusal, FlushReply, CallMade, Stored, Help, help_calls, IsStored, IsFlushed, Turn, round_calls, IsRound, AskStore, AskFlush, AskWork, was_made, AreRefinements, IsHelp, Serves, HasServed}
+use Rattle.std.specs.Prelude.{◌≡◌, ◌∷◌}
+use Rattle.g1_core.specs.declared.reply.Fill.{Fill}
+use Rattle.g1_steps.specs.{ℕ, List, [], Option, Some, None, refl, sym, subst, inl, inr, append-nil, filter, Ok, Err, Parcel, StoreReply, RefineReply, Refusal, FlushReply, CallMade, Stored, Help, help_calls, IsStored, IsFlushed, Turn, round_calls, IsRound, AskStore, AskFlush, AskWork, was_made, AreRefinements, IsHelp, IsHelpBehind, Serves, HasServed, IsSome, No, Full, Helped}
 use Rattle.g1_steps.specs.Ask.{Ask}
 
 -- one thing that was asked for, served by these calls
@@ -12,8 +13,15 @@ helped cards None = tt
 helped cards (Some (Ok reply)) = tt
 helped cards (Some (Err refusal)) = tt
 
+helped_behind : (cards : List ℕ) (fill : Fill) (help : Help) → (IsSome help → fill ≡ Full) → IsHelpBehind fill (filter was_made (help_calls cards help))
+helped_behind cards Full help full = helped cards help
+helped_behind cards No None full = refl
+helped_behind cards No (Some result) full = absurd (cc (full refl))
+helped_behind cards Helped None full = refl
+helped_behind cards Helped (Some result) full = absurd (cc (full refl))
+
 pub served_store : {S : Type 0} (did : S → List CallMade → S → Type 0) (s : S) (slot : ℕ) (target : Option ℕ) (cards : List ℕ) (reply : StoreReply) (t : S) → IsStored did s slot target cards reply t → HasServed did s (AskStore slot target ∷ []) t
-served_store did s slot target cards reply t h = served_one did s t (AskStore slot target) (Stored slot target h.first ∷ help_calls cards h.help) h.made (refl, refl, helped cards h.help)
+served_store did s slot target cards reply t h = served_one did s t (AskStore slot target) (Stored slot target h.first ∷ help_calls cards h.help) h.made (refl, refl, helped_behind cards h.first.fill h.help h.helps)
 
 pub served_flush : {S : Type 0} (did : S → List CallMade → S → Type 0) (s : S) (cards : List ℕ) (reply : FlushReply) (t : S) → did s [] s → IsFlushed did s cards reply t → HasServed did s (AskFlush ∷ []) t
 served_flush did s cards reply t none (inl h) = subst (HasServed did s (AskFlush ∷ [])) (sym h.2) (served_one did s s AskFlush [] none tt)

@@ -2,7 +2,8 @@
 use Rattle.std.specs.Prelude.{◌≡◌, ◌∷◌, ◌++◌}
 use Rattle.g1_steps.specs.Prelude.{Bool, true, false, List, [], filter, sym, ap, subst, ◌∙◌}
 use Rattle.g1_steps.specs.Prelude.{append_assoc, filter-append, Taker, taken_of, IsSameTaker}
-use Rattle.g1_steps.specs.Prelude.{Refusal}
+use Rattle.g1_steps.specs.Prelude.{Refusal, No, Full, Helped}
+use Rattle.g1_core.specs.declared.reply.Fill.{Fill}
 use Rattle.g1_steps.specs.Made.{CallMade, Stored, Refined, Refused}
 use Rattle.g1_steps.specs.Rounds.{IsRefused}
 use Rattle.g1_steps.specs.Ask.{Ask, AskStore, AskFlush, AskWork}
@@ -26,11 +27,17 @@ IsHelp [] = Unit {0}
 IsHelp (Refined buffer reply ∷ []) = Unit {0}
 IsHelp _ = ⊥
 
+-- A help behind a store that came to this of its log: only one that filled it has a help.
+abbrev pub IsHelpBehind : Fill → List CallMade → Type 0
+IsHelpBehind Full help = IsHelp help
+IsHelpBehind No help = help ≡ []
+IsHelpBehind Helped help = help ≡ []
+
 -- Just these calls are made for what was asked: a store makes its call, and one more where it
 -- helped; a flush one where it helped.
 abbrev pub Serves : Ask → List CallMade → Type 0
 Serves (AskStore slot target) (Stored slot' target' reply ∷ help) =
-    (slot' ≡ slot) × (target' ≡ target) × IsHelp help
+    (slot' ≡ slot) × (target' ≡ target) × IsHelpBehind reply.fill help
 Serves (AskStore slot target) _ = ⊥
 Serves AskFlush help = IsHelp help
 Serves AskWork calls = AreRefinements calls

@@ -88,12 +88,12 @@ impl<M: Terms, S: Ledger, H: Keeps> Shared<M, S, H> {
     /// Ends the sharing and returns the book, once all callers are handed in (docs/rules.md, The
     /// history under a lock).
     ///
-    /// What the callers made was a permitted run, which led from the machine that was shared to the
-    /// one that comes back (`IsTold`): each caller's record is just the entries of this run with
-    /// its number, in their order, each with the reply that it was given, and all entries are of
-    /// these callers. Where the book keeps its entries, they are this run. What is left in logs and
-    /// queue is given up: each card there is pending by its mark, unless it was refined meanwhile.
-    /// No memory is taken.
+    /// What the callers made was a permitted run, which led from the table that was shared to that
+    /// of the book that comes back (`IsTold`): each caller's record is just the entries of this run
+    /// with its number, in their order, each with the reply that it was given, and there are as
+    /// many as the callers made. Where the book keeps its entries, they are this run. What is left
+    /// in logs and queue is given up: each card there is pending by its mark, unless it was refined
+    /// meanwhile. No memory is taken.
     pub fn finish(self, callers: Vec<Caller<M, S>>) -> Book<H>
         requires some { 0 < vec_len callers }
         requires made { vec_len callers ≡ M.parts }

@@ -1,7 +1,7 @@
 use Rattle.std.specs.Prelude.{◌≡◌}
-use Rattle.g1_shared.specs.{[], rules, refl, ap, sym, subst, ◌∙◌, arith, All, List, CallerState, Recorded}
+use Rattle.g1_shared.specs.{[], rules, refl, sym, subst, ◌∙◌, arith, All, HasOwn, Recorded}
 use Rattle.std.proofs.lemmas.List.Elements.{All-nil}
-use Rattle.g1_shared.proofs.ToldLemmas.{Has, has_more, has_on, sums_last}
+use Rattle.g1_shared.proofs.ToldLemmas.{has_more, has_on, sums_last}
 use Rattle.g1_shared.proofs.counted.Counted.end.Goals as goal
 
 pub loop-caller-init : goal.loop-caller-init
@@ -40,7 +40,7 @@ returns-clause-told g c =
       entries = entries;
       run = c.self.invariant.led;
       made = record {
-        each = subst (λ (r : Recorded). All (Has r.entries) c.args.callers.items) same (was.5 (subst (All (Has c.loop-caller.records.entries)) (sym none) (All-nil (Has c.loop-caller.records.entries))));
+        each = subst (λ (r : Recorded). All (HasOwn r.entries) c.args.callers.items) same (was.5 (subst (All (HasOwn c.loop-caller.records.entries)) (sym none) (All-nil (HasOwn c.loop-caller.records.entries))));
         all = sym c.self.invariant.calls ∙ search rules;
         stores = sym c.self.invariant.stores ∙ search rules;
       };
