@@ -7,10 +7,10 @@ ghost use Rattle.g1_shared.specs.Counts.{shared_terms};
 
 use super::*;
 use crate::tests::calls::number_of;
-use g1_book::{Caller, Shared, Terms};
+use g1_book::{Caller, Ledgers, Shared, Terms};
 use std::marker::Brand;
 use std::sync::Wait;
-use std::sync::ledger::{Blank, Ledger};
+use std::sync::ledger::Ledger;
 use steps::{Step, take};
 
 mod answers;
@@ -152,20 +152,19 @@ impl Play for Steps<'_> {
 
 /// The shared book, and its callers.
 fn opened<M: Terms, S: Ledger>(
-    made: Blank,
-    stored: Blank,
+    ledgers: Ledgers,
     book: Book,
     callers: u32,
 ) -> Result<(Shared<M, S>, Vec<Caller<M, S>>), Refusal>
-    requires made { (made.name ≡ M.name) × (made.parts ≡ M.parts) × (made.parts ≡ callers) }
-    requires stored { (stored.name ≡ S.name) × (stored.parts ≡ S.parts) × (stored.parts ≡ callers) }
-    requires terms { shared_terms book ≡ M.terms }
+    requires ledgers { (ledgers.made ≡ M.name) × (ledgers.stored ≡ S.name) }
+    requires parts { (ledgers.parts ≡ callers) × (M.parts ≡ callers) × (S.parts ≡ callers) }
+    requires terms { shared_terms book ledgers.records ≡ M.terms }
     requires empty { book.entries ≡ [] }
     requires callers { (M.terms.mutators ≤ callers) × (callers ≤ 12) }
     ensures len { IfOk result (λ opened. vec_len opened.1 ≡ callers) }
     ensures mine { IfOk result (λ opened. All (IsCallerOf opened.0) opened.1.items) }
 {
-    match Shared::<M, S>::open(made, stored, book, callers) {
+    match Shared::<M, S>::open(ledgers, book, callers) {
         Ok(opened) => Ok(opened),
         Err(_) => Err(Refusal::NoMemory),
     }
@@ -222,19 +221,18 @@ fn bare_callers<M: Terms, S: Ledger>(
 fn share<M: Terms, S: Ledger, P: Play, R: Wait + Abort>(
     rt: &R,
     alloc: Global,
-    made: Blank,
-    stored: Blank,
+    ledgers: Ledgers,
     book: Book,
     callers: u32,
     play: &P,
 ) -> Result<Book, Refusal>
-    requires made { (made.name ≡ M.name) × (made.parts ≡ M.parts) × (made.parts ≡ callers) }
-    requires stored { (stored.name ≡ S.name) × (stored.parts ≡ S.parts) × (stored.parts ≡ callers) }
-    requires terms { shared_terms book ≡ M.terms }
+    requires ledgers { (ledgers.made ≡ M.name) × (ledgers.stored ≡ S.name) }
+    requires parts { (ledgers.parts ≡ callers) × (M.parts ≡ callers) × (S.parts ≡ callers) }
+    requires terms { shared_terms book ledgers.records ≡ M.terms }
     requires empty { book.entries ≡ [] }
     requires callers { (1 ≤ callers) × (M.terms.mutators ≤ callers) × (callers ≤ 12) }
 {
-    let (shared, all) = opened::<M, S>(made, stored, book, callers)?;
+    let (shared, all) = opened::<M, S>(ledgers, book, callers)?;
     let all = played_by(rt, alloc, &shared, all, play)?;
     assert!(rt; all.len() == callers as usize);
     Ok(shared.finish(all))
@@ -266,6 +264,6 @@ fn played<P: Play, R: Wait + Abort>(
     requires { book.entries ≡ [] }
 {
     assert!(rt; 1 <= callers && book.mutators() <= callers && callers <= 12);
-    let (made, stored) = (Blank::new(callers as u64), Blank::new(callers as u64));
-    share::<Brand, Brand, P, R>(rt, alloc, made, stored, book, callers, play)
+    let ledgers = Ledgers::open(alloc, callers)?;
+    share::<Brand, Brand, P, R>(rt, alloc, ledgers, book, callers, play)
 }

@@ -6,13 +6,13 @@ ghost use Rattle.g1_shared.specs.Callers.{IsCallerOf, caller_mark};
 ghost use Rattle.g1_shared.specs.Counts.{AreNone, shared_terms};
 
 use crate::tests::replies::assert_equal;
-use g1_book::{Book, Caller, Refusal, SharedCore, Tallied, Terms};
+use g1_book::{Book, Caller, Ledgers, Refusal, SharedCore, Tallied, Terms};
 use g1_core::{Call, CardList, Config, Core, Reply};
 use g1_layout::{Layout, NoMemory, Slot};
 use std::marker::{Brand, Send};
 use std::process::Abort;
 use std::sync::Wait;
-use std::sync::ledger::{Blank, Ledger};
+use std::sync::ledger::Ledger;
 use std::test::Fail;
 use std::thread;
 use std::thread::Threads;
@@ -158,18 +158,17 @@ fn assert_drains<M: Terms, S: Ledger, R: Wait + Abort>(
 
 /// The shared core, its mutators and refinement thread, and a caller that drains.
 fn opened<M: Terms, S: Ledger>(
-    made: Blank,
-    stored: Blank,
+    ledgers: Ledgers,
     book: Book<Tallied>,
 ) -> Result<(SharedCore<M, S>, Vec<Caller<M, S>>, Caller<M, S>), Refusal>
-    requires made { (made.name ≡ M.name) × (made.parts ≡ M.parts) × (made.parts ≡ 4) }
-    requires stored { (stored.name ≡ S.name) × (stored.parts ≡ S.parts) × (stored.parts ≡ 4) }
-    requires terms { shared_terms book ≡ M.terms }
+    requires ledgers { (ledgers.made ≡ M.name) × (ledgers.stored ≡ S.name) }
+    requires parts { (ledgers.parts ≡ 4) × (M.parts ≡ 4) × (S.parts ≡ 4) }
+    requires terms { shared_terms book ledgers.records ≡ M.terms }
     requires empty { AreNone false book }
     requires two { book.mutators ≡ 2 }
     ensures { IfOk result (λ opened. All (IsCallerOf opened.0) opened.1.items) }
 {
-    let Ok((shared, mut callers)) = SharedCore::<M, S>::open(made, stored, book, CALLERS) else {
+    let Ok((shared, mut callers)) = SharedCore::<M, S>::open(ledgers, book, CALLERS) else {
         return Err(Refusal::NoMemory);
     };
     let drains = callers.take_last();
@@ -206,17 +205,16 @@ fn stopped<M: Terms, S: Ledger, R: Wait>(
 /// Two rounds of all callers in threads with a pause between them, and the book of the core.
 fn play<M: Terms + Send + Sync, S: Ledger + Send + Sync, R: Threads + Wait + Abort + Sync>(
     rt: &R,
-    made: Blank,
-    stored: Blank,
+    ledgers: Ledgers,
     book: Book<Tallied>,
 ) -> Result<Book<Tallied>, Refusal>
-    requires made { (made.name ≡ M.name) × (made.parts ≡ M.parts) × (made.parts ≡ 4) }
-    requires stored { (stored.name ≡ S.name) × (stored.parts ≡ S.parts) × (stored.parts ≡ 4) }
-    requires terms { shared_terms book ≡ M.terms }
+    requires ledgers { (ledgers.made ≡ M.name) × (ledgers.stored ≡ S.name) }
+    requires parts { (ledgers.parts ≡ 4) × (M.parts ≡ 4) × (S.parts ≡ 4) }
+    requires terms { shared_terms book ledgers.records ≡ M.terms }
     requires empty { AreNone false book }
     requires two { book.mutators ≡ 2 }
 {
-    let (shared, callers, mut drains) = opened::<M, S>(made, stored, book)?;
+    let (shared, callers, mut drains) = opened::<M, S>(ledgers, book)?;
     let callers = ran(rt, &shared, callers);
     assert_equal(rt, shared.lock(rt).book().made(), 50);
     assert_equal(rt, shared.lock(rt).book().stored(), 40);
@@ -239,9 +237,9 @@ fn a_shared_core_stops_at_its_limit(rt: HostRuntime) -> Result<(), Fail> {
     let layout = Layout::new(4, 2, 4).expect(&rt, "a layout within the limits");
     let config = Config::new(2, 10, 4, 8, 1).expect(&rt, "settings within the limits");
     let core = Core::new(rt.alloc(), layout, config)?;
-    let (made, stored) = (Blank::new(4), Blank::new(4));
+    let ledgers = Ledgers::open(rt.alloc(), CALLERS)?;
     let book = Book::over(rt.alloc(), core, MUTATORS, LIMIT);
-    let book = play::<Brand, Brand, HostRuntime>(&rt, made, stored, book)?;
+    let book = play::<Brand, Brand, HostRuntime>(&rt, ledgers, book)?;
     assert_equal(&rt, book.made(), LIMIT);
     assert!(rt; 40 <= book.stored() && book.stored() <= 46);
     assert_equal(&rt, book.into_core().status().recorded, 4);

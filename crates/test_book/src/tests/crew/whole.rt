@@ -6,10 +6,10 @@ ghost use Rattle.g1_shared.specs.Callers.{IsCallerOf};
 ghost use Rattle.g1_shared.specs.Counts.{shared_terms};
 
 use super::*;
-use g1_book::{Caller, Job, Script, Shared, SharedDesk, Terms, run_crew};
+use g1_book::{Caller, Job, Ledgers, Script, Shared, SharedDesk, Terms, run_crew};
 use std::marker::{Brand, Send};
 use std::sync::Wait;
-use std::sync::ledger::{Blank, Ledger};
+use std::sync::ledger::Ledger;
 use std::test::Fail;
 use std::thread::Threads;
 
@@ -136,19 +136,18 @@ fn callers_of<'a, R: Abort, M: Terms, S: Ledger>(
 fn run_all<R: Threads + Wait + Sync + Abort, M: Terms + Send + Sync, S: Ledger + Send + Sync>(
     rt: &R,
     alloc: Global,
-    made: Blank,
-    stored: Blank,
+    ledgers: Ledgers,
     book: Book,
 ) -> Result<(Book, u64), Fail>
-    requires made { (made.name ≡ M.name) × (made.parts ≡ M.parts) × (made.parts ≡ 12) }
-    requires stored { (stored.name ≡ S.name) × (stored.parts ≡ S.parts) × (stored.parts ≡ 12) }
-    requires terms { shared_terms book ≡ M.terms }
+    requires ledgers { (ledgers.made ≡ M.name) × (ledgers.stored ≡ S.name) }
+    requires parts { (ledgers.parts ≡ 12) × (M.parts ≡ 12) × (S.parts ≡ 12) }
+    requires terms { shared_terms book ledgers.records ≡ M.terms }
     requires mutators { M.terms.mutators ≡ 8 }
     requires empty { book.entries ≡ [] }
 {
     let layout = book.layout();
     let room = Vec::with_capacity(alloc, CALLERS as usize)?;
-    let Ok((shared, callers)) = Shared::<M, S>::open(made, stored, book, CALLERS) else {
+    let Ok((shared, callers)) = Shared::<M, S>::open(ledgers, book, CALLERS) else {
         return Err(Fail::from(NoMemory));
     };
     let jobs = jobs_of(rt, alloc, layout, &shared, callers)?;
@@ -205,14 +204,8 @@ fn a_crew_makes_all_calls_and_loses_no_reference(rt: HostRuntime) -> Result<(), 
     let layout = Layout::new(REGIONS, 4, 8).expect(&rt, "a layout within the limits");
     let config = Config::new(2, 4, 4, 4, 1).expect(&rt, "settings within the limits");
     let book = Book::open(rt.alloc(), layout, config, MUTATORS, 1_000_000)?;
-    let (made, stored) = (Blank::new(12), Blank::new(12));
-    let (mut book, count) = run_all::<HostRuntime, Brand, Brand>(
-        &rt,
-        rt.alloc(),
-        made,
-        stored,
-        book,
-    )?;
+    let ledgers = Ledgers::open(rt.alloc(), CALLERS)?;
+    let (mut book, count) = run_all::<HostRuntime, Brand, Brand>(&rt, rt.alloc(), ledgers, book)?;
     assert_equal(&rt, book.entries().len() as u64, count);
     assert_equal(&rt, stores_in(&book), 16_000);
     assert!(rt; 16_000 < count);

@@ -5,13 +5,13 @@ ghost use Rattle.g1_shared.specs.Counts.{shared_terms};
 use crate::tests::calls::number_of;
 use crate::tests::replies::assert_equal;
 use crate::tests::{has_cards, stores_in};
-use g1_book::{Book, Caller, Refusal, Shared, Terms};
+use g1_book::{Book, Caller, Ledgers, Refusal, Shared, Terms};
 use g1_core::{Call, ClearReply, Config, Reply};
 use g1_layout::Layout;
 use std::marker::Brand;
 use std::process::Abort;
 use std::sync::Wait;
-use std::sync::ledger::{Blank, Ledger};
+use std::sync::ledger::Ledger;
 use std::test::Fail;
 
 /// Stores slot 8 into slot 0, by the guard, and asks it of the slot and its card.
@@ -61,17 +61,16 @@ fn ask_the_shared_book<M: Terms, S: Ledger, R: Wait + Abort>(
 /// The book, once its one caller has stored and has asked each of the seven calls.
 fn asked<M: Terms, S: Ledger, R: Wait + Abort>(
     rt: &R,
-    made: Blank,
-    stored: Blank,
+    ledgers: Ledgers,
     book: Book,
 ) -> Result<Book, Refusal>
-    requires made { (made.name ≡ M.name) × (made.parts ≡ M.parts) × (made.parts ≡ 1) }
-    requires stored { (stored.name ≡ S.name) × (stored.parts ≡ S.parts) × (stored.parts ≡ 1) }
-    requires terms { shared_terms book ≡ M.terms }
+    requires ledgers { (ledgers.made ≡ M.name) × (ledgers.stored ≡ S.name) }
+    requires parts { (ledgers.parts ≡ 1) × (M.parts ≡ 1) × (S.parts ≡ 1) }
+    requires terms { shared_terms book ledgers.records ≡ M.terms }
     requires empty { book.entries ≡ [] }
 {
     assert!(rt; book.mutators() == 1);
-    let Ok((shared, mut callers)) = Shared::<M, S>::open(made, stored, book, 1) else {
+    let Ok((shared, mut callers)) = Shared::<M, S>::open(ledgers, book, 1) else {
         return Err(Refusal::NoMemory);
     };
     ask_the_guard(rt, &shared, &mut callers[0])?;
@@ -85,8 +84,8 @@ fn a_shared_book_is_asked_by_value(rt: HostRuntime) -> Result<(), Fail> {
     let layout = Layout::new(4, 2, 4).expect(&rt, "a layout within the limits");
     let config = Config::new(2, 10, 4, 8, 1).expect(&rt, "settings within the limits");
     let book = Book::open(rt.alloc(), layout, config, 1, 10)?;
-    let (made, stored) = (Blank::new(1), Blank::new(1));
-    let book = asked::<Brand, Brand, HostRuntime>(&rt, made, stored, book)?;
+    let ledgers = Ledgers::open(rt.alloc(), 1)?;
+    let book = asked::<Brand, Brand, HostRuntime>(&rt, ledgers, book)?;
     assert_equal(&rt, stores_in(&book), 1);
     assert_equal(&rt, book.entries().len(), 8);
     Ok(())

@@ -10,17 +10,16 @@ use std::test::Fail;
 /// after each.
 fn under_one_lock<M: Terms, S: Ledger, R: Wait + Abort>(
     rt: &R,
-    made: Blank,
-    stored: Blank,
+    ledgers: Ledgers,
     book: Book,
 ) -> Result<Book, Refusal>
-    requires made { (made.name ≡ M.name) × (made.parts ≡ M.parts) × (made.parts ≡ 2) }
-    requires stored { (stored.name ≡ S.name) × (stored.parts ≡ S.parts) × (stored.parts ≡ 2) }
-    requires terms { shared_terms book ≡ M.terms }
+    requires ledgers { (ledgers.made ≡ M.name) × (ledgers.stored ≡ S.name) }
+    requires parts { (ledgers.parts ≡ 2) × (M.parts ≡ 2) × (S.parts ≡ 2) }
+    requires terms { shared_terms book ledgers.records ≡ M.terms }
     requires empty { book.entries ≡ [] }
 {
     assert!(rt; book.mutators() == 2);
-    let (shared, mut callers) = opened::<M, S>(made, stored, book, 2)?;
+    let (shared, mut callers) = opened::<M, S>(ledgers, book, 2)?;
     call_by_hand(rt, &shared, &mut callers[0])?;
     assert!(rt; callers.len() == 2);
     Ok(shared.finish(callers))
@@ -51,8 +50,8 @@ fn call_by_hand<M: Terms, S: Ledger, R: Wait + Abort>(
 #[test]
 fn the_guard_makes_the_calls_of_the_book(rt: HostRuntime) -> Result<(), Fail> {
     let book = book(&rt, rt.alloc(), 1, 10, 10)?;
-    let (made, stored) = (Blank::new(2), Blank::new(2));
-    let book = under_one_lock::<Brand, Brand, HostRuntime>(&rt, made, stored, book)?;
+    let ledgers = Ledgers::open(rt.alloc(), 2)?;
+    let book = under_one_lock::<Brand, Brand, HostRuntime>(&rt, ledgers, book)?;
     let wanted = [
         store_entry(&rt, &book, (0, 0, 8), Fill::Full),
         (
@@ -64,5 +63,47 @@ fn the_guard_makes_the_calls_of_the_book(rt: HostRuntime) -> Result<(), Fail> {
         (0, Call::Status, Want::Status(1, 0), [].as_slice()),
     ];
     assert_entries(&rt, &book, &wanted);
+    Ok(())
+}
+
+/// Each caller is shown to the guard before, between and after its two calls.
+#[derive(Clone, Copy)]
+struct Shown;
+
+impl Play for Shown {
+    fn play<M: Terms, S: Ledger, R: Wait + Abort>(
+        &self,
+        rt: &R,
+        callers: &mut [SharedCaller<'_, M, S>],
+    ) -> Result<(), Refusal> {
+        for caller in callers {
+            show(rt, caller)?;
+        }
+        Ok(())
+    }
+}
+
+fn show<M: Terms, S: Ledger, R: Wait + Abort>(
+    rt: &R,
+    caller: &mut SharedCaller<'_, M, S>,
+) -> Result<(), Refusal> {
+    let shared = caller.shared;
+    shared.lock(rt).check(&mut caller.caller);
+    caller.store(rt, 0, 8)?;
+    let mut guard = shared.lock(rt);
+    guard.check(&mut caller.caller);
+    assert_equal(rt, guard.status(&mut caller.caller)?.pending, 1);
+    guard.check(&mut caller.caller);
+    assert_made(rt, &caller.caller, 2, 1);
+    Ok(())
+}
+
+/// A check is no call: a caller and the guard that it was shown to go on as they were.
+#[test]
+fn a_check_leaves_the_guard_and_the_caller(rt: HostRuntime) -> Result<(), Fail> {
+    let book = book(&rt, rt.alloc(), 2, 4, 10)?;
+    let book = played(&rt, rt.alloc(), book, 2, &Shown)?;
+    assert_equal(&rt, stores_in(&book), 2);
+    assert_equal(&rt, book.entries().len(), 4);
     Ok(())
 }

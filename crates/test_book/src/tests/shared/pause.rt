@@ -100,17 +100,16 @@ fn all_stored<M: Terms, S: Ledger, R: Wait + Abort>(
 fn paused<M: Terms, S: Ledger, R: Wait + Abort>(
     rt: &R,
     alloc: Global,
-    made: Blank,
-    stored: Blank,
+    ledgers: Ledgers,
     book: Book,
 ) -> Result<(), Refusal>
-    requires made { (made.name ≡ M.name) × (made.parts ≡ M.parts) × (made.parts ≡ 2) }
-    requires stored { (stored.name ≡ S.name) × (stored.parts ≡ S.parts) × (stored.parts ≡ 2) }
-    requires terms { shared_terms book ≡ M.terms }
+    requires ledgers { (ledgers.made ≡ M.name) × (ledgers.stored ≡ S.name) }
+    requires parts { (ledgers.parts ≡ 2) × (M.parts ≡ 2) × (S.parts ≡ 2) }
+    requires terms { shared_terms book ledgers.records ≡ M.terms }
     requires empty { book.entries ≡ [] }
 {
     assert!(rt; book.mutators() == 2);
-    let (shared, callers) = opened::<M, S>(made, stored, book, 2)?;
+    let (shared, callers) = opened::<M, S>(ledgers, book, 2)?;
     let callers = all_stored(rt, alloc, &shared, callers)?;
     let callers = stopped(rt, &shared, callers);
     assert_equal(rt, shared.lock(rt).book().entries().len(), 6);
@@ -163,7 +162,7 @@ fn assert_emptied<M: Terms, S: Ledger, R: Wait + Abort>(
 #[test]
 fn a_pause_empties_the_logs_of_two_callers_and_the_line(rt: HostRuntime) -> Result<(), Fail> {
     let book = book(&rt, rt.alloc(), 2, 4, 20)?;
-    let (made, stored) = (Blank::new(2), Blank::new(2));
-    paused::<Brand, Brand, HostRuntime>(&rt, rt.alloc(), made, stored, book)?;
+    let ledgers = Ledgers::open(rt.alloc(), 2)?;
+    paused::<Brand, Brand, HostRuntime>(&rt, rt.alloc(), ledgers, book)?;
     Ok(())
 }

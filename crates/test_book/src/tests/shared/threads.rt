@@ -186,17 +186,16 @@ fn run_all<M: Terms + Send + Sync, S: Ledger + Send + Sync, R: Threads + Wait + 
 fn four_threads<M: Terms + Send + Sync, S: Ledger + Send + Sync, R: Threads + Wait + Abort + Sync>(
     rt: &R,
     alloc: Global,
-    made: Blank,
-    stored: Blank,
+    ledgers: Ledgers,
     book: Book,
 ) -> Result<(Book, Vec<Record>), Refusal>
-    requires made { (made.name ≡ M.name) × (made.parts ≡ M.parts) × (made.parts ≡ 4) }
-    requires stored { (stored.name ≡ S.name) × (stored.parts ≡ S.parts) × (stored.parts ≡ 4) }
-    requires terms { shared_terms book ≡ M.terms }
+    requires ledgers { (ledgers.made ≡ M.name) × (ledgers.stored ≡ S.name) }
+    requires parts { (ledgers.parts ≡ 4) × (M.parts ≡ 4) × (S.parts ≡ 4) }
+    requires terms { shared_terms book ledgers.records ≡ M.terms }
     requires empty { book.entries ≡ [] }
 {
     assert!(rt; book.mutators() == 4);
-    let (shared, callers) = opened::<M, S>(made, stored, book, 4)?;
+    let (shared, callers) = opened::<M, S>(ledgers, book, 4)?;
     let (callers, records) = run_four(rt, alloc, &shared, callers)?;
     assert!(rt; callers.len() == 4);
     Ok((shared.finish(callers), records))
@@ -276,12 +275,11 @@ fn assert_all_recorded(rt: &impl Abort, book: &Book, records: &[Record]) {
 fn replies_are_entries(rt: HostRuntime) -> Result<(), Fail> {
     let layout = Layout::new(4, 2, 4).expect(&rt, "a layout within the limits");
     let book = Book::open(rt.alloc(), layout, Config::default(), 4, 200)?;
-    let (made, stored) = (Blank::new(4), Blank::new(4));
+    let ledgers = Ledgers::open(rt.alloc(), 4)?;
     let (book, records) = four_threads::<Brand, Brand, HostRuntime>(
         &rt,
         rt.alloc(),
-        made,
-        stored,
+        ledgers,
         book,
     )?;
     for record in &records {
