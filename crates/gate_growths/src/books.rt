@@ -60,25 +60,24 @@ pub(crate) enum Ask<'a> {
 }
 
 impl Ask<'_> {
-    /// The name of the call of a book, and of that of a shared book, which asks for no store and no
-    /// refinement.
-    pub(crate) fn names(&self) -> (&'static str, &'static str) {
+    // The name of the call.
+    fn name(&self) -> &'static str {
         match self {
-            Ask::Store(..) => ("Book::store", "no call"),
-            Ask::Refine(_) => ("Book::refine", "no call"),
-            Ask::Target(_) => ("Book::target", "Shared::target"),
-            Ask::Pending(_) => ("Book::is_pending", "Shared::is_pending"),
-            Ask::Members(_) => ("Book::members", "Shared::members"),
-            Ask::Status => ("Book::status", "Shared::status"),
-            Ask::Drain(_) => ("Book::drain", "Shared::drain"),
-            Ask::Clear(_) => ("Book::clear", "Shared::clear"),
-            Ask::Redirect(..) => ("Book::redirect", "Shared::redirect"),
+            Ask::Store(..) => "Book::store",
+            Ask::Refine(_) => "Book::refine",
+            Ask::Target(_) => "Book::target",
+            Ask::Pending(_) => "Book::is_pending",
+            Ask::Members(_) => "Book::members",
+            Ask::Status => "Book::status",
+            Ask::Drain(_) => "Book::drain",
+            Ask::Clear(_) => "Book::clear",
+            Ask::Redirect(..) => "Book::redirect",
         }
     }
 }
 
-/// The call by its value, which is no store and no refinement.
-pub(crate) fn call_of(layout: &Layout, ask: Ask<'_>) -> Result<Call, Failure>
+// The call by its value, which is no store and no refinement.
+fn call_of(layout: &Layout, ask: Ask<'_>) -> Result<Call, Failure>
     ensures { IfOk result (IsAsked layout.now) }
 {
     Ok(match ask {
@@ -154,38 +153,25 @@ impl NumberedBook {
         answer: Answer<'_>,
         before: Before<'_>,
     ) -> Result<(), Failure> {
-        let Some(done) = self.attempt(rt, ask, Some(order), answer)? else {
+        let Some(done) = self.attempt(rt, ask, order, answer)? else {
             return Ok(());
         };
         let (first, rest) = order.split_at_checked(done).ok_or(Failure::Wrong)?;
         self.is_left(rt, before, first)?;
-        let again = self.attempt(rt, ask, Some(rest), answer)?;
+        let again = self.attempt(rt, ask, rest, answer)?;
         check(rt, again.is_none(), "a call of a book was refused twice")
     }
 
-    /// Drains each region, whatever is pending, and compares its set. A refused or short drain is
-    /// made again.
-    pub(crate) fn has_sets(&mut self, rt: &impl Eprint, sets: &[&[u32]; 4]) -> Result<(), Failure> {
-        for (of, set) in (0..4).zip(sets) {
-            let (ask, answer) = (Ask::Drain(of), Answer::Cards(set));
-            if self.attempt(rt, ask, None, answer)?.is_some() {
-                let again = self.attempt(rt, ask, None, answer)?;
-                check(rt, again.is_none(), "a drain was refused twice")?;
-            }
-        }
-        Ok(())
-    }
-
     // Makes the call once. Answers `None` where it was whole, and else how many cards were refined,
-    // which are the first ones of the order, if there is one.
+    // which are the first ones of the order.
     fn attempt(
         &mut self,
         rt: &impl Eprint,
         ask: Ask<'_>,
-        order: Option<&[u32]>,
+        order: &[u32],
         answer: Answer<'_>,
     ) -> Result<Option<usize>, Failure> {
-        let (name, _) = ask.names();
+        let name = ask.name();
         let entries = self.book.entries().len();
         let cards = self.log.len();
         match self.call(ask) {
@@ -266,13 +252,13 @@ impl NumberedBook {
     }
 }
 
-/// Whether the entry is that of the call of this name. Answers `None` where the call was whole, and
-/// else how many cards it refined.
-pub(crate) fn entered(
+// Whether the entry is that of the call of this name. Answers `None` where the call was whole, and
+// else how many cards it refined.
+fn entered(
     rt: &impl Eprint,
     call: &str,
     entry: &Entry,
-    order: Option<&[u32]>,
+    order: &[u32],
     answer: Answer<'_>,
 ) -> Result<Option<usize>, Failure> {
     check(rt, entry.caller == 0, "whose entry it is")?;
@@ -281,11 +267,8 @@ pub(crate) fn entered(
     if is_short {
         short(rt, call, refined.len());
     }
-    if let Some(order) = order {
-        let is = order.starts_with(refined.as_slice())
-            && (is_short || order.len() == refined.len());
-        check(rt, is, "which cards were refined")?;
-    }
+    let is = order.starts_with(refined.as_slice()) && (is_short || order.len() == refined.len());
+    check(rt, is, "which cards were refined")?;
     if is_short {
         return Ok(Some(refined.len()));
     }

@@ -24,12 +24,9 @@ mod machinery;
 mod numbers;
 mod outcome;
 mod pause;
-mod plans;
 mod race;
 mod sets;
 mod shared;
-mod shared_core;
-mod sharing;
 
 use outcome::{Failure, told};
 use std::process::ExitCode;
@@ -52,12 +49,8 @@ fn play<R: Wait + Print + Eprint + AllocGlobal>(rt: &R) -> Result<(), Failure> {
     machinery::play(rt)?;
     history::play(rt)?;
     told(rt, "callers at a line", line::new_callers(rt))?;
-    shared::play(rt)?;
-    told(
-        rt,
-        "a core that is shared",
-        shared_core::asked_and_ended(rt),
-    )?;
+    told(rt, "a book that is shared", shared::book(rt))?;
+    told(rt, "a core that is shared", shared::core(rt))?;
     told(rt, "a race", race::untouched(rt))?;
     told(rt, "a drain at a pause", pause::drained(rt))?;
     told(rt, "a redirect at a pause", pause::redirected(rt))?;

@@ -1,154 +1,93 @@
-//! The caller of a shared book: sharing it and each call of the caller take memory.
-ghost use Rattle.std.specs.Prelude.{◌≡◌, []};
+//! A book and a core that are shared: making the ledgers and sharing take memory. What a refused
+//! call under the lock leaves is proved.
+ghost use Rattle.std.specs.Prelude.{◌≡◌, IfErr};
+ghost use Rattle.g1_shared.specs.Counts.{AreNone, shared_terms};
 
-mod caller;
-
-use crate::books::{Answer, Ask, NumberedBook, new_book, settings};
-use crate::outcome::{Failure, check, refused, told};
-use crate::plans::{FLUSH, FOUR_STORES, FOUR_TO_MOVE, HELP, OPEN, Plan, ROUND, TAKE};
-use crate::sharing::{Plays, share};
-use caller::{Call, SharedCaller};
-use g1_book::{Book, Caller, Shared, Terms};
-use g1_log::Log;
+use crate::books::{new_book, settings};
+use crate::cores::steps::Step::{Refine, Store};
+use crate::cores::steps::take;
+use crate::cores::{is_left, new_core, state_of};
+use crate::outcome::{Failure, check, refused};
+use crate::race::REFERENCES;
+use g1_book::{Book, Keeps, Ledgers, Shared, Terms};
+use g1_layout::NoMemory;
+use std::marker::Brand;
 use std::sync::Wait;
 use std::sync::ledger::Ledger;
 
-// What the caller of a shared book does at its line.
-static PLANS: [(&str, Plan); 5] = [
-    ("a shared book", OPEN),
-    ("a shared mutator that helps", HELP),
-    ("a shared flush that helps", FLUSH),
-    ("a shared buffer of the line", TAKE),
-    ("a shared round of refinement", ROUND),
-];
-
-/// What the caller does first, and its calls then, at one book or at several.
-struct Scenario {
-    name: &'static str,
-    plan: Plan,
-    books: &'static [&'static [Call]],
-}
-
-// The cards of the four stores.
-const PENDING: &[u32] = &[0, 1, 2, 7];
-
-static SCENARIOS: [Scenario; 5] = [
-    // Each question is the fifth entry of a book of its own.
-    Scenario {
-        name: "the questions of a shared book",
-        plan: FOUR_STORES,
-        books: &[
-            &[(Ask::Target(4), &[], Answer::Target(Some(16)))],
-            &[(Ask::Pending(2), &[], Answer::Pending(true))],
-            &[(Ask::Status, &[], Answer::Status(4, 0))],
-        ],
-    },
-    Scenario {
-        name: "the members of a shared region",
-        plan: FOUR_STORES,
-        books: &[&[
-            (Ask::Drain(3), PENDING, Answer::Cards(&[0, 2])),
-            (Ask::Members(3), &[], Answer::Cards(&[0, 2])),
-        ]],
-    },
-    Scenario {
-        name: "a drain of a shared book",
-        plan: FOUR_STORES,
-        books: &[&[(Ask::Drain(3), PENDING, Answer::Cards(&[0, 2]))]],
-    },
-    // The clear of a region that nothing refers into is the ninth entry.
-    Scenario {
-        name: "a clear of a shared book",
-        plan: FOUR_STORES,
-        books: &[&[
-            (Ask::Drain(3), PENDING, Answer::Cards(&[0, 2])),
-            (Ask::Status, &[], Answer::Status(0, 4)),
-            (Ask::Status, &[], Answer::Status(0, 4)),
-            (Ask::Status, &[], Answer::Status(0, 4)),
-            (Ask::Clear(1), &[], Answer::Cleared),
-        ]],
-    },
-    Scenario {
-        name: "a redirect of a shared book",
-        plan: FOUR_TO_MOVE,
-        books: &[&[(Ask::Redirect(3, 2), PENDING, Answer::Moved(2))]],
-    },
-];
-
-pub(crate) fn play<R: Wait + Print + Eprint + AllocGlobal>(rt: &R) -> Result<(), Failure> {
-    for (name, plan) in &PLANS {
-        told(rt, name, at_book(rt, plan, &[]))?;
-    }
-    for scenario in &SCENARIOS {
-        told(rt, scenario.name, at_books(rt, scenario))?;
-    }
-    Ok(())
-}
-
-fn at_books<R: Wait + Eprint + AllocGlobal>(rt: &R, scenario: &Scenario) -> Result<(), Failure> {
-    for calls in scenario.books {
-        at_book(rt, &scenario.plan, calls)?;
-    }
-    Ok(())
-}
-
-// Plays at a new book, and drains each of its regions when it comes back.
-fn at_book<R: Wait + Eprint + AllocGlobal>(
-    rt: &R,
-    plan: &Plan,
-    calls: &[Call],
-) -> Result<(), Failure> {
-    let book = new_book(rt, settings(plan.log, plan.limit)?)?;
-    let book = played(rt, book, plan, calls)?;
-    let log = Log::new(8);
-    let mut kept = NumberedBook { book, log };
-    kept.has_sets(rt, &plan.sets)
-}
-
-// Shares the book for a plan, again where that is refused, which gives the book back as it was.
-fn played<R: Wait + Eprint>(
-    rt: &R,
-    book: Book,
-    plan: &Plan,
-    calls: &[Call],
-) -> Result<Book, Failure>
-    requires { (book.entries ≡ []) × (book.mutators ≡ 1) }
-{
-    let planned = PlannedCalls { plan, calls };
-    let (book, made) = match share(rt, book, &planned)? {
-        Ok(ended) => ended,
+/// A new book is shared, and is new when it comes back; also where that is refused.
+pub(crate) fn book<R: Wait + Eprint + AllocGlobal>(rt: &R) -> Result<(), Failure> {
+    let book = match share(rt, new_book(rt, settings(8, 4)?)?) {
+        Ok(book) => book,
         Err(book) => {
-            refused(rt, "Shared::open");
-            let is_new = book.entries().is_empty() && book.mutators() == 1;
-            check(rt, is_new, "what a refused sharing left")?;
-            let Ok(ended) = share(rt, book, &planned)? else {
-                return Err(Failure::NoMemory);
-            };
-            ended
+            check(rt, is_new(&book), "what a refused sharing left")?;
+            share(rt, book).map_err(|_| Failure::NoMemory)?
         }
     };
-    let is = book.entries().len() as u64 == made;
-    check(rt, is, "how many entries came back")?;
-    Ok(book)
+    check(rt, is_new(&book), "what a sharing left")
 }
 
-// The steps of a plan, and the calls then.
-#[derive(Clone, Copy)]
-struct PlannedCalls<'a> {
-    plan: &'a Plan,
-    calls: &'a [Call],
+fn is_new(book: &Book) -> bool {
+    book.entries().is_empty() && book.mutators() == 1
 }
 
-impl Plays<g1_book::Kept> for PlannedCalls<'_> {
-    fn play<M: Terms, S: Ledger, R: Wait + Eprint>(
-        &self,
-        rt: &R,
-        shared: &Shared<M, S>,
-        caller: Caller<M, S>,
-    ) -> Result<Caller<M, S>, Failure> {
-        let mut playing = SharedCaller { shared, caller };
-        playing.play(rt, self.plan, self.calls)?;
-        let SharedCaller { shared: _, caller } = playing;
-        Ok(caller)
+/// A core whose three cards are recorded is shared without a history, and comes back as it was;
+/// also where that is refused.
+pub(crate) fn core<R: Wait + Eprint + AllocGlobal>(rt: &R) -> Result<(), Failure> {
+    let mut core = new_core(rt, 4, 4)?;
+    let steps = [Store(&REFERENCES), Refine(&[0, 1, 2], &[0, 1, 2], 0)];
+    take(rt, &mut core, &steps)?;
+    let before = state_of(&mut core)?;
+    let book = Book::over(rt.alloc(), core, 1, u64::MAX);
+    let mut core = match share(rt, book) {
+        Ok(book) => book.into_core(),
+        Err(book) => {
+            let mut core = book.into_core();
+            is_left(rt, &mut core, &before, &[])?;
+            let book = Book::over(rt.alloc(), core, 1, u64::MAX);
+            let again = share(rt, book);
+            again.map_err(|_| Failure::NoMemory)?.into_core()
+        }
+    };
+    is_left(rt, &mut core, &before, &[])
+}
+
+// Shares the book and ends that at once. Where its ledgers or the sharing are refused, it says so,
+// and the book is the error.
+fn share<H: Keeps, R: Eprint>(rt: &R, book: Book<H>) -> Result<Book<H>, Book<H>>
+    requires empty { AreNone H.KEEPS book }
+    requires mutators { book.mutators ≡ 1 }
+    ensures { IfErr result (λ back. back ≡ book) }
+{
+    let Ok(ledgers) = Ledgers::open(book.allocator(), 1) else {
+        refused(rt, "Ledgers::open");
+        return Err(book);
+    };
+    share_by::<Brand, Brand, H, R>(rt, ledgers, book)
+}
+
+fn share_by<M: Terms, S: Ledger, H: Keeps, R: Eprint>(
+    rt: &R,
+    ledgers: Ledgers,
+    book: Book<H>,
+) -> Result<Book<H>, Book<H>>
+    requires ledgers { (ledgers.made ≡ M.name) × (ledgers.stored ≡ S.name) }
+    requires parts { (ledgers.parts ≡ 1) × (M.parts ≡ 1) × (S.parts ≡ 1) }
+    requires terms { shared_terms book ledgers.records ≡ M.terms }
+    requires empty { AreNone H.KEEPS book }
+    requires mutators { book.mutators ≡ 1 }
+    ensures { IfErr result (λ back. back ≡ book) }
+{
+    match Shared::<M, S, H>::open(ledgers, book, 1) {
+        Ok((shared, callers)) => Ok(shared.finish(callers)),
+        Err((book, NoMemory)) => {
+            let call = if H::KEEPS {
+                "Shared::open"
+            } else {
+                "SharedCore::open"
+            };
+            refused(rt, call);
+            Err(book)
+        }
     }
 }
