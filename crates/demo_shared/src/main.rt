@@ -16,14 +16,14 @@ mod pause;
 
 use anyhow::{Context, Result, bail};
 use callers::{MutatorStores, run};
-use g1_book::{Book, Shared, Terms};
+use g1_book::{Book, Ledgers, Shared, Terms};
 use g1_core::{Call, Config, Settings};
 use g1_layout::Layout;
 use pause::evacuate;
 use std::alloc::Global;
 use std::marker::{Brand, Send};
 use std::sync::Wait;
-use std::sync::ledger::{Blank, Ledger};
+use std::sync::ledger::Ledger;
 use std::thread::Threads;
 
 // Up to the first pause slots 0, 4 and 16 of cards 0, 1 and 4 come to refer into region 1, and no
@@ -54,8 +54,8 @@ fn main(rt: HostRuntime) -> Result<()> {
     })
     .context("a setting outside its limits")?;
     let book = Book::open(rt.alloc(), layout, config, 3, 1_000)?;
-    let (made, stored) = (Blank::new(5), Blank::new(5));
-    let book = live::<HostRuntime, Brand, Brand>(&rt, rt.alloc(), made, stored, book)?;
+    let ledgers = Ledgers::open(rt.alloc(), 5)?;
+    let book = live::<HostRuntime, Brand, Brand>(&rt, rt.alloc(), ledgers, book)?;
     // each store is one entry: 9 up to the first pause, and 6 up to the second
     println!(&rt; "{} stores in the history", count_stores(&book))?;
     Ok(())
@@ -73,17 +73,16 @@ fn count_stores(book: &Book) -> usize {
 fn live<R: Threads + Wait + Sync + Print, M: Terms + Send + Sync, S: Ledger + Send + Sync>(
     rt: &R,
     alloc: Global,
-    made: Blank,
-    stored: Blank,
+    ledgers: Ledgers,
     book: Book,
 ) -> Result<Book>
-    requires made { (made.name ≡ M.name) × (made.parts ≡ M.parts) × (made.parts ≡ 5) }
-    requires stored { (stored.name ≡ S.name) × (stored.parts ≡ S.parts) × (stored.parts ≡ 5) }
-    requires terms { shared_terms book ≡ M.terms }
+    requires ledgers { (ledgers.made ≡ M.name) × (ledgers.stored ≡ S.name) }
+    requires parts { (ledgers.parts ≡ 5) × (M.parts ≡ 5) × (S.parts ≡ 5) }
+    requires terms { shared_terms book ledgers.records ≡ M.terms }
     requires mutators { M.terms.mutators ≡ 3 }
     requires empty { book.entries ≡ [] }
 {
-    let Ok((shared, callers)) = Shared::<M, S>::open(made, stored, book, 5) else {
+    let Ok((shared, callers)) = Shared::<M, S>::open(ledgers, book, 5) else {
         bail!("out of memory");
     };
     let callers = run(rt, alloc, &shared, callers, &FIRST)?;
