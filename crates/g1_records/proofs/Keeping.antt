@@ -5,7 +5,7 @@ use lib.ListN.{get_elem?}
 use Rattle.atomic_table.proofs.Lists.{at_set}
 use Rattle.g1_core.specs.declared.entry.Entry.{Entry}
 use Rattle.g1_records.specs.declared.view.View.{View}
-use Rattle.g1_records.specs.Views.{entries_by, keeper, caller_view, both_with, nobody, keeper_in, Fits, AreExact}
+use Rattle.g1_records.specs.Views.{entries_by, keeper, caller_view, both_with, nobody, Fits, AreExact}
 
 off : false ≡ true → ⊥
 off e = true≢false (sym e)

@@ -1,5 +1,5 @@
 -- What the calls of a step ask.
-use Rattle.std.proofs.Common.{◌≡◌, ℕ, ◌+◌, ◌<◌, List, [], ◌∷◌, set, true, false, refl, sym, ap, ◌∙◌, inl, inr, arith, append-nil}
+use Rattle.std.proofs.Common.{◌≡◌, ℕ, ◌+◌, ◌<◌, List, [], ◌∷◌, true, false, refl, sym, ap, ◌∙◌, inl, inr, arith, append-nil}
 use Rattle.atomic_table.specs.Table.{State, Allows, Splits, Joins, keeps}
 use Rattle.g1_core.specs.declared.entry.Entry.{Entry}
 use Rattle.g1_records.specs.declared.view.View.{View}

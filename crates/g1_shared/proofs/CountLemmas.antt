@@ -1,6 +1,6 @@
 -- How counts grow, and what a round does at a shared book and at a desk of it.
 use Rattle.std.specs.Prelude.{◌≡◌, ◌+◌, ◌-◌, ◌/◌, ◌≤◌, if◌then◌else◌, ◌∷◌, ◌++◌}
-use Rattle.g1_shared.specs.{ℕ, Bool, true, false, cond, nat_lt, Option, Some, None, List, [], length, map, refl, sym, subst, ap, ◌∙◌, arith, append_assoc, append-nil, length-append, count_by, Result, Ok, Err, IfOk, OnOk, Line, capacity_of, SharedTerms, AskWork, CallerState, RefinesBy, WorksBy, CallerMark, caller_mark, taken_list, DeskDid, inl, inr, Mutator, length-map, sum_by-append, Shape, Parcel, Taker, taken_of, RefineReply, Entry, Refusal, CallMade, Refused, GainsAtMost, Turn, round_calls, round_size, IsRound, CallerCounts, refine_entry, entries_made, did_more, did_nothing, made_by, stored_by, CountsDid, is_store, MakesFor}
+use Rattle.g1_shared.specs.{ℕ, Bool, true, false, cond, nat_lt, Option, Some, None, List, [], length, map, refl, sym, subst, ap, ◌∙◌, arith, append_assoc, append-nil, length-append, count_by, Result, Ok, Err, IfOk, OnOk, Line, capacity_of, SharedTerms, AskWork, CallerState, RefinesBy, WorksBy, CallerMark, caller_mark, taken_list, DeskDid, inl, inr, Mutator, length-map, sum_by-append, Shape, Parcel, Taker, taken_of, RefineReply, Entry, Refusal, CallMade, GainsAtMost, Turn, round_calls, round_size, IsRound, CallerCounts, refine_entry, entries_made, did_more, did_nothing, made_by, stored_by, CountsDid, is_store, MakesFor}
 use Rattle.g1_log.specs.Ends.{IsSameTaker}
 use Rattle.g1_steps.specs.Marks.{mutator_mark}
 use Rattle.g1_steps.specs.Rounds.{IsRefused, IsWorkStep}

@@ -1,6 +1,6 @@
 -- What a store and a flush do to a caller whose counts tell of their calls.
 use Rattle.std.specs.Prelude.{◌≡◌, ◌≤◌, ◌+◌, ◌∷◌, ◌++◌}
-use Rattle.g1_shared.specs.{ℕ, List, [], Option, Some, None, Result, Ok, Err, OnOk, length, count_by, cond, refl, sym, ap, subst, ◌∙◌, arith, append-nil, inl, inr, Shape, Entry, RefineReply, StoreReply, Stored, CallMade, Help, help_calls, entries_made, store_entry, is_store, CallerCounts, did_nothing, CountsDid, CallerState, caller_mark, taken_list, mutator_log, OfMutators, StoresBy, FlushesBy, DeskDid, AskStore, AskFlush, Line, capacity_of, Taker, taken_of, Mutator, Refusal, card_of, MakesFor}
+use Rattle.g1_shared.specs.{ℕ, List, [], Option, Some, None, Result, Ok, Err, OnOk, length, count_by, cond, refl, sym, ap, subst, ◌∙◌, arith, append-nil, inl, inr, Shape, Entry, StoreReply, CallMade, Help, help_calls, entries_made, store_entry, is_store, CallerCounts, did_nothing, CountsDid, CallerState, caller_mark, taken_list, mutator_log, OfMutators, StoresBy, FlushesBy, DeskDid, AskStore, AskFlush, Line, capacity_of, Taker, taken_of, Mutator, Refusal, card_of}
 use Rattle.g1_log.specs.Log.{Cards}
 use Rattle.g1_steps.specs.Steps.{IsFlushed, IsStoreStep, IsFlushStep}
 use Rattle.g1_steps.specs.declared.steps.mutator.FlushReply.{FlushReply}

@@ -1,6 +1,6 @@
 -- What callers made that are handed in one after the other.
 use Rattle.std.specs.Prelude.{◌≡◌, ◌+◌, ◌∷◌, ◌++◌}
-use Rattle.g1_shared.specs.{ℕ, List, [], All, ap, sym, subst, ◌∙◌, Entry, CallerState, Recorded, own_record, entries_by, HasOwn, made_by, stored_by, sum_by, sum_by-append, arith}
+use Rattle.g1_shared.specs.{ℕ, List, [], All, ap, sym, subst, ◌∙◌, CallerState, Recorded, own_record, entries_by, HasOwn, made_by, stored_by, sum_by, sum_by-append, arith}
 use Rattle.atomic_table.specs.Seated.{TableId}
 use Rattle.g1_records.specs.Records.{OwnRecord}
 use Rattle.std.proofs.lemmas.List.Elements.{All-push}

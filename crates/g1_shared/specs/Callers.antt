@@ -1,10 +1,10 @@
 -- A caller of a shared book as contracts see it, and what the steps do to it.
-use Rattle.std.specs.Prelude.{◌≡◌, ◌≢◌, ◌+◌, ◌<◌, ◌≤◌, ◌⊎◌, ◌↔◌, ◌∷◌, ◌++◌}
-use Rattle.g1_shared.specs.Prelude.{ℕ, Bool, true, false, List, [], length, Option, Some, None}
-use Rattle.g1_shared.specs.Prelude.{IfSome, IsSome, IsNone, Result, OnOk, OnErr, Shape, Line, Taker}
+use Rattle.std.specs.Prelude.{◌≡◌, ◌+◌, ◌<◌, ◌≤◌, ◌∷◌, ◌++◌}
+use Rattle.g1_shared.specs.Prelude.{ℕ, Bool, List, [], length, Option, Some, None}
+use Rattle.g1_shared.specs.Prelude.{IfSome, IsSome, Result, OnErr, Shape, Line, Taker}
 use Rattle.g1_shared.specs.Prelude.{Parcel, line_home, capacity_of, put_of, taken_of, StoreReply}
-use Rattle.g1_shared.specs.Prelude.{IsLent, logged, buffer_of, MayRefuse, RefineReply, No, Full}
-use Rattle.g1_shared.specs.Prelude.{Helped, Mutator, Refusal, GainsAtMost}
+use Rattle.g1_shared.specs.Prelude.{IsLent, RefineReply}
+use Rattle.g1_shared.specs.Prelude.{Mutator, Refusal, GainsAtMost}
 use Rattle.g1_shared.specs.Prelude.{IsNewMutator, sender_rights, sum_by, taker_rights, whole, All}
 use Rattle.g1_shared.specs.Prelude.{IfOk, Entry, Call, Reply, asked_entry, card_of, is_store}
 use Rattle.g1_shared.specs.Prelude.{count_by, entries_by, History}
@@ -12,8 +12,6 @@ use Rattle.g1_steps.specs.Rounds.{IsWorkStep}
 use Rattle.g1_steps.specs.Steps.{IsRefineStep, IsStoreStep, IsFlushStep}
 use Rattle.g1_log.specs.declared.buffer.Buffer.{Buffer}
 use Rattle.g1_log.specs.Log.{Cards}
-use Rattle.g1_core.specs.declared.reply.Fill.{Fill}
-use Rattle.g1_shared.specs.Answers.{IsReplyAt}
 use Rattle.g1_shared.specs.Counts.{CallerCounts, SharedTerms, CountsDid, did_more, made_by}
 use Rattle.g1_shared.specs.Counts.{stored_by, IsRunTo}
 use Rattle.g1_steps.specs.Marks.{MutatorMark, TakerMark, mutator_mark, taker_mark}

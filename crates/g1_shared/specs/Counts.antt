@@ -2,7 +2,7 @@
 use Rattle.std.specs.Prelude.{◌≡◌, ◌+◌, ◌∷◌, ◌++◌}
 use Rattle.g1_shared.specs.Prelude.{ℕ, Bool, true, false, List, [], refl, sym, ap, ◌∙◌, length}
 use Rattle.g1_shared.specs.Prelude.{append-nil, append_assoc, count_by, Shape, Entry}
-use Rattle.g1_shared.specs.Prelude.{Machine, IsPermitted, table_after, Table, History, BookTerms}
+use Rattle.g1_shared.specs.Prelude.{Machine, IsPermitted, table_after, History, BookTerms}
 use Rattle.g1_shared.specs.Prelude.{is_store, terms_of, table_in, layout_in, fold, CallMade, Stored}
 use Rattle.g1_shared.specs.Prelude.{Refined, Refused, entries_made, Recorded}
 use Rattle.g1_shared.specs.Prelude.{store_entry, refine_entry}

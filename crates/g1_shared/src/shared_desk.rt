@@ -1,5 +1,5 @@
 //! A desk at a shared book.
-ghost use Rattle.std.specs.Prelude.{◌≡◌, ◌≤◌};
+ghost use Rattle.std.specs.Prelude.{◌≡◌};
 ghost use Rattle.g1_shared.specs.Prelude.{refl, nat_lt, slot_count, capacity_of, Ok};
 ghost use Rattle.std.proofs.Props.{props};
 ghost use Rattle.g1_shared.specs.Callers.{IsCallerOf, StoresBy, FlushesBy, WorksBy};

@@ -1,6 +1,6 @@
 //! The jobs of a crew, and the book that they leave.
 ghost use Rattle.std.specs.Prelude.{◌≡◌, ◌+◌, ◌≤◌, ◌^◌, ◌<◌};
-ghost use Rattle.g1_replay.specs.{[], true, length, IfErr, IfOk, All, map, count_by, sum_by};
+ghost use Rattle.g1_replay.specs.{[], true, IfErr, IfOk, All, map, count_by, sum_by};
 ghost use Rattle.g1_replay.specs.{vec_len, vec_capacity, IsCallerOf, is_store, kept_terms};
 ghost use Rattle.g1_replay.specs.{shared_terms, terms_of, slot_count, StepFits, AllFrom};
 ghost use Rattle.g1_replay.specs.{IsUnstarted, first_refusal, HasCome, IsScriptAt, stored_by};

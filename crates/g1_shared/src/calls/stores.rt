@@ -1,7 +1,7 @@
 //! Stores and refinement under the lock. Those of a [`Shared`](crate::Shared) are steps of its
 //! callers, which take more than one call.
 ghost use Rattle.std.specs.Prelude.{◌≡◌, ◌+◌, ◌<◌, ◌∷◌};
-ghost use Rattle.g1_shared.specs.{IfOk, OnErr, OnOk, IfSome, IsNone, option_map, slot_count};
+ghost use Rattle.g1_shared.specs.{IfOk, OnErr, IfSome, IsNone, option_map, slot_count};
 ghost use Rattle.g1_shared.specs.{card_of, store_entry, refine_entry, IsLent, DoesStore};
 ghost use Rattle.g1_shared.specs.{DoesRefine, MakesCall, made_of, IsKindAt, IsReplyAt};
 ghost use Rattle.g1_shared.specs.{did_more, gained, is_store, false, [], CallsOnce, HandsOut};

@@ -2,7 +2,7 @@
 ghost use Rattle.std.specs.Prelude.{◌≡◌, ◌<◌, ◌≤◌};
 ghost use Rattle.g1_shared.specs.{ℕ, sum_by, slice_index_or, IfOk, IfErr, vec_len, vec_capacity};
 ghost use Rattle.g1_shared.specs.{All, capacity_of, IsNewTaker, made_of, stored_of, terms_of};
-ghost use Rattle.g1_shared.specs.{table_in, AreNewMutators, CallerState, IsNewCaller, AreNone};
+ghost use Rattle.g1_shared.specs.{AreNewMutators, CallerState, IsNewCaller, AreNone};
 ghost use Rattle.g1_shared.specs.{IsTold, kept_terms, shared_terms, map, AreAll, AreAllCallers};
 ghost use Rattle.g1_shared.specs.{made_by, stored_by, recorded, []};
 

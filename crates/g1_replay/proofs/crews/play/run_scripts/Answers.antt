@@ -1,5 +1,5 @@
 use Rattle.std.specs.Prelude.{◌≡◌, ◌+◌}
-use Rattle.g1_replay.specs.{ℕ, All, true, length, ap, arith, subst, sym, ◌∙◌, count_by, is_store, err_from_is_err_and, Shape, slot_count, StepFits, History, BookTerms, layout_in, opened, NoMemory, CrewDrained, AreOfCallers, HasCome, IsScriptFor, PrintsSome}
+use Rattle.g1_replay.specs.{ℕ, All, true, length, ap, arith, subst, sym, ◌∙◌, err_from_is_err_and, Shape, slot_count, StepFits, History, BookTerms, layout_in, opened, NoMemory, CrewDrained, AreOfCallers, HasCome, IsScriptFor, PrintsSome}
 use Rattle.g1_replay.proofs.{not_started, crew_ran}
 use Rattle.g1_replay.proofs.JobLemmas.{all_stored, come_for}
 use Rattle.g1_replay.proofs.crews.play.run_scripts.Goals as goal
