@@ -28,7 +28,7 @@ finish-requires-clause-made g c =
     let jobs : length c.in_ok-jobs.jobs.items ≡ 12 = search rules in
     let done : length c.in_ok-done.done.items ≡ vec_len c.in_ok-done.done = search rules in
     let callers = c.callers_of-callers.ensures in
-    let made = c.requires.made in omega arith
+    let parts = c.requires.parts in omega arith
 
 pub finish-requires-clause-stored : goal.finish-requires-clause-stored
 finish-requires-clause-stored g c =
@@ -36,4 +36,4 @@ finish-requires-clause-stored g c =
     let jobs : length c.in_ok-jobs.jobs.items ≡ 12 = search rules in
     let done : length c.in_ok-done.done.items ≡ vec_len c.in_ok-done.done = search rules in
     let callers = c.callers_of-callers.ensures in
-    let stored = c.requires.stored in omega arith
+    let parts = c.requires.parts in omega arith
