@@ -158,8 +158,8 @@ AsksOnce old call result new =
 abbrev pub HasOwn : List Entry → CallerState → Type 0
 HasOwn entries c = c.counts.did ≡ entries_by c.counts.number entries
 
--- Each of these callers made just the entries with its number, and there are as many entries as they
--- made: where their numbers differ, as those of the callers of one book do, all are theirs.
+-- Each of these callers made just the entries with its number, and there are as many entries as
+-- they made: where their numbers differ, as those of the callers of one book do, all are theirs.
 pub record AreMadeBy (callers : List CallerState) (entries : List Entry) : Type 0 where
   pub each : All (HasOwn entries) callers
   pub all : length entries ≡ sum_by (λ c. made_by c.counts) callers

@@ -40,9 +40,9 @@ left_then P Q t u [] (y ∷ ys) same h k = k
 left_then P Q t u (x ∷ xs) ys same h k =
     left_then (Leaves x t) (Leaves x u) t u xs ys (leaves_same x t u) h k
 
--- A caller made the calls that serve what it was asked, each of which is an entry, and it is the same
--- caller. At most two are made for a store, one for a flush, and one for each parcel that its taker
--- gained.
+-- A caller made the calls that serve what it was asked, each of which is an entry, and it is the
+-- same caller. At most two are made for a store, one for a flush, and one for each parcel that its
+-- taker gained.
 pub record CallerDid (layout : Shape) (limit : ℕ) (s : CallerState) (asks : List Ask)
     (t : CallerState) : Type 0 where
   pub mark : caller_mark t ≡ caller_mark s

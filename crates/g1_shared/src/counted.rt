@@ -1,5 +1,5 @@
-//! A book with the ledgers of its calls and of its stores, and the records of its callers: what a shared book keeps under its lock.
-//! Its calls are in [`calls`](crate::calls).
+//! A book with the ledgers of its calls and of its stores, and the records of its callers: what a
+//! shared book keeps under its lock. Its calls are in [`calls`](crate::calls).
 ghost use Rattle.std.specs.Prelude.{◌≡◌};
 
 use crate::caller::Caller;

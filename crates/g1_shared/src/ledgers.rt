@@ -37,7 +37,7 @@ impl Model for Ledgers {
 }
 
 impl Ledgers {
-    /// Makes ledgers for this many callers. One word of memory, which may be refused.
+    /// Makes ledgers for this many callers. They take memory for one word, which may be refused.
     pub fn open(alloc: Global, callers: u32) -> Result<Ledgers, NoMemory>
         ensures { IfOk result (λ ledgers. ledgers.parts ≡ callers) }
     {
