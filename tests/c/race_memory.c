@@ -2,7 +2,7 @@
 // three races whose sets are printed, 100 more, and its close. If memory is refused to the open, that
 // is said on standard error, has to leave the handles as they were, and the call is made again; so
 // what is printed is the same whatever is refused. No call between the open and the close takes
-// memory or frees any. scripts/check-growths refuses each growth in turn, and counts these calls.
+// memory or frees any. .ci/checks/check-growths refuses each growth in turn, and counts these calls.
 #define _GNU_SOURCE
 #include "g1.h"
 

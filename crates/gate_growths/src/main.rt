@@ -2,7 +2,7 @@
 //! (docs/internals/testing.md, Refused growths).
 //!
 //! A growth is one call of `malloc` or `realloc`. Run as it is, the program meets no refusal;
-//! `scripts/check-growths` runs it once for each of its growths, with that one refused. The call
+//! `.ci/checks/check-growths` runs it once for each of its growths, with that one refused. The call
 //! that needed it answers `NoMemory`, or a short reply: the scenario says so on standard error,
 //! compares what was left with what the call's contract says, and makes the call again. So every
 //! run prints the same lines and ends with status 0.

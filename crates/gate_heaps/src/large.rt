@@ -2,9 +2,9 @@
 //! redirects and clears.
 //!
 //! `gate_heaps core REGIONS CARDS SLOTS` does so with a core, `gate_heaps race ..` with a race that
-//! becomes a core and a race again. Any heap that `Layout::large` grants will do.
-//! `scripts/check-large` runs the program on heaps of a real size, and compares the bytes that it
-//! says with what it had.
+//! becomes a core and a race again. Any heap that `Layout::large` grants will do. The gate runs the
+//! program on heaps of a real size (`.ci/checks/check-large`), and compares the bytes that it says
+//! with what it had.
 //!
 //! - [`plan`]: what the command line asks for, and the reference that each card gets.
 //! - [`stores`]: the stores and refinements of a core.

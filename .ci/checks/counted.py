@@ -1,5 +1,5 @@
-"""For the check-* scripts in Python, which import it: tools/scan, the built programs, and what passed and what did not, with the last
-line that .ci/run adds up."""
+"""For the check-* scripts in Python, which import it: tests/oracle/scan, the built programs, and what
+passed and what did not, with the last line that .ci/run adds up."""
 import importlib.machinery
 import importlib.util
 import os
@@ -7,13 +7,13 @@ import pathlib
 import subprocess
 import sys
 
-os.chdir(pathlib.Path(__file__).resolve().parent.parent)
+os.chdir(pathlib.Path(__file__).resolve().parents[2])
 passed = failed = 0
 
 
 def tool(name):
     """The tool of this name, whose file has no ending."""
-    loader = importlib.machinery.SourceFileLoader(name, f"tools/{name}")
+    loader = importlib.machinery.SourceFileLoader(name, f"tests/oracle/{name}")
     module = importlib.util.module_from_spec(importlib.util.spec_from_loader(name, loader))
     loader.exec_module(module)
     return module

@@ -5,7 +5,7 @@ import subprocess
 import tempfile
 
 OPTIONS = {"--log": "8", "--limit": "4", "--ring": "64", "--start": "2", "--mutators": "5"}
-# How tools/summary shows the column of a table.
+# How scripts/summary shows the column of a table.
 SHOWN = {
     "cards refined": r"\| cards refined in all \| ([\d,]+)",
     "helps": r"\| helps \| ([\d,]+)",
@@ -16,7 +16,7 @@ SHOWN = {
 
 
 def summary_of(program, record, words):
-    """What tools/summary says of a record that is replayed with these options, or in this heap."""
+    """What scripts/summary says of a record that is replayed with these options, or in this heap."""
     text = pathlib.Path(f"examples/traces/{record}.trace").read_text()
     options = dict(OPTIONS)
     if words[0] == "heap":
@@ -29,7 +29,7 @@ def summary_of(program, record, words):
         trace.write_text(text)
         with open(trace) as given, open(printed, "w") as taken:
             subprocess.run(line, stdin=given, stdout=taken, check=True)
-        summary = ["tools/summary", trace, printed]
+        summary = ["scripts/summary", trace, printed]
         return subprocess.run(summary, capture_output=True, text=True, check=True).stdout
 
 
