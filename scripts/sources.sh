@@ -34,16 +34,15 @@ below() {
     }' | tac
 }
 
-# The folders that a crate is made of, with those of the crates below it. A static library is made
-# of the functions in C too.
+# The folders that a crate is made of, with those of the crates below it. (The functions in C are of
+# the library for C alone.)
 folders_of() {
   local crate folder
   for crate in $(below "$1") "$1"; do
-    for folder in crates/"$crate"/{src,specs,proofs}; do
+    for folder in crates/"$crate"/{c,src,specs,proofs}; do
       [ ! -d "$folder" ] || echo "$folder"
     done
   done
-  ! grep -q "^$1 staticlib" crates.txt || echo c
 }
 
 # What decides the archives of prebuilt/, and they themselves, in lines `SUM  NAME`: each file but the
