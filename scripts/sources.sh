@@ -3,7 +3,8 @@
 targets=(x86_64 aarch64)
 version=$(sed -n 's/^#define G1_VERSION "\(.*\)"$/\1/p' include/g1.h)
 
-# What of a version the name of the shared library has: before 1.0.0 any minor one is another interface.
+# What of a version the name of the shared library has: before 1.0.0 any minor one is another
+# interface.
 interface_of() {
   local minor=${1#*.}
   case $1 in
@@ -34,28 +35,36 @@ below() {
     }' | tac
 }
 
-# The folders that a crate is made of, with those of the crates below it. (The functions in C are of
-# the library for C alone.)
+# The parts of a crate that decide what is built of it. (Its proofs leave nothing in that.)
+parts=(c src specs)
+
+# folders_of CRATE PART..: the folders with these parts of a crate and of those below it.
 folders_of() {
-  local crate folder
+  local crate part
   for crate in $(below "$1") "$1"; do
-    for folder in crates/"$crate"/{c,src,specs,proofs}; do
-      [ ! -d "$folder" ] || echo "$folder"
+    for part in "${@:2}"; do
+      [ ! -d "crates/$crate/$part" ] || echo "crates/$crate/$part"
     done
   done
 }
 
-# What decides the archives of prebuilt/, and they themselves, in lines `SUM  NAME`: each file but the
-# proofs, which leave nothing in an archive, the crates' lines of crates.txt, and by themselves the
-# version and the toolchain's logic, which docs/guarantees.md names.
-sums_of_prebuilt() {
-  local logic crates folders
+# sums_of CRATE FOLDER..: what decides what is built of a crate, in lines `SUM  NAME`: by themselves
+# the version and the toolchain's logic, which docs/guarantees.md names, the crates' lines of
+# crates.txt, and each file of these folders.
+sums_of() {
+  local logic crates
   logic=$(grep -om 1 'logic [0-9a-f]\{16\}' docs/guarantees.md)
-  crates=$(below g1_c | tr '\n' '|')g1_c
-  mapfile -t folders < <(folders_of g1_c)
+  crates=$(below "$1" | tr '\n' '|')$1
   printf '%s  %s\n' "$version" G1_VERSION "${logic#logic }" logic
   grep -E "^($crates)[ :]" crates.txt | sha256sum | sed 's/-$/crates.txt/'
-  find "${folders[@]}" prebuilt -type f ! -name sums ! -path '*/proofs/*' | LC_ALL=C sort | xargs sha256sum
+  find "${@:2}" -type f ! -path prebuilt/sums | LC_ALL=C sort | xargs sha256sum
+}
+
+# What decides the archives of prebuilt/, and they themselves.
+sums_of_prebuilt() {
+  local folders
+  mapfile -t folders < <(folders_of g1_c "${parts[@]}")
+  sums_of g1_c "${folders[@]}" prebuilt
 }
 
 # Why the archives of prebuilt/ are not of the sources here; nothing if they are.
