@@ -70,13 +70,15 @@ sums_of_prebuilt() {
 # Why the archives of prebuilt/ are not of the sources here; nothing if they are.
 why_not_prebuilt() {
   if [ -e prebuilt/sums ]; then
-    diff prebuilt/sums <(sums_of_prebuilt) | sed -n '/^[<>]/{s/.*  \(.*\)/\1 is not as in prebuilt\/sums/p;q}' || true
+    diff prebuilt/sums <(sums_of_prebuilt) |
+      sed -n '/^[<>]/{s/.*  \(.*\)/\1 is not as in prebuilt\/sums/p;q}' || true
   else
     echo "there is no prebuilt/sums"
   fi
 }
 
-# Builds the library for C for each target, one after the other: what the first proves, the next takes.
+# Builds the library for C for each target, one after the other: what the first proves, the next
+# takes.
 build_libraries() {
   local target
   for target in "${targets[@]}"; do

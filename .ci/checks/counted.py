@@ -1,5 +1,5 @@
-"""For the check-* scripts in Python, which import it: tests/oracle/scan, the built programs, and what
-passed and what did not, with the last line that .ci/run adds up."""
+"""For the check-* scripts in Python, which import it: tests/oracle/scan, the built programs, and
+what passed and what did not, with the last line that .ci/run adds up."""
 import importlib.machinery
 import importlib.util
 import os
@@ -33,7 +33,7 @@ def check(what, why):
 
 
 def programs(name):
-    """The program as LLVM builds it and, where `rt ci` has left that, as Rattle's own compiler does."""
+    """The program as LLVM builds it and, where `rt ci` left that, as Rattle's own compiler does."""
     built = subprocess.run(["scripts/built", name], capture_output=True, text=True)
     if built.returncode:
         check(f"there is no {name} to run", built.stderr)
