@@ -1,10 +1,10 @@
 -- The calls of a command, and the line of what they answer.
 use Rattle.std.specs.Prelude.{◌||◌, if◌then◌else◌, ◌∷◌, ◌≡◌, ◌≢◌, ◌≤◌, ◌⊎◌}
-use Rattle.g1_replay.specs.{ap, sum_by, ◌∙◌, flat_map, All-head, All-tail, Kind, Logged, Fill, No, Entry, IsOwnFill, IsRefinementBy, counts_in, is_any_short, ℕ, List, [], Option, Some, None, true, false, inl, inr, refl, subst, sym, length, map, arith, Bool, Result, Ok, Err, IsSome, All, All-nil, All-cons, length-map, Full, Helped, StoreReply, RefineReply, Reply, store_entry, refine_entry, State, FlushReply, Refusal, History, CallMade, Stored, Refined, AreCalls, Grows, IsBookCall, Help, IsStored, help_calls, store_answer, flush_answer, nothing_flushed, filled, called, IsRound, Turn, round_calls, replies_of, round_size, Command, IsCallPlayed, MakesAsked, IfErr, MayStop, said_of, of_done, Piece, IsSetBy, store_text, refine_text, work_text, call_line, Stop, played_one, HasPlayed, IsBookFull, Does, flush_text, plain_piece, IsOfBuffer, IsOfNone, IsLineOf, more_may_come}
+use Rattle.g1_replay.specs.{ap, sum_by, ◌∙◌, flat_map, All-head, All-tail, Kind, Logged, Fill, No, Entry, IsOwnFill, IsRefinementBy, counts_in, is_any_short, ℕ, List, [], Option, Some, None, true, false, inl, inr, refl, subst, sym, length, map, arith, Bool, Result, Ok, Err, IsSome, All, All-nil, All-cons, length-map, Full, Helped, StoreReply, RefineReply, Reply, store_entry, refine_entry, State, FlushReply, Refusal, History, CallMade, Stored, Refined, AreCalls, Grows, IsBookCall, Help, IsStored, help_calls, store_answer, flush_answer, nothing_flushed, filled, called, IsRound, Turn, round_calls, replies_of, round_size, Command, IsAnswered, IsCallPlayed, IfErr, MayStop, of_done, Piece, IsSetBy, store_text, refine_text, work_text, call_line, Stop, played_one, HasPlayed, IsBookFull, Does, flush_text, plain_piece, IsOfBuffer, IsOfNone, IsLineOf, more_may_come}
 use Rattle.g1_core.specs.declared.entry.Call.{Call}
 use Rattle.g1_core.specs.Refinement.{IsRefined}
 use Rattle.g1_log.specs.declared.parcel.Parcel.{Parcel}
-use Rattle.g1_history.specs.declared.refusal.Refusal.TheVariants.{NoMemory, BookFull}
+use Rattle.g1_history.specs.declared.refusal.Refusal.TheVariants.{BookFull}
 use Rattle.g1_history.specs.Asked.{MadeAsked, asked_entry}
 use Rattle.g1_steps.specs.Made.{entries_made as calls_entries}
 use Rattle.g1_steps.proofs.StepLemmas.{grows_none, grows_entered, calls_grow, round_entries}
@@ -13,14 +13,13 @@ use Rattle.std.proofs.lemmas.List.Concat.{length-flat_map}
 use Rattle.g1_log.proofs.Settles.{sum_by-map}
 use Rattle.g1_replay.proofs.PlayingLemmas.{CameTo, does_said, said_stops}
 
--- The calls of a command were made and entered, and the answer has their text.
-abbrev pub IsDone : {V : Type 0} → (V → List ℕ) → History → History → Command → V → Type 0
-IsDone text old new c answer = (p : Piece) × Grows old p.entries new × IsLineOf c p (text answer) × IsSetBy old.machine.settings c p.entries
+-- The calls of a command were made and entered, and this is their text.
+abbrev pub IsDone : History → History → Command → List ℕ → Type 0
+IsDone old new c text = (p : Piece) × Grows old p.entries new × IsLineOf c p text × IsSetBy old.machine.settings c p.entries
 
 -- A call was refused, and nothing was entered.
 abbrev pub IsPlayRefused : History → History → Refusal → Type 0
-IsPlayRefused old new NoMemory = Grows old [] new
-IsPlayRefused old new BookFull = Grows old [] new × IsBookFull new
+IsPlayRefused old new refusal = Grows old [] new × (refusal ≡ BookFull → IsBookFull new)
 
 -- A refinement of a buffer takes it, unless it is short.
 abbrev Takes : RefineReply → Type 0
@@ -88,44 +87,44 @@ turns_take m old new (t ∷ u ∷ turns) (Some e) h = All-cons Takes t.reply (re
 
 -- a store whose own answer was the first
 store_calls : (old new : History) (m slot : ℕ) (target : Option ℕ) (cards : List ℕ) (first : StoreReply) (help : Help) → Grows old (store_entry m slot target first ∷ calls_entries m (help_calls cards help)) new → HelpTakes help
-    → (first.refined ≡ []) × (first.short ≡ false) → first.fill ≢ Helped → (first.fill ≡ Full → first ≡ filled) → (IsSome help → first.fill ≡ Full) → IsDone (λ (t : List ℕ). t) old new (command.Store m slot target) (store_text (store_answer first help))
+    → (first.refined ≡ []) × (first.short ≡ false) → first.fill ≢ Helped → (first.fill ≡ Full → first ≡ filled) → (IsSome help → first.fill ≡ Full) → IsDone old new (command.Store m slot target) (store_text (store_answer first help))
 store_calls old new m slot target cards first None g takes plain own full helps = (plain_piece (store_entry m slot target first ∷ []), g, record { piece = ((refl, refl), (own_fill first.kind first.fill own (λ e. ap (λ (r : StoreReply). r.kind) (full e)), plain.1, plain.0)); line = refl }, tt)
 store_calls old new m slot target cards first (Some (Ok reply)) g takes plain own full helps =
     let is = full (helps refl) in
-    subst (λ (r : StoreReply). IsDone (λ (t : List ℕ). t) old new (command.Store m slot target) (store_text (store_answer r (Some (Ok reply))))) (sym is)
+    subst (λ (r : StoreReply). IsDone old new (command.Store m slot target) (store_text (store_answer r (Some (Ok reply))))) (sym is)
     (plain_piece (store_entry m slot target filled ∷ refine_entry m reply ∷ []), subst (λ (r : StoreReply). Grows old (store_entry m slot target r ∷ refine_entry m reply ∷ []) new) is g, record { piece = (((refl, refl), (refl, refl, refl)), tt, ((refl, refl), takes)); line = refl }, tt)
 store_calls old new m slot target cards first (Some (Err e)) g takes plain own full helps =
     let is = full (helps refl) in
-    subst (λ (r : StoreReply). IsDone (λ (t : List ℕ). t) old new (command.Store m slot target) (store_text (store_answer r (Some (Err e))))) (sym is)
+    subst (λ (r : StoreReply). IsDone old new (command.Store m slot target) (store_text (store_answer r (Some (Err e))))) (sym is)
     (record { entries = store_entry m slot target filled ∷ []; shown = record { cards = 0; left = 0; refused = true } }, subst (λ (r : StoreReply). Grows old (store_entry m slot target r ∷ []) new) is g, record { piece = ((refl, refl), (refl, refl, refl)); line = refl }, tt)
 
 pub store_made : {S : Type 0} (did : S → List CallMade → S → Type 0) (s t : S) (old new : History) (m slot : ℕ) (target : Option ℕ) (cards : List ℕ) (reply : StoreReply) (h : IsStored did s slot target cards reply t)
-    → AreCalls (IsBookCall m) old (Stored slot target h.first ∷ help_calls cards h.help) new → IsDone (λ (t : List ℕ). t) old new (command.Store m slot target) (store_text reply)
+    → AreCalls (IsBookCall m) old (Stored slot target h.first ∷ help_calls cards h.help) new → IsDone old new (command.Store m slot target) (store_text reply)
 store_made did s t old new m slot target cards reply h made =
-    subst (λ (r : StoreReply). IsDone (λ (t : List ℕ). t) old new (command.Store m slot target) (store_text r)) (sym h.answer)
+    subst (λ (r : StoreReply). IsDone old new (command.Store m slot target) (store_text r)) (sym h.answer)
     (store_calls old new m slot target cards h.first h.help (calls_grow m old new (Stored slot target h.first ∷ help_calls cards h.help) made) (store_takes m old new slot target h.first cards h.help made) h.plain h.own h.full h.helps)
 
 -- a flush of a log with cards
-flush_calls : (old new : History) (m n : ℕ) (cards : List ℕ) (help : Help) → Grows old (calls_entries m (help_calls cards help)) new → HelpTakes help → IsDone (λ (t : List ℕ). t) old new (command.Flush m) (flush_text (flush_answer n help))
+flush_calls : (old new : History) (m n : ℕ) (cards : List ℕ) (help : Help) → Grows old (calls_entries m (help_calls cards help)) new → HelpTakes help → IsDone old new (command.Flush m) (flush_text (flush_answer n help))
 flush_calls old new m n cards None g takes = (record { entries = []; shown = record { cards = n; left = 0; refused = false } }, g, record { piece = tt; line = refl }, tt)
 flush_calls old new m n cards (Some (Ok reply)) g takes = (record { entries = refine_entry m reply ∷ []; shown = record { cards = n; left = 0; refused = false } }, g, record { piece = ((refl, refl), takes); line = refl }, tt)
 flush_calls old new m n cards (Some (Err e)) g takes = (record { entries = []; shown = record { cards = n; left = 0; refused = true } }, g, record { piece = tt; line = refl }, tt)
 
-pub flush_nothing : (old new : History) (m : ℕ) (reply : FlushReply) → reply ≡ nothing_flushed → new ≡ old → IsDone (λ (t : List ℕ). t) old new (command.Flush m) (flush_text reply)
+pub flush_nothing : (old new : History) (m : ℕ) (reply : FlushReply) → reply ≡ nothing_flushed → new ≡ old → IsDone old new (command.Flush m) (flush_text reply)
 flush_nothing old new m reply is same =
     let g : Grows old [] new = subst (λ (b : History). Grows old [] b) (sym same) (grows_none old) in
-    subst (λ (r : FlushReply). IsDone (λ (t : List ℕ). t) old new (command.Flush m) (flush_text r)) (sym is) (plain_piece [], g, record { piece = tt; line = refl }, tt)
+    subst (λ (r : FlushReply). IsDone old new (command.Flush m) (flush_text r)) (sym is) (plain_piece [], g, record { piece = tt; line = refl }, tt)
 
-pub flush_made : (old new : History) (m : ℕ) (cards : List ℕ) (reply : FlushReply) (help : Help) → AreCalls (IsBookCall m) old (help_calls cards help) new → reply ≡ flush_answer (length cards) help → IsDone (λ (t : List ℕ). t) old new (command.Flush m) (flush_text reply)
+pub flush_made : (old new : History) (m : ℕ) (cards : List ℕ) (reply : FlushReply) (help : Help) → AreCalls (IsBookCall m) old (help_calls cards help) new → reply ≡ flush_answer (length cards) help → IsDone old new (command.Flush m) (flush_text reply)
 flush_made old new m cards reply help h is =
-    subst (λ (r : FlushReply). IsDone (λ (t : List ℕ). t) old new (command.Flush m) (flush_text r)) (sym is) (flush_calls old new m (length cards) cards help (calls_grow m old new (help_calls cards help) h) (flush_takes m old new cards help h))
+    subst (λ (r : FlushReply). IsDone old new (command.Flush m) (flush_text r)) (sym is) (flush_calls old new m (length cards) cards help (calls_grow m old new (help_calls cards help) h) (flush_takes m old new cards help h))
 
 -- a refinement of what the line gave
 refine_finds : (old new : State) (buffer : Option (List ℕ)) (reply : RefineReply) → IsRefined old buffer reply new → IsOfBuffer (refine_entry 0 reply).reply ⊎ IsOfNone (refine_entry 0 reply).reply reply.refined
 refine_finds old new None reply h = inr (h.0.taken, h.0.hot, h.0.skipped, h.0.short, h.0.refined)
 refine_finds old new (Some cards) reply h = inl h.taken
 
-pub refine_made : (old new : History) (buffer : Option (List ℕ)) (reply : RefineReply) → AreCalls (IsBookCall 0) old (Refined buffer (called reply) ∷ []) new → IsDone (λ (t : List ℕ). t) old new command.Refine (refine_text reply)
+pub refine_made : (old new : History) (buffer : Option (List ℕ)) (reply : RefineReply) → AreCalls (IsBookCall 0) old (Refined buffer (called reply) ∷ []) new → IsDone old new command.Refine (refine_text reply)
 refine_made old new buffer reply h =
     (plain_piece (refine_entry 0 (called reply) ∷ []), calls_grow 0 old new (Refined buffer (called reply) ∷ []) h, record { piece = ((refl, refl), refine_finds old.machine.state new.machine.state buffer (called reply) h.0.did.refined); line = refl }, tt)
 
@@ -136,7 +135,7 @@ rounds_within turns most size h is =
     omega (arith, a, b, h, is)
 
 pub work_made : {S : Type 0} (did : S → List CallMade → S → Type 0) (s : S) (before : List Parcel) (most : ℕ) (reply : RefineReply) (after : List Parcel) (t : S) (r : IsRound did s before most reply after t) (old new : History)
-    (seen : ℕ) → seen ≤ old.machine.settings.limit → most ≡ round_size old.machine.settings.start seen → AreCalls (IsBookCall 0) old (round_calls r.turns r.refused) new → IsDone (λ (t : List ℕ). t) old new command.Work (work_text reply)
+    (seen : ℕ) → seen ≤ old.machine.settings.limit → most ≡ round_size old.machine.settings.start seen → AreCalls (IsBookCall 0) old (round_calls r.turns r.refused) new → IsDone old new command.Work (work_text reply)
 work_made did s before most reply after t r old new seen within is h = (
   record { entries = map (refine_entry 0) (replies_of r.turns); shown = record { cards = 0; left = reply.left; refused = reply.short } },
   subst (λ es. Grows old es new) (round_entries 0 r.turns r.refused) (calls_grow 0 old new (round_calls r.turns r.refused) h),
@@ -145,32 +144,27 @@ work_made did s before most reply after t r old new seen within is h = (
 )
 
 -- one call of the first caller, and the line of its reply
-pub call_says : (old new : History) (call : Call) (reply : Reply) → MadeAsked true old 0 call reply new → IsDone (λ (t : List ℕ). t) old new (command.Call call) (call_line call reply)
+pub call_says : (old new : History) (call : Call) (reply : Reply) → MadeAsked true old 0 call reply new → IsDone old new (command.Call call) (call_line call reply)
 call_says old new call reply p = let e = asked_entry 0 call reply p.0 in (plain_piece (e ∷ []), grows_entered old e new p.1.entered, record { piece = (refl, refl); line = refl }, tt)
 
 -- a call that was refused left the book, and its history was full if that is why
 pub call_refused : (old new : History) (refusal : Refusal) → new ≡ old → (refusal ≡ BookFull → length old.entries ≡ old.limit) → IsPlayRefused old new refusal
-call_refused old new NoMemory same full = subst (λ (b : History). Grows old [] b) (sym same) (grows_none old)
-call_refused old new BookFull same full = subst (λ (b : History). Grows old [] b × IsBookFull b) (sym same) (grows_none old, full refl)
+call_refused old new refusal same full = subst (λ (b : History). IsPlayRefused old b refusal) (sym same) (grows_none old, full)
 
-pub played_by : (old new : History) (c : Command) (text : List ℕ) → IsDone (λ (t : List ℕ). t) old new c text → HasPlayed old (c ∷ []) text new
+pub played_by : (old new : History) (c : Command) (text : List ℕ) → IsDone old new c text → HasPlayed old (c ∷ []) text new
 played_by old new c text p = subst (λ (t : List ℕ). HasPlayed old (c ∷ []) t new) (sym p.2.line) (played_one old new c p.0 p.2.piece p.3 p.1)
 
 pub nothing_played : (old new : History) → Grows old [] new → HasPlayed old [] [] new
 nothing_played old new g = record { pieces = []; walked = tt; set = tt; grows = g; said = refl }
 
-was_refused : (old new : History) (refusal : Refusal) → IsPlayRefused old new refusal → HasPlayed old [] [] new × (refusal ≡ BookFull → IsBookFull new)
-was_refused old new NoMemory p = (nothing_played old new p, λ e. cc)
-was_refused old new BookFull p = (nothing_played old new p.0, λ e. p.1)
-
 -- a call that was asked of a book
 pub asked_plays : (call : Call) (old new : History) (out out' : Option (List ℕ)) (r : Result (Unit {0}) Stop) → IsCallPlayed call old new out out' r
     → Does (of_done HasPlayed) IsBookFull (command.Call call ∷ []) old new out out' (more_may_come r)
-asked_plays call old new out out' r p = does_said (of_done HasPlayed) IsBookFull (command.Call call) old new out out' (said_of (call_line call) p.0) r (came p.0 p.1) p.2
+asked_plays call old new out out' r p = does_said (of_done HasPlayed) IsBookFull (command.Call call) old new out out' p.0 r (came p.0 p.1) p.2
   where
-    came : (result : Result Reply Refusal) → MakesAsked true old 0 call result new → CameTo (of_done HasPlayed) IsBookFull (command.Call call) old (said_of (call_line call) result) new
-    came (Ok reply) a = played_by old new (command.Call call) (call_line call reply) (call_says old new call reply a.made)
-    came (Err refusal) a = was_refused old new refusal (call_refused old new refusal a.err.1 (λ e. a.err.0.0 (ap Err e)))
+    came : (said : Result (List ℕ) Refusal) → IsAnswered call old new said → CameTo (of_done HasPlayed) IsBookFull (command.Call call) old said new
+    came (Ok text) a = played_by old new (command.Call call) text (subst (IsDone old new (command.Call call)) (sym a.2) (call_says old new call a.0 a.1.made))
+    came (Err refusal) a = let refused = call_refused old new refusal a.err.1 (λ e. a.err.0.0 (ap Err e)) in (nothing_played old new refused.0, refused.1)
 
 pub asked_stops : (call : Call) (old new : History) (out out' : Option (List ℕ)) (r : Result (Unit {0}) Stop) → IsCallPlayed call old new out out' r → IfErr r MayStop
-asked_stops call old new out out' r p = said_stops (said_of (call_line call) p.0) out out' r p.2
+asked_stops call old new out out' r p = said_stops p.0 out out' r p.2

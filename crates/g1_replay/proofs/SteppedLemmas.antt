@@ -1,6 +1,6 @@
 -- What the steps of commands come to: the calls that were entered, their line, and what may be played next.
 use Rattle.std.specs.Prelude.{◌≡◌, ◌≤◌, ◌∷◌, ◌++◌}
-use Rattle.g1_replay.specs.{ℕ, List, [], Bool, true, false, refl, sym, ap, subst, ◌∙◌, append-nil, arith, length, length-set, set, inl, inr, IfErr, MayStop, IsSaid, stop_of, Grows, grows_none, Mutator, Options, IsNewMachinery, dialect_in, Option, Result, Ok, Err, OnOk, vec_len, capacity_of, History, BookTerms, layout_in, Shape, Dialect, Command, Machinery, StoreReply, RefineReply, FlushReply, Reply, Refusal, CallsBy, StoresAt, RefinesAt, WorksAt, StandIf, Makes, MakesAsked, said_of, store_text, flush_text, refine_text, work_text, call_line, is_pause, AreMade, WasRefused, StepsThrough, IsPlayed, IsReady, IsBookFull, HasPlayed, Does, Stop, played_none, played_then, more_may_come}
+use Rattle.g1_replay.specs.{ℕ, List, [], Bool, true, false, refl, sym, ap, subst, ◌∙◌, append-nil, arith, length, length-set, set, inl, inr, IfErr, MayStop, IsSaid, stop_of, Grows, grows_none, Mutator, Options, IsNewMachinery, dialect_in, Option, Result, Ok, Err, OnOk, vec_len, capacity_of, History, BookTerms, layout_in, Shape, Dialect, Command, Machinery, StoreReply, RefineReply, FlushReply, Reply, Refusal, CallsBy, StoresAt, RefinesAt, WorksAt, StandIf, Makes, Says, AnswersAt, store_text, flush_text, refine_text, work_text, call_line, is_pause, AreMade, WasRefused, StepsThrough, IsPlayed, IsReady, IsBookFull, HasPlayed, Does, Stop, played_none, played_then, more_may_come}
 use Rattle.g1_core.specs.declared.entry.Call.{Call}
 use Rattle.g1_history.specs.declared.refusal.Refusal.TheVariants.{NoMemory, BookFull}
 use Rattle.g1_trace.specs.declared.command.Command.TheVariants as command
@@ -12,86 +12,43 @@ use Rattle.g1_replay.proofs.AnswerLemmas.{IsDone, IsPlayRefused, call_says, call
 use Rattle.g1_replay.proofs.PlayingLemmas.{CameTo, does_said, said_stops}
 
 -- the text of an answer
-abbrev Says : Command → (old new : Machinery) → List ℕ → Type 0
-Says c old new text = IsDone (λ (t : List ℕ). t) old.book new.book c text
+abbrev Tells : Command → (old new : Machinery) → List ℕ → Type 0
+Tells c old new text = IsDone old.book new.book c text
 
-store_done : (by slot : ℕ) (target : Option ℕ) (old new : Machinery) (text : List ℕ) (result : Result StoreReply Refusal) → StoresAt old by slot target result new → Ok text ≡ said_of store_text result → Says (command.Store by slot target) old new text
-store_done by slot target old new text (Ok reply) h e =
-    let is : text ≡ store_text reply = cc in
-    subst (Says (command.Store by slot target) old new) (sym is) (store_made (CallsBy by) old.book new.book old.book new.book by slot target _ reply h.step.stored h.step.stored.made)
-store_done by slot target old new text (Err why) h e = cc
-
-flush_done : (by : ℕ) (old new : Machinery) (cards : List ℕ) (reply : FlushReply) → IsFlushed (CallsBy by) old.book cards reply new.book → Says (command.Flush by) old new (flush_text reply)
+flush_done : (by : ℕ) (old new : Machinery) (cards : List ℕ) (reply : FlushReply) → IsFlushed (CallsBy by) old.book cards reply new.book → Tells (command.Flush by) old new (flush_text reply)
 flush_done by old new cards reply (inl h) = flush_nothing old.book new.book by reply h.1 h.2
 flush_done by old new cards reply (inr h) = flush_made old.book new.book by cards reply h.help h.made h.answer
 
-refine_done : (old new : Machinery) (text : List ℕ) (result : Result RefineReply Refusal) → RefinesAt old result new → Ok text ≡ said_of refine_text result → Says command.Refine old new text
-refine_done old new text (Ok reply) h e =
-    let is : text ≡ refine_text reply = cc in
-    subst (Says command.Refine old new) (sym is) (refine_made old.book new.book _ reply h.0.step.refined.made)
-refine_done old new text (Err why) h e = cc
-
-work_done : (old new : Machinery) (text : List ℕ) (result : Result RefineReply Refusal) → capacity_of old.line ≡ old.book.machine.settings.limit → WorksAt old result new → Ok text ≡ said_of work_text result → Says command.Work old new text
-work_done old new text (Ok reply) room h e =
-    let is : text ≡ work_text reply = cc in
+work_done : (old new : Machinery) (reply : RefineReply) → capacity_of old.line ≡ old.book.machine.settings.limit → WorksAt old (Ok reply) new → Tells command.Work old new (work_text reply)
+work_done old new reply room h =
     let round = h.0.step.round in
-    subst (Says command.Work old new) (sym is) (work_made (CallsBy 0) old.book _ _ reply _ new.book round.2 old.book new.book round.0 (subst (λ (n : ℕ). round.0 ≤ n) room round.1) refl round.2.made)
-work_done old new text (Err why) room h e = cc
-
-call_done : (call : Call) (old new : Machinery) (text : List ℕ) (result : Result Reply Refusal) → MakesAsked true old.book 0 call result new.book → Ok text ≡ said_of (call_line call) result → Says (command.Call call) old new text
-call_done call old new text (Ok reply) h e =
-    let is : text ≡ call_line call reply = cc in
-    subst (Says (command.Call call) old new) (sym is) (call_says old.book new.book call reply h.made)
-call_done call old new text (Err why) h e = cc
+    work_made (CallsBy 0) old.book _ _ reply _ new.book round.2 old.book new.book round.0 (subst (λ (n : ℕ). round.0 ≤ n) room round.1) refl round.2.made
 
 -- a command that was answered
-makes_done : (c : Command) (old new : Machinery) (text : List ℕ) → capacity_of old.line ≡ old.book.machine.settings.limit → Makes c old (Ok text) new → Says c old new text
-makes_done (command.Store by slot target) old new text room m = store_done by slot target old new text m.0 m.1 m.2
+makes_done : (c : Command) (old new : Machinery) (text : List ℕ) → capacity_of old.line ≡ old.book.machine.settings.limit → Makes c old new (Ok text) → Tells c old new text
+makes_done (command.Store by slot target) old new text room m =
+    subst (Tells (command.Store by slot target) old new) (sym m.2) (store_made (CallsBy by) old.book new.book old.book new.book by slot target _ m.0 m.1.step.stored m.1.step.stored.made)
 makes_done (command.Flush by) old new text room m =
     let is : text ≡ flush_text m.0 = cc in
-    subst (Says (command.Flush by) old new) (sym is) (flush_done by old new _ m.0 m.1.step.flushed)
-makes_done command.Refine old new text room m = refine_done old new text m.0 m.1 m.2
-makes_done command.Work old new text room m = work_done old new text m.0 room m.1 m.2
-makes_done (command.Call call) old new text room m = call_done call old new text m.0 m.1.asked m.2
+    subst (Tells (command.Flush by) old new) (sym is) (flush_done by old new _ m.0 m.1.step.flushed)
+makes_done command.Refine old new text room m = subst (Tells command.Refine old new) (sym m.2) (refine_made old.book new.book _ m.0 m.1.0.step.refined.made)
+makes_done command.Work old new text room m = subst (Tells command.Work old new) (sym m.2) (work_done old new m.0 room m.1)
+makes_done (command.Call call) old new text room m = subst (Tells (command.Call call) old new) (sym m.2) (call_says old.book new.book call m.0 m.1.asked.made)
 
 -- A command that was refused.
 abbrev IsNot : (old new : Machinery) → Refusal → Type 0
 IsNot old new why = IsPlayRefused old.book new.book why
 
-store_refused : (by slot : ℕ) (target : Option ℕ) (old new : Machinery) (why : Refusal) (result : Result StoreReply Refusal) → StoresAt old by slot target result new → Err why ≡ said_of store_text result → IsNot old new why
-store_refused by slot target old new why (Ok reply) h e = cc
-store_refused by slot target old new why (Err refusal) h e =
-    let is : why ≡ refusal = cc in
-    subst (IsNot old new) (sym is) (call_refused old.book new.book refusal h.step.err.0 h.step.err.1.0)
-
-refine_refused : (old new : Machinery) (why : Refusal) (result : Result RefineReply Refusal) → RefinesAt old result new → Err why ≡ said_of refine_text result → IsNot old new why
-refine_refused old new why (Ok reply) h e = cc
-refine_refused old new why (Err refusal) h e =
-    let is : why ≡ refusal = cc in
-    subst (IsNot old new) (sym is) (call_refused old.book new.book refusal h.0.step.err.0 h.0.step.err.1.0)
-
 round_refused : (old new : Machinery) (before after : List Parcel) (why : Refusal) → IsRefused (CallsBy 0) (Unit {0}) old.book before why new.book after → IsNot old new why
 round_refused old new before after why (inl h) = call_refused old.book new.book why h.2 (λ e. let both : NoMemory ≡ BookFull = sym h.0 ∙ e in cc)
 round_refused old new before after why (inr h) = call_refused old.book new.book why h.0.0 h.0.1.0
 
-work_refused : (old new : Machinery) (why : Refusal) (result : Result RefineReply Refusal) → WorksAt old result new → Err why ≡ said_of work_text result → IsNot old new why
-work_refused old new why (Ok reply) h e = cc
-work_refused old new why (Err refusal) h e =
-    let is : why ≡ refusal = cc in
-    subst (IsNot old new) (sym is) (round_refused old new _ _ refusal h.0.step.err)
-
-ask_refused : (call : Call) (old new : Machinery) (why : Refusal) (result : Result Reply Refusal) → MakesAsked true old.book 0 call result new.book → Err why ≡ said_of (call_line call) result → IsNot old new why
-ask_refused call old new why (Ok reply) h e = cc
-ask_refused call old new why (Err refusal) h e =
-    let is : why ≡ refusal = cc in
-    subst (IsNot old new) (sym is) (call_refused old.book new.book refusal h.err.1 (λ e. h.err.0.0 (ap Err e)))
-
-makes_refused : (c : Command) (old new : Machinery) (why : Refusal) → Makes c old (Err why) new → IsNot old new why
-makes_refused (command.Store by slot target) old new why m = store_refused by slot target old new why m.0 m.1 m.2
+makes_refused : (c : Command) (old new : Machinery) (why : Refusal) → Makes c old new (Err why) → IsNot old new why
+makes_refused (command.Store by slot target) old new why m = call_refused old.book new.book why m.step.err.0 m.step.err.1.0
 makes_refused (command.Flush by) old new why m = let never : Err why ≡ Ok (flush_text m.0) = m.2 in cc
-makes_refused command.Refine old new why m = refine_refused old new why m.0 m.1 m.2
-makes_refused command.Work old new why m = work_refused old new why m.0 m.1 m.2
-makes_refused (command.Call call) old new why m = ask_refused call old new why m.0 m.1.asked m.2
+makes_refused command.Refine old new why m = call_refused old.book new.book why m.0.step.err.0 m.0.step.err.1.0
+makes_refused command.Work old new why m = round_refused old new _ _ why m.0.step.err
+makes_refused (command.Call call) old new why m = call_refused old.book new.book why m.asked.err.1 (λ e. m.asked.err.0.0 (ap Err e))
 
 -- What no command changes: how many mutators there are, and the queue.
 abbrev IsManned : (old new : Machinery) → Type 0
@@ -106,18 +63,30 @@ stand_manned : (pause : Bool) (old new : Machinery) → StandIf pause old new �
 stand_manned true old new s = (omega (arith, s.many, new.mutators.ok.0, old.mutators.ok.0), s.emptied.line)
 stand_manned false old new s = (ap vec_len s.0, s.2)
 
-makes_manned : (c : Command) (old new : Machinery) (said : Result (List ℕ) Refusal) → Makes c old said new → IsManned old new
-makes_manned (command.Store by slot target) old new said m = set_manned old new by m.1.after m.1.mutators m.1.line
+-- what was said was answered or refused
+either_said : {V : Type 0} (text : V → List ℕ) (P : Result V Refusal → Type 0) (said : Result (List ℕ) Refusal) → Says text P said → (r : Result V Refusal) × P r
+either_said text P (Ok said) h = (Ok h.0, h.1)
+either_said text P (Err why) h = (Err why, h)
+
+makes_manned : (c : Command) (old new : Machinery) (said : Result (List ℕ) Refusal) → Makes c old new said → IsManned old new
+makes_manned (command.Store by slot target) old new said m =
+    let s = either_said store_text (λ (r : Result StoreReply Refusal). StoresAt old by slot target r new) said m in
+    set_manned old new by s.1.after s.1.mutators s.1.line
 makes_manned (command.Flush by) old new said m = set_manned old new by m.1.after m.1.mutators m.1.line
-makes_manned command.Refine old new said m = (ap vec_len m.1.1, m.1.0.line)
-makes_manned command.Work old new said m = (ap vec_len m.1.1, m.1.0.line)
-makes_manned (command.Call call) old new said m = stand_manned (is_pause call) old new m.1.stand
+makes_manned command.Refine old new said m =
+    let s = either_said refine_text (λ (r : Result RefineReply Refusal). RefinesAt old r new) said m in
+    (ap vec_len s.1.1, s.1.0.line)
+makes_manned command.Work old new said m =
+    let s = either_said work_text (λ (r : Result RefineReply Refusal). WorksAt old r new) said m in
+    (ap vec_len s.1.1, s.1.0.line)
+makes_manned (command.Call call) old new said m =
+    stand_manned (is_pause call) old new (either_said (call_line call) (λ (r : Result Reply Refusal). AnswersAt call old r new) said m).1.stand
 
 -- The queue holds as many buffers as the settings of the book say.
 abbrev HasRoom : Machinery → Type 0
 HasRoom m = capacity_of m.line ≡ m.book.machine.settings.limit
 
-same_room : (old new : Machinery) (c : Command) (text : List ℕ) → IsManned old new → Says c old new text → HasRoom old → HasRoom new
+same_room : (old new : Machinery) (c : Command) (text : List ℕ) → IsManned old new → Tells c old new text → HasRoom old → HasRoom new
 same_room old new c text m d room = ap capacity_of m.1 ∙ room ∙ sym (ap (λ (t : BookTerms). t.settings.limit) d.1.terms)
 
 -- commands that were answered, and the next one, as the calls of the book
@@ -130,13 +99,9 @@ made_played old new (c ∷ cs) text room m =
     subst (λ (l : List ℕ). HasPlayed old.book (c ∷ cs) l new.book) (sym m.5)
     (played_then old.book m.0.book new.book (c ∷ []) cs m.1 m.2 (played_by old.book m.0.book c m.1 one) (made_played m.0 new cs m.2 next m.4))
 
-refused_grows : (old new : Machinery) (why : Refusal) → IsNot old new why → Grows old.book [] new.book
-refused_grows old new NoMemory n = n
-refused_grows old new BookFull n = n.0
-
 next_grows : (old new : Machinery) (cs : List Command) → WasRefused old cs new → Grows old.book [] new.book
 next_grows old new [] r = subst (λ (m : Machinery). Grows old.book [] m.book) (sym r) (grows_none old.book)
-next_grows old new (c ∷ []) r = refused_grows old new r.0 (makes_refused c old new r.0 r.1)
+next_grows old new (c ∷ []) r = (makes_refused c old new r.0 r.1).0
 next_grows old new (c ∷ d ∷ cs) r = absurd r
 
 pub stepped_played : (old new : Machinery) (done undone : List Command) (text : List ℕ) → HasRoom old → StepsThrough old done undone text new → HasPlayed old.book done text new.book
@@ -145,9 +110,9 @@ stepped_played old new done undone text room s =
     subst (λ (cs : List Command). HasPlayed old.book cs text new.book) (append-nil done) (subst (λ (l : List ℕ). HasPlayed old.book (done ++ []) l new.book) (append-nil text) both)
 
 -- what one command comes to
-came : (c : Command) (old new : Machinery) (said : Result (List ℕ) Refusal) → Makes c old said new → CameTo StepsThrough (λ m. IsBookFull m.book) c old said new
+came : (c : Command) (old new : Machinery) (said : Result (List ℕ) Refusal) → Makes c old new said → CameTo StepsThrough (λ m. IsBookFull m.book) c old said new
 came c old new (Ok text) m = record { reached = new; made = (new, text, [], m, (refl, refl), sym (append-nil text)); refused = refl }
-came c old new (Err why) m = (record { reached = old; made = (refl, refl); refused = (why, m) }, λ e. (subst (IsNot old new) e (makes_refused c old new why m)).1)
+came c old new (Err why) m = (record { reached = old; made = (refl, refl); refused = (why, m) }, (makes_refused c old new why m).1)
 
 pub played_does : (c : Command) (old new : Machinery) (out out' : Option (List ℕ)) (r : Result (Unit {0}) Stop) → IsPlayed c old new out out' r → Does StepsThrough (λ m. IsBookFull m.book) (c ∷ []) old new out out' (more_may_come r)
 played_does c old new out out' r p = does_said StepsThrough (λ m. IsBookFull m.book) c old new out out' p.0 r (came c old new p.0 p.1) p.2
@@ -156,7 +121,7 @@ pub played_stops : (c : Command) (old new : Machinery) (out out' : Option (List 
 played_stops c old new out out' r p = said_stops p.0 out out' r p.2
 
 -- after a command that was answered comes the next
-ready_next : (c : Command) (old new : Machinery) (text : List ℕ) (l : Shape) (d : Dialect) → Makes c old (Ok text) new → IsReady old.book (vec_len old.mutators) old.line l d → IsReady new.book (vec_len new.mutators) new.line l d
+ready_next : (c : Command) (old new : Machinery) (text : List ℕ) (l : Shape) (d : Dialect) → Makes c old new (Ok text) → IsReady old.book (vec_len old.mutators) old.line l d → IsReady new.book (vec_len new.mutators) new.line l d
 ready_next c old new text l d m ready =
     let one = makes_done c old new text ready.4 m in
     let manned = makes_manned c old new (Ok text) m in
@@ -167,7 +132,7 @@ pub played_ready : (c : Command) (old new : Machinery) (out out' : Option (List 
 played_ready c old new out out' (Err stop) l d p ready = tt
 played_ready c old new out out' (Ok done) l d p ready = by_said p.0 p.1 p.2
   where
-    by_said : (said : Result (List ℕ) Refusal) → Makes c old said new → IsSaid said out out' (Ok done) → IsReady new.book (vec_len new.mutators) new.line l d
+    by_said : (said : Result (List ℕ) Refusal) → Makes c old new said → IsSaid said out out' (Ok done) → IsReady new.book (vec_len new.mutators) new.line l d
     by_said (Ok text) m s = ready_next c old new text l d m ready
     by_said (Err why) m s = let never : Ok done ≡ Err (stop_of why) = s.0 in cc
 

@@ -87,27 +87,21 @@ pub record AnswersAt (call : Call) (old : Machinery) (result : Result Reply Refu
   pub stand : StandIf (is_pause call) old new
   pub asked : MakesAsked true old.book 0 call result new.book
 
--- the text of an answer, if it is one
-abbrev pub said_of : {V : Type 0} → (V → List ℕ) → Result V Refusal → Result (List ℕ) Refusal
-said_of text (Ok answer) = Ok (text answer)
-said_of text (Err refusal) = Err refusal
+-- What was said of an answer of which this holds: its text, or why there is none.
+abbrev pub Says : {V : Type 0} → (V → List ℕ) → (Result V Refusal → Type 0)
+    → Result (List ℕ) Refusal → Type 0
+Says {V} text Holds (Ok said) = (answer : V) × Holds (Ok answer) × (said ≡ text answer)
+Says text Holds (Err refusal) = Holds (Err refusal)
 
 -- A command is done, and this is the text of its answer, or why it was refused.
-abbrev pub Makes : Command → Machinery → Result (List ℕ) Refusal → Machinery → Type 0
-Makes (command.Store by slot target) old said new =
-    (result : Result StoreReply Refusal) × StoresAt old by slot target result new
-    × (said ≡ said_of store_text result)
-Makes (command.Flush by) old said new =
-    (reply : FlushReply) × FlushesAt old by reply new × (said ≡ Ok (flush_text reply))
-Makes command.Refine old said new =
-    (result : Result RefineReply Refusal) × RefinesAt old result new
-    × (said ≡ said_of refine_text result)
-Makes command.Work old said new =
-    (result : Result RefineReply Refusal) × WorksAt old result new
-    × (said ≡ said_of work_text result)
-Makes (command.Call call) old said new =
-    (result : Result Reply Refusal) × AnswersAt call old result new
-    × (said ≡ said_of (call_line call) result)
+abbrev pub Makes : Command → (old new : Machinery) → Result (List ℕ) Refusal → Type 0
+Makes (command.Store by slot target) old new =
+    Says store_text (λ r. StoresAt old by slot target r new)
+Makes (command.Flush by) old new =
+    λ said. (reply : FlushReply) × FlushesAt old by reply new × (said ≡ Ok (flush_text reply))
+Makes command.Refine old new = Says refine_text (λ r. RefinesAt old r new)
+Makes command.Work old new = Says work_text (λ r. WorksAt old r new)
+Makes (command.Call call) old new = Says (call_line call) (λ r. AnswersAt call old r new)
 
 -- Of an answer its text is written, or a beginning of it where a write failed. A refusal writes
 -- nothing, and is what stops the replay.
@@ -117,15 +111,22 @@ IsSaid (Ok text) out out' r =
     ((r ≡ Ok tt) ⊎ (r ≡ Err WriteFailed)) × Puts out out' (written_by r) text
 IsSaid (Err refusal) out out' r = (r ≡ Err (stop_of refusal)) × Appends out out' []
 
+-- Something was done that says so, and what it says was written.
+abbrev pub IsDoneAndSaid : (Result (List ℕ) Refusal → Type 0) → (out out' : Option (List ℕ))
+    → Result (Unit {0}) Stop → Type 0
+IsDoneAndSaid Done out out' r =
+    (said : Result (List ℕ) Refusal) × Done said × IsSaid said out out' r
+
+-- A call was asked of a book, and this is said of its answer.
+abbrev pub IsAnswered : Call → (old new : History) → Result (List ℕ) Refusal → Type 0
+IsAnswered call old new = Says (call_line call) (λ r. MakesAsked true old 0 call r new)
+
 -- A call was asked of a book, and its answer was written.
 abbrev pub IsCallPlayed : Call → (old new : History) → (out out' : Option (List ℕ))
     → Result (Unit {0}) Stop → Type 0
-IsCallPlayed call old new out out' r =
-    (result : Result Reply Refusal) × MakesAsked true old 0 call result new
-    × IsSaid (said_of (call_line call) result) out out' r
+IsCallPlayed call old new = IsDoneAndSaid (IsAnswered call old new)
 
 -- A command was played: it was done, and its answer was written.
 abbrev pub IsPlayed : Command → (old new : Machinery) → (out out' : Option (List ℕ))
     → Result (Unit {0}) Stop → Type 0
-IsPlayed c old new out out' r =
-    (said : Result (List ℕ) Refusal) × Makes c old said new × IsSaid said out out' r
+IsPlayed c old new = IsDoneAndSaid (Makes c old new)

@@ -21,13 +21,13 @@ pub record IsNewMachinery (layout : Shape) (o : Options) (m : Machinery) : Type 
 abbrev pub AreMade : Machinery → List Command → List ℕ → Machinery → Type 0
 AreMade old [] text new = (new ≡ old) × (text ≡ [])
 AreMade old (c ∷ commands) text new =
-    (mid : Machinery) × (said more : List ℕ) × Makes c old (Ok said) mid
+    (mid : Machinery) × (said more : List ℕ) × Makes c old mid (Ok said)
     × AreMade mid commands more new × (text ≡ said ++ more)
 
 -- The next command, if there is one, was refused.
 abbrev pub WasRefused : Machinery → List Command → Machinery → Type 0
 WasRefused old [] new = new ≡ old
-WasRefused old (c ∷ []) new = (refusal : Refusal) × Makes c old (Err refusal) new
+WasRefused old (c ∷ []) new = (refusal : Refusal) × Makes c old new (Err refusal)
 WasRefused old commands new = ⊥
 
 -- From one machinery to another the first commands were done, with this text, and the one behind

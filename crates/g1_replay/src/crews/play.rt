@@ -80,20 +80,11 @@ fn play_crew<T: Threads + Wait + Sync, R: BufRead, W: Write>(
 /// and then the line of the end, if it has one. A permitted run of the plain table ends with these
 /// drains. What stands before them is what the callers made: of each mutator just its stores, in
 /// the order of the trace, with the refinements of its own help, and of each refinement thread
-/// refinements alone.
-/// Returns `Whole` only if the trace has no fault and all regions were drained, and `Refused` only
-/// if the trace has a fault: then nothing was run, and only the fault's line was written. With
-/// `Stopped`, either the threads were refused a call, memory or a thread, and that line is all that
-/// was written, or a drain was refused, and its line follows those of the drains before it. `book
-/// full` is written only if the run has as many entries as `options` allows. With `ReadFailed`
-/// nothing was run. With `WriteFailed` a beginning of such a text was written.
+/// refinements alone. `book full` is written only if the run has as many entries as `options`
+/// allows.
 ///
 /// Which cards are refined between two stores is free. So two runs may write different text for a
-/// trace that stores to a slot twice.
-///
-/// The crew keeps the scripts, asks the reader for bytes at most 2^40 times, and tries no failed
-/// read or write again. A line is one write or a few, so give it a writer with a buffer. Its
-/// threads wait for the lock of the book. All of them have been joined when it returns.
+/// trace that stores to a slot twice. The threads wait for the lock of the book.
 pub fn crew<T: Threads + Wait + Sync, R: BufRead, W: Write>(
     rt: &T,
     alloc: Global,

@@ -88,21 +88,11 @@ fn play_race<T: Threads + Wait + Sync, R: BufRead, W: Write>(
 /// region, ascending: every card that holds one of these references into the region, and only cards
 /// to which the trace stores a reference into it.
 ///
-/// Returns `Whole` only if the trace has no fault and all regions were drained, and `Refused` only
-/// if the trace has a fault: then nothing was run, and only the fault's line was written. With
-/// `Stopped`, either memory or a thread was refused, and that line is all that was written, or a
-/// drain was refused, and its line follows those of the drains before it. With `ReadFailed` nothing
-/// was run. With `WriteFailed` a beginning of such a text was written.
-///
 /// Which of two racing stores to a slot comes last is free, and so is which cards a refinement
 /// thread meets. So two runs may write different text for a trace that stores to a slot twice. It
 /// is not claimed that a history of one thread explains a run, nor that a logged card ever reaches
-/// a refinement thread: a card that none refines stays dirty, and the drains find it.
-///
-/// The race keeps the scripts, asks the reader for bytes at most 2^40 times, and tries no failed
-/// read or write again. A line is one write or a few, so give it a writer with a buffer. Its
-/// threads wait for nothing but the queue of completed buffers. All of them have been joined when
-/// it returns.
+/// a refinement thread: a card that none refines stays dirty, and the drains find it. The threads
+/// wait for nothing but the queue of completed buffers.
 pub fn race<T: Threads + Wait + Sync, R: BufRead, W: Write>(
     rt: &T,
     alloc: Global,

@@ -45,12 +45,10 @@ fn play_trace<T: Wait, R: BufRead, W: Write>(
 /// line (docs/traces.md).
 ///
 /// It writes the text of a permitted run of the plain table that belongs to the commands that were
-/// read, a line for each command, and then the line of the end, if it has one. Returns `Whole` only
-/// if the trace has no fault, and `Refused` only if it has one, whose line was written. With
-/// `Stopped` and `ReadFailed` the commands are those before the end. `book full` is written only if
-/// the run has as many entries as `options` allows. With `WriteFailed` a beginning of such a text
-/// was written. A fault is the end wherever its line was read whole: a failed read or refused
-/// memory does not hide it.
+/// read, a line for each command, and then the line of the end, if it has one. With `Stopped` and
+/// `ReadFailed` the commands are those before the end. `book full` is written only if the run has
+/// as many entries as `options` allows. A fault is the end wherever its line was read whole: a
+/// failed read or refused memory does not hide it.
 ///
 /// Each command is a step of its own mutator or of the first taker, and of nobody else, and its
 /// line is the text of what the step answers. Mutators begin with empty logs, the queue of
@@ -60,10 +58,9 @@ fn play_trace<T: Wait, R: BufRead, W: Write>(
 /// A round of `work` makes at most as many calls as one that begins at the start threshold of
 /// `options` and sees no more completed buffers than their limit.
 ///
-/// It holds one line of the trace at a time, asks the reader for bytes at most 2^40 times, and
-/// tries no failed read or write again. A line is one write or a few, so give it a writer with a
-/// buffer. Reading and writing take no memory; history and sets grow, and the lists of replies. It
-/// may wait for the queue of completed buffers, which nothing else uses.
+/// It holds one line of the trace at a time. Reading and writing take no memory; history and sets
+/// grow, and the lists of replies. It may wait for the queue of completed buffers, which nothing
+/// else uses.
 pub fn run<T: Wait, R: BufRead, W: Write>(
     rt: &T,
     alloc: Global,
