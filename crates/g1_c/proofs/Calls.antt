@@ -1,6 +1,6 @@
 -- What a clause of an exported call says once the call's result is known.
 use Rattle.std.specs.Prelude.{◌≡◌, ◌≤◌, ◌⊎◌}
-use Rattle.g1_c.specs.{ℕ, arith, subst, Option, Some, None, Result, Ok, Err, IsSomeAnd, IfSome, Pause, Reason, OfKind, kind_word, refusal_word, IsHeapRefused, IsRoleRefused, refl, sym, OfRole, IfRole, SaysNoMember, IsSameHeap, OfPaused, SaysNoHeap, SaysNotPaused, IsCalled, IsVisit, FnOnceReturnsAtMut, RacingHeap, Ghosts, Member, Kind, TellsRefusal, Tells, IsTold, MutBor, called_ok, called_why, called_same, role_ok, role_of, role_why, role_if, visit_same}
+use Rattle.g1_c.specs.{ℕ, arith, subst, Option, Some, None, Result, Ok, Err, IsSomeAnd, Pause, Reason, OfKind, kind_word, refusal_word, IsHeapRefused, IsRoleRefused, refl, sym, OfRole, SaysNoMember, IsSameHeap, OfPaused, SaysNoHeap, SaysNotPaused, IsCalled, IsVisit, FnOnceReturnsAtMut, RacingHeap, Ghosts, Member, Kind, TellsRefusal, Tells, IsTold, MutBor, called_ok, called_why, called_same, role_ok, role_of, role_why, visit_same}
 use denote.Param.Members.{Once}
 
 module _ {V : Type 0} (most word : ℕ) (old new : Option V) (Untold : Type 0) (Why : Reason → Type 0) where
@@ -37,10 +37,6 @@ some_so : {A : Type 0} (P Q : A → Type 0) (o : Option A) → ((x : A) → P x 
 some_so P Q None so is = is
 some_so P Q (Some x) so is = so x is
 
-if_so : {A : Type 0} (P Q : A → Type 0) (o : Option A) → ((x : A) → P x → Q x) → IfSome o P → IfSome o Q
-if_so P Q None so is = tt
-if_so P Q (Some x) so is = so x is
-
 module _ {P : Type 0} {g : Ghosts P} {T : Type 0} (seen : Member P g → P → T) where
   of_so : (R Q : T → Type 0) (m : Option (Member P g)) → ((a : T) → R a → Q a) → OfRole seen m R → OfRole seen m Q
   of_so R Q None so is = is
@@ -52,10 +48,6 @@ module _ {P : Type 0} {g : Ghosts P} {T : Type 0} (seen : Member P g → P → T
   of_kind R old new word k is so =
       of_so (λ a. OfRole seen new (λ b. R k a b)) (λ a. OfRole seen new (λ b. OfKind word (λ kind. R kind a b))) old
       (λ a. of_so (λ b. R k a b) (λ b. OfKind word (λ kind. R kind a b)) new (λ b stores. (k, is, stores))) so
-
-  if_role_so : (R Q : T → Type 0) (m : Option (Member P g)) → ((a : T) → R a → Q a) → IfRole seen m R → IfRole seen m Q
-  if_role_so R Q None so is = tt
-  if_role_so R Q (Some m) so is = if_so (λ p. R (seen m p)) (λ p. Q (seen m p)) m.role (λ p. so (seen m p)) is
 
   module _ {F A : Type 0} (h : Once F (MutBor (Member P g) × Unit {0}) (Result A Reason × (MutBor (Member P g) × Unit {0}))) (f : F) where
     abbrev Made : Member P g → Result A Reason → Member P g → Type 0
@@ -79,27 +71,6 @@ module _ {P : Type 0} {g : Ghosts P} {T : Type 0} (seen : Member P g → P → T
         → ((m n : MutBor (Member P g)) → h.post f (m, tt) (Ok answer, (n, tt)) → OfRole seen (Some m.now) R) → OfRole seen old R
     role_seen R old new answer is so =
         role_of seen Made R old new answer (λ m n call. moved (λ x y. OfRole seen (Some x) R) call.shows call.leaves (so call.shown call.left call.met)) is
-
-    held : (R : T → Type 0) (old new : Option (Member P g)) (r : Result A Reason) → IsVisit Made old r new
-        → ((m n : MutBor (Member P g)) → h.post f (m, tt) (r, (n, tt)) → IfRole seen (Some m.now) R) → IfRole seen old R
-    held R old new r is so =
-        role_if seen Made R old new r (λ m n call. moved (λ x y. IfRole seen (Some x) R) call.shows call.leaves (so call.shown call.left call.met)) is
-
-    -- what cannot be refused was not
-    pub taken_1 : (X : T → Type 0) (Z : Type 0) (old new : Option (Member P g)) (r : Reason) → IsVisit Made old (Err r) new
-        → ((m n : MutBor (Member P g)) → h.post f (m, tt) (Err r, (n, tt)) → IfRole seen (Some m.now) (λ a. X a → ⊥)) → IfRole seen old (λ a. X a → Z)
-    taken_1 X Z old new r is so =
-        if_role_so (λ a. X a → ⊥) (λ a. X a → Z) old (λ a none x. absurd (none x)) (held (λ a. X a → ⊥) old new (Err r) is so)
-
-    pub taken_2 : (X Y : T → Type 0) (Z : Type 0) (old new : Option (Member P g)) (r : Reason) → IsVisit Made old (Err r) new
-        → ((m n : MutBor (Member P g)) → h.post f (m, tt) (Err r, (n, tt)) → IfRole seen (Some m.now) (λ a. X a → Y a → ⊥)) → IfRole seen old (λ a. X a → Y a → Z)
-    taken_2 X Y Z old new r is so =
-        if_role_so (λ a. X a → Y a → ⊥) (λ a. X a → Y a → Z) old (λ a none x y. absurd (none x y)) (held (λ a. X a → Y a → ⊥) old new (Err r) is so)
-
-    pub taken_3 : (W X Y : T → Type 0) (Z : Type 0) (old new : Option (Member P g)) (r : Reason) → IsVisit Made old (Err r) new
-        → ((m n : MutBor (Member P g)) → h.post f (m, tt) (Err r, (n, tt)) → IfRole seen (Some m.now) (λ a. W a → X a → Y a → ⊥)) → IfRole seen old (λ a. W a → X a → Y a → Z)
-    taken_3 W X Y Z old new r is so =
-        if_role_so (λ a. W a → X a → Y a → ⊥) (λ a. W a → X a → Y a → Z) old (λ a none w x y. absurd (none w x y)) (held (λ a. W a → X a → Y a → ⊥) old new (Err r) is so)
 
 module _ {V F A : Type 0} (h : Once F (MutBor V × Unit {0}) (Result A Reason × (MutBor V × Unit {0}))) (f : F) where
   pub role_same : (old new : Option V) (r : Result A Reason) → IsVisit (λ m r n. FnOnceReturnsAtMut h f m r n) old r new
@@ -166,4 +137,4 @@ module _ {P : Type 0} {g : Ghosts P} {T : Type 0} (seen : Member P g → P → T
 -- what the exports of a room cite
 pub ruleset heap_calls = (heap_made, called_same, tells_none)
 
-pub ruleset role_calls = (of_kind, role_made, role_answers, taken_1, taken_2, tells_none)
+pub ruleset role_calls = (of_kind, role_made, role_answers, tells_none)

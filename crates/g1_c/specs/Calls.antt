@@ -1,7 +1,6 @@
 -- How an exported call tells by its word that it is refused, and how one tells what it answers.
 use Rattle.std.specs.Prelude.{◌≡◌, ◌<◌}
-use Rattle.g1_c.specs.Prelude.{ℕ, Option, Result, Ok, Err, Reason, IsRefusal}
-use Rattle.g1_c.specs.Prelude.{refusal_word}
+use Rattle.g1_c.specs.Prelude.{ℕ, Option, Result, Ok, Err, Reason, IsRefusal, refusal_word}
 
 -- Words up to `most` say what the call did. Any other one is that of a refusal for a reason: then
 -- the call tells nothing else, and what the handle holds is as it was.

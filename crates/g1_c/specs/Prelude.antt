@@ -7,35 +7,31 @@ pub use Rattle.g1_core.specs.Calls.{DoesCopy}
 pub use Rattle.g1_core.specs.Machine.{new_machine}
 pub use Rattle.g1_core.specs.Calls.{TellsMembers, TellsPending, TellsStatus, TellsTarget}
 pub use Rattle.g1_handles.proofs.CalledLemmas.{called_ok, called_same, called_why}
-pub use Rattle.g1_handles.proofs.VisitLemmas.{role_if, role_of, role_ok, role_why, visit_same}
-pub use Rattle.g1_handles.proofs.VisitLemmas.{visit_so}
+pub use Rattle.g1_handles.proofs.VisitLemmas.{role_of, role_ok, role_why, visit_same, visit_so}
 pub use Rattle.g1_handles.specs.AtPause.{DrainsRegion, RefersOut, StoresAllAt, StoresRowAt}
 pub use Rattle.g1_handles.specs.Batch.{AreStoresOf, IsFaultAt, made_all}
 pub use Rattle.g1_handles.specs.Codes.{Between, IsRefusal, IsStoreOf, IsVisit, kind_word, layout_of}
 pub use Rattle.g1_handles.specs.Codes.{OfKind, OfOpen, reference_of, refusal_word, settings_of}
 pub use Rattle.g1_handles.specs.Counting.{stored_as}
 pub use Rattle.g1_handles.specs.HeapCalls.{IsCalled, IsHeapRefused}
-pub use Rattle.g1_handles.specs.Lacks.{IsRow, LacksCard, LacksPair, LacksPlace, LacksRanges}
-pub use Rattle.g1_handles.specs.Lacks.{LacksRegion, LacksRow}
-pub use Rattle.g1_handles.specs.Lacks.{LacksSlot, LacksSomeRegion, SaysNoData, SaysNoMove}
-pub use Rattle.g1_handles.specs.Life.{AreLikeOf, AreOfHeap, HasNewMembers, IsCloseRefused}
-pub use Rattle.g1_handles.specs.Life.{IsFor, IsHeapOpenRefused, IsNewHeap, IsPauseRefused}
-pub use Rattle.g1_handles.specs.Life.{IsResumeRefused, IsSameHeap, OfHeap, OfPaused, SaysNoHeap}
-pub use Rattle.g1_handles.specs.Life.{SaysNotPaused}
-pub use Rattle.g1_handles.specs.Phases.{BeginsReading, ComesToPause, EndsReading, Resumes}
+pub use Rattle.g1_handles.specs.Lacks.{LacksCard, LacksPair, LacksPlace, LacksRanges, LacksRegion}
+pub use Rattle.g1_handles.specs.Lacks.{LacksRow, LacksSlot, LacksSomeRegion, SaysNoData, SaysNoMove}
+pub use Rattle.g1_handles.specs.Life.{HasNewMembers, IsCloseRefused, IsHeapOpenRefused, IsNewHeap}
+pub use Rattle.g1_handles.specs.Life.{IsPauseRefused, IsResumeRefused, IsSameHeap, OfHeap, OfPaused}
+pub use Rattle.g1_handles.specs.Life.{SaysNoHeap, SaysNotPaused}
+pub use Rattle.g1_handles.specs.Phases.{AreOnlyItsOwn, AreOnlyItsReaders, BeginsReading}
+pub use Rattle.g1_handles.specs.Phases.{ComesToPause, EndsReading, HoldSame, Resumes}
 pub use Rattle.g1_handles.specs.Queries.{Checks, Finds, Overflows, TellsNextInto, TellsNextMember}
 pub use Rattle.g1_handles.specs.Queries.{TellsWord}
-pub use Rattle.g1_handles.specs.RaceStores.{CanStoreAll, Exchanges, FindsOther, IsFullAt}
-pub use Rattle.g1_handles.specs.RaceStores.{StoresAll, Swaps}
+pub use Rattle.g1_handles.specs.RaceStores.{Exchanges, FindsOther, IsFullAt, StoresAll, Swaps}
 pub use Rattle.g1_handles.specs.RaceRows.{IsRowRefused, StoresRow}
 pub use Rattle.g1_handles.specs.RaceWords.{CanStoreWord, FindsOtherWord, IsExchangeWordRefused}
 pub use Rattle.g1_handles.specs.RaceWords.{IsSwapWordRefused, MayHave, SwapsWord}
-pub use Rattle.g1_handles.specs.Racing.{held_racers, held_readers, held_sweepers, IfRacer, IfRole}
-pub use Rattle.g1_handles.specs.Racing.{IfSweeper, OfRacer, OfRole, OfSweeper, racing_in, Stores}
+pub use Rattle.g1_handles.specs.Racing.{held_racers, held_readers, held_sweepers}
+pub use Rattle.g1_handles.specs.Racing.{OfRacer, OfRole, OfSweeper, racing_in, Stores}
 pub use Rattle.g1_handles.specs.Racing.{StoresData, sweeping_in, Sweeps, TakesLog}
-pub use Rattle.g1_handles.specs.Readers.{AreReadersLike, AreReadersOf, IsReadBy, IsReadEndRefused}
-pub use Rattle.g1_handles.specs.Readers.{IsReaderRefused, IsReadRefused, OfReader, reader_layout}
-pub use Rattle.g1_handles.specs.Readers.{reading_in, ReadsPair, table_of_reader}
+pub use Rattle.g1_handles.specs.Readers.{IsReadEndRefused, IsReaderRefused, IsReadRefused, OfReader}
+pub use Rattle.g1_handles.specs.Readers.{reader_layout, reading_in, ReadsPair, table_of_reader}
 pub use Rattle.g1_handles.specs.Refusals.{AreMembersRefused, AreStoresRefused, CanStore}
 pub use Rattle.g1_handles.specs.Refusals.{IsCallRefused}
 pub use Rattle.g1_handles.specs.Refusals.{IsDrainRefused, IsOpenRefused, IsRaceDataRefused}
@@ -49,7 +45,7 @@ pub use Rattle.g1_handles.specs.declared.code.Reason.{Reason}
 pub use Rattle.g1_handles.specs.declared.heap.racing_heap.RacingHeap.{RacingHeap}
 pub use Rattle.g1_handles.specs.declared.member.Member.{Member}
 pub use Rattle.g1_handles.specs.declared.member.Role.{Ghosts}
-pub use Rattle.g1_layout.specs.Shape.{card_count, slot_count}
+pub use Rattle.g1_layout.specs.Shape.{slot_count}
 pub use Rattle.g1_layout.specs.declared.kind.Kind.{Kind}
 pub use Rattle.g1_race.specs.Calls.{ClearsAt, Copies, Forgets, Redirects, Refines, StoresAt}
 pub use Rattle.g1_race.specs.Calls.{StoresDataAt, Wipes}

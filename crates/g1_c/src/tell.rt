@@ -65,4 +65,40 @@ macro_rules! tell_reply {
     };
 }
 
+// The word of a store's answer. Its kind is written to `kind`, or 0 if the call is refused.
+macro_rules! tell_kind {
+    ($answer:expr, $kind:expr) => {
+        match $answer {
+            Err(refusal) => {
+                *$kind = 0;
+                refusal.word()
+            }
+            Ok(stored) => {
+                *$kind = g1_handles::code::kind_word(stored);
+                g1_handles::code::DONE
+            }
+        }
+    };
+}
+
+// The word of an answer about the set of a region at a pause. How many cards it has is written to
+// `count`, or 0 if the call is refused.
+macro_rules! tell_set {
+    ($answer:expr, $count:expr) => {
+        match $answer {
+            Err(refusal) => refusal.word(),
+            Ok(g1_handles::heap::sets::SetTold::First(size)) => {
+                *$count = size;
+                g1_handles::code::Reason::NoRoom.word()
+            }
+            Ok(g1_handles::heap::sets::SetTold::All(size)) => {
+                *$count = size;
+                g1_handles::code::DONE
+            }
+        }
+    };
+}
+
+pub(crate) use tell_kind;
 pub(crate) use tell_reply;
+pub(crate) use tell_set;

@@ -2,7 +2,7 @@
 use Rattle.std.specs.Prelude.{◌≡◌, ◌∷◌, ◌++◌}
 use Rattle.g1_handles.specs.{List, [], refl, Option, Ura, SProp, ent, sep, emp, ftrue, fsep, fact, fact_i, WpFn, Calls, Loops, Ptr, ptr_val, Global}
 use Rattle.g1_handles.proofs.Prelude.{Sym, Ty, Fn, local, value_local, ty_ptr, assign, place, field, rv_opd, copy, aggregate, seq, return, Val, Logic, sem, ‵, raw, ◌⊛◌, prop, ◌$◌, ◌∵◌, !, qed, by, move, keep, use0, split, regoal, fsplit, fjoin, whole, sub, agg, stop, fld, of_opd, no_more, and_then, returns, enter, alloc_all, pass_all, free_all, look_at, get, get_in, sets, RattleType, layout, nothing, Struct, Ptr-Good}
-use Rattle.g1_handles.proofs.RawBoxes.{both}
+use Rattle.g1_handles.proofs.Values.{both}
 use Rattle.g1_handles.proofs.Values.{Z, shape, owned, words_good, words_out, words_in}
 
 -- takes two words apart, and puts them together

@@ -20,10 +20,10 @@ pub use denote.Triple.Entry.{alive}
 pub use denote.Triple.Spec.{triple_of}
 pub use denote.Triple.Walked.{Goes-dropped, Stays, stay_dropped, walk_of}
 pub use mir.MapTy.{inst_fn}
-pub use mir.Syntax.{a_type, aggregate, assign, copy, dcons, dnil, field, Fn, impl, local, place, return, rv_opd, seq, Sym, tnil, Ty, ty_ptr, value_local}
+pub use mir.Syntax.{a_type, Dict, tcons, aggregate, assign, copy, dcons, dnil, field, Fn, impl, local, place, return, rv_opd, seq, Sym, tnil, Ty, ty_ptr, value_local}
 pub use mir.Val.{has_ty, of_list, Val, vcons, vnil, vnull, vptr, vstruct, WT}
 pub use types.ByLocal.{alloc_all, env, free_all, get, get_in, lands_as, lands_last, look_at, pass_all, sets, sets_last}
-pub use types.Kit.{ !, at_ret, await, by, drop, feq_i, feq_l, fjoin, fpack, fpick, fsplit, given, Goal, Item, join, keep, later, learn, move, pick, prop, qed, raw, regoal, rewrite, Seq, some, split, split3, Step, step, suffices, use0, use1, ‵, ◌$◌, ◌∵◌, ◌⊛◌}
+pub use types.Kit.{ !, any_q, at_ret, await, by, drop, feq_i, feq_l, fjoin, fpack, fpick, fsplit, given, Goal, Item, join, keep, later, learn, move, pick, prop, qed, raw, regoal, rewrite, Seq, some, split, split3, Step, step, suffices, use0, use1, ‵, ◌$◌, ◌∵◌, ◌⊛◌}
 pub use types.Logic.{Logic, sem}
 pub use types.Part.{agg, sub, whole}
 pub use types.Run.{and_then, bin, blocks, branches, enter, exec, first, fld, lit, no_more, of_opd, returns, stop}

@@ -1,22 +1,48 @@
 -- The machine values of nullable boxes and of handles. Assumes `Logic`.
 use Rattle.std.specs.Prelude.{◌≡◌, ◌∷◌, ◌++◌, ◌&&◌}
 use Rattle.g1_handles.specs.{ℕ, List, [], refl, subst, lit<, Option, Some, None, T, true, Ura, Fml, fsep, feq, ent, guard, guard_i, snd∗, via, fact_use, RawPtr, Ptr, block_ptr, null_ptr, ptr_val, lies_at, Testable, Global, ghosts, holds, owns_boxed}
-use Rattle.g1_handles.proofs.Prelude.{Sym, impl, tnil, dnil, Val, vnull, vstruct, of_list, has_ty, WT, Logic, sem, Item, Goal, Seq, Step, step, ‵, given, ◌$◌, move, drop, fsplit, fjoin, fpick, fpack, learn, use1, feq_i, feq_l, RattleType, Valss, nothing, Struct, within, fields, lone, layout, Al, Good, and_tt}
+use Rattle.g1_handles.proofs.Prelude.{Sym, impl, tnil, tcons, dnil, Dict, Val, vnull, vptr, vstruct, vcons, vnil, of_list, has_ty, WT, Logic, sem, Item, Goal, Seq, Step, step, ‵, given, ◌$◌, move, drop, fsplit, fjoin, fpick, fpack, learn, use1, feq_i, feq_l, RattleType, Valss, nothing, Struct, within, fields, lone, layout, Laws, Al, Good, and_tt}
 use mir.Raw.{raw as bare}
+use denote.Exit.{no}
+use denote.Param.{arg}
+use denote.Param.Laws.{arg_laws}
 use denote.Struct.Struct.{Shape}
 use Rattle.std.proofs.alloc.Calls.{handle_tells}
 use Rattle.std.proofs.GlobalToken.{dealloc_token-Testable}
 use Rattle.std.specs.Borrow.{full_share}
 use Rattle.std.specs.contracts.alloc.Global as global
+use Rattle.std.specs.contracts.impls.GlobalAllocator.TheImpl.{dict}
 use Rattle.std.proofs.alloc.Global.TheLaws as laws
-use Rattle.g1_handles.proofs.RawBoxes.{both, raw_box_good}
+use Rattle.std_alloc.proofs.BoxSteps.Form.{Bx}
 use Rattle.g1_handles.specs.contracts.nullable_box.NullableBox as boxed
 
 abbrev pub Z : RattleType
 Z = global.the_row
 
+-- the allocator as an argument of a call
+abbrev pub A : RattleType
+A = arg (bare (layout Z)) no Z
+
+pub A_laws : Laws A
+A_laws = arg_laws (bare (layout Z)) no Z laws.the_row_laws refl
+
+-- its glue, since it needs no drop
+abbrev pub undropped : Dict
+undropped = impl ("g1_handles::Destruct++none::drop" ∷ []) (tcons (layout A) tnil) dnil
+
 abbrev pub al : Al
-al = record { row = Z; laws = laws.the_row_laws; g = ghosts; d = impl [] tnil dnil; drops = impl [] tnil dnil }
+al = record { row = Z; laws = laws.the_row_laws; g = ghosts; d = dict; drops = undropped }
+
+-- a box as its type and its allocator say
+abbrev pub box_at : (R : RattleType) → Laws R → Bx
+box_at R L = record { row = R; laws = L; al = al }
+
+abbrev pub both : Val → Val → Val
+both v w = vstruct (vcons v (vcons w vnil))
+
+-- a pointer with an allocator, in its words
+pub filled_good : (b o : ℕ) (h : Val) → Good (layout Z) h → T (has_ty (layout Z) h && true) × WT (both (vptr b o) h)
+filled_good b o h fits = (and_tt (has_ty (layout Z) h) fits.0, (tt, (fits.1, tt)))
 
 -- null with an allocator, in its words
 pub closed_good : (h : Val) → Good (layout Z) h → T (has_ty (layout Z) h && true) × WT (both vnull h)
@@ -49,7 +75,7 @@ module _ (R : RattleType) (n : Sym) (ts : List RattleType) where
 
   pub words_good : (p : Ptr) (h : Val) → Good (layout Z) h → Good (layout (Struct shape)) (both (ptr_val p) h)
   words_good null_ptr h fits = closed_good h fits
-  words_good (block_ptr b o) h fits = raw_box_good R Z laws.the_row_laws ghosts b o h fits
+  words_good (block_ptr b o) h fits = filled_good b o h fits
 
   module _ {M : Type 1} {𝓤 : Ura M} {𝓛 : Logic 𝓤} {K : Type 0} {Γ : List (Item 𝓤)} {G : Goal 𝓤 𝓛.H} where
     pub words_out : K → (p : Ptr) (a : Global) (v : Option R.Denot) (vs : List Val)

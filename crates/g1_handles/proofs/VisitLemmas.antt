@@ -1,6 +1,6 @@
 -- What a call on what a handle holds says once its result is known.
 use Rattle.std.specs.Prelude.{◌≡◌}
-use Rattle.g1_handles.specs.{◌∙◌, ap, sym, subst, inl, refl, Option, Some, None, Result, Ok, Err, Reason, Ghosts, Member, OfRole, IfRole, IsRoleRefused, IsVisit}
+use Rattle.g1_handles.specs.{◌∙◌, ap, sym, subst, inl, refl, Option, Some, None, Result, Ok, Err, Reason, Ghosts, Member, OfRole, IsRoleRefused, IsVisit}
 use Rattle.g1_handles.specs.declared.code.Reason.TheVariants as refusal
 
 abbrev pub is_ok : {A : Type 0} → Result A Reason → Type 0
@@ -52,7 +52,3 @@ module _ {P : Type 0} {g : Ghosts P} {T A : Type 0} (seen : Member P g → P →
   pub role_why : (Why : T → Reason → Type 0) (old new : Option (Member P g)) (r : Reason)
       → ((m n : Member P g) → Q m (Err r) n → IsRoleRefused seen (Some m) Why r) → IsVisit Q old (Err r) new → IsRoleRefused seen old Why r
   role_why Why old new r = visit_by Q (λ o _. IsRoleRefused seen o Why r) old new (Err r) (λ e. inl (ap (err_of r) e, refl))
-
-  pub role_if : (R : T → Type 0) (old new : Option (Member P g)) (r : Result A Reason)
-      → ((m n : Member P g) → Q m r n → IfRole seen (Some m) R) → IsVisit Q old r new → IfRole seen old R
-  role_if R old new r = visit_by Q (λ o _. IfRole seen o R) old new r (λ e. tt)

@@ -1,5 +1,5 @@
 -- What the crate takes from the libraries below it.
-pub use Rattle.std.proofs.Common.{[], ap, arith, Box, cond, inl, inr, length-append, List, lit<}
+pub use Rattle.std.proofs.Common.{[], ap, arith, Box, inl, inr, List, lit<}
 pub use Rattle.std.proofs.Common.{map, refl, rules, set, slice_index_or, subst, suc, sym, take, ℕ}
 pub use Rattle.std.proofs.Common.{◌∙◌}
 pub use Rattle.std.proofs.Math.ListN.{get_or-map}
@@ -8,7 +8,7 @@ pub use Rattle.std.proofs.Props.{props}
 pub use Rattle.std.proofs.lemmas.Bool.{cases_lt, eqb-false, eqb-true, not-true}
 pub use Rattle.std.proofs.lemmas.Grind.{common_steps}
 pub use Rattle.std.proofs.lemmas.List.{drop-set-lt, get_or-set_other, get_or-set_same, get_or-take}
-pub use Rattle.std.proofs.lemmas.List.{get_or_default, length-map, length-set, length-take}
+pub use Rattle.std.proofs.lemmas.List.{get_or_default, length-map, length-set}
 pub use Rattle.std.proofs.lemmas.List.{length_push, map-append, take_more_set}
 pub use Rattle.std.proofs.lemmas.List.Elements.{All-contains, All-from_all_within, All-map}
 pub use Rattle.std.proofs.lemmas.List.Elements.{All-more, All-nil, All-push, All-take}
@@ -19,9 +19,9 @@ pub use Rattle.std.specs.Fn.{FnOnceReturnsAtMut}
 pub use Rattle.std.specs.Global.{Global}
 pub use Rattle.std.specs.List.{AllWithin}
 pub use Rattle.std.specs.Option.{ForSome}
-pub use Rattle.std.specs.Prelude.{All, Any, Bool, Contains, count_by, drop, Err, false, fold}
+pub use Rattle.std.specs.Prelude.{All, Any, Bool, drop, Err, false, fold}
 pub use Rattle.std.specs.Prelude.{IfErr, IfNone}
-pub use Rattle.std.specs.Prelude.{IfOk, IfSome, IsErrAnd, IsOk, IsOkAnd, IsSome, IsSomeAnd, IsTrue}
+pub use Rattle.std.specs.Prelude.{IfOk, IfSome, IsErrAnd, IsOk, IsSome, IsSomeAnd, IsTrue}
 pub use Rattle.std.specs.Prelude.{length, MatchOption, None, not, Ok, OnErr, OnOk, Option}
 pub use Rattle.std.specs.Prelude.{replicate, Result, slice_set, Some, SomeIff, Vec, vec_capacity}
 pub use Rattle.std.specs.Prelude.{vec_len, ⊤}
@@ -53,7 +53,7 @@ pub use Rattle.g1_core.specs.Prelude.{reads_after}
 pub use Rattle.g1_core.specs.Redirect.{DoesRedirect}
 pub use Rattle.g1_core.specs.Run.{drained, IsStep, kind_of, stored}
 pub use Rattle.g1_core.specs.Settings.{AreSettings}
-pub use Rattle.g1_core.specs.Table.{AreMembers, AreRefinable, Crosses, IsCovered, IsPending}
+pub use Rattle.g1_core.specs.Table.{AreMembers, AreRefinable, Crosses, IsPending}
 pub use Rattle.g1_core.specs.Table.{IsRecorded, opening, Table, target_of}
 pub use Rattle.g1_core.specs.Verify.{Differs, IsFirst, IsMissing, looked_for}
 pub use Rattle.g1_core.specs.declared.config.Settings.{Settings}
@@ -79,7 +79,7 @@ pub use Rattle.g1_race.specs.Members.{is_logged, IsKind, IsNewRacer, IsNewSweepe
 pub use Rattle.g1_race.specs.Members.{race_id, race_layout, race_shape, race_words, racer_log}
 pub use Rattle.g1_race.specs.Members.{racer_race, racer_view, sweeper_race, sweeper_start}
 pub use Rattle.g1_race.specs.Members.{sweeper_view}
-pub use Rattle.g1_race.specs.Over.{ended, ended_of, Pause, start_at, table_at, table_of}
+pub use Rattle.g1_race.specs.Over.{ended, Pause, start_at, table_at, table_of}
 pub use Rattle.g1_race.specs.Race.{stored_view, word_of}
 pub use Rattle.g1_race.specs.Reading.{IsNextMember, IsNextPending, IsReaderOf, Known, known}
 pub use Rattle.g1_race.specs.Reading.{reader_race, table_read}

@@ -1,6 +1,6 @@
 -- What a racer's stores do that return what was there, depend on it, or are several.
 use Rattle.std.specs.Prelude.{◌≡◌, ◌+◌, ◌<◌, ◌≤◌, ◌∷◌, ◌++◌, if◌then◌else◌}
-use Rattle.g1_handles.specs.Prelude.{ℕ, List, [], Bool, true, slice_index_or, count_by, crosses}
+use Rattle.g1_handles.specs.Prelude.{ℕ, List, [], Bool, true, slice_index_or, crosses}
 use Rattle.g1_handles.specs.Prelude.{Race, Racer}
 use Rattle.g1_handles.specs.Prelude.{length, take, Option, array_vec_len, Kind, IsFound, slot_card}
 use Rattle.g1_handles.specs.Prelude.{HasOverwritten, HasStored, HasDiffered, HasNotStored, IsKind}
@@ -14,7 +14,7 @@ use Rattle.g1_handles.specs.declared.member.batch.BatchEnd.TheVariants.{Whole, S
 use Rattle.g1_handles.specs.declared.member.batch.RaceBatch.{RaceBatch}
 use Rattle.g1_handles.specs.declared.member.exchange.Exchange.{Exchange}
 use Rattle.g1_handles.specs.declared.member.exchange.Exchange.TheVariants as exchange
-use Rattle.g1_handles.specs.Batch.{AreStoresOf, IsFaultAt}
+use Rattle.g1_handles.specs.Batch.{IsFaultAt}
 use Rattle.g1_handles.specs.Codes.{reference_of}
 
 -- a racer before and after a store of the place t to slot p, whose overwritten word referred to the
@@ -78,9 +78,3 @@ pub record StoresFirst (a : Racing) (stores : List Store) (answer : RaceBatch) (
     : Type 0 where
   pub stored : StoresAll a (take answer.count stores) b
   pub end : IsEnd answer.end a stores answer.count b
-
--- the heap has each slot and each target, and the racer's log has room for the card of each store
--- that crosses regions
-pub record CanStoreAll (a : Racing) (stores : List Store) : Type 0 where
-  pub within : AreStoresOf (race_layout a.race) stores
-  pub room : array_vec_len a.racer.log + count_by (is_across a.race) stores ≤ 256

@@ -1,17 +1,17 @@
 -- What the calls on the members of a race do.
 use Rattle.std.specs.Prelude.{◌≡◌, ◌≤◌, ◌^◌, ◌∷◌, if◌then◌else◌, ◌+◌}
 use Rattle.g1_handles.specs.Prelude.{ℕ, List, [], map, All}
-use Rattle.g1_handles.specs.Prelude.{Option, Some, None, IsSome, IsSomeAnd, IfSome, false, Bool}
+use Rattle.g1_handles.specs.Prelude.{Option, Some, None, IsSome, IsSomeAnd, false, Bool}
 use Rattle.g1_handles.specs.Prelude.{length, arc_value, Kind, Null, Race, Racer, Sweeper, View}
 use Rattle.g1_handles.specs.Prelude.{IsWord, IsFound, HasStored, stored_view, race_shape}
 use Rattle.g1_handles.specs.Prelude.{racer_view, sweeper_start, sweeper_view, HasCleaned}
 use Rattle.g1_race_words.specs.Steps.{no_seat}
 use Rattle.g1_handles.specs.declared.member.Role.{Ghosts}
 use Rattle.g1_handles.specs.declared.member.Member.{Member}
-use Rattle.g1_handles.specs.declared.member.racer_handle.RacerHandle.{RacerHandle}
+use Rattle.g1_handles.specs.declared.handles.RacerHandle.{RacerHandle}
 use Rattle.g1_handles.specs.declared.member.counts.MemberCounts.{MemberCounts}
-use Rattle.g1_handles.specs.declared.member.sweeper_handle.SweeperHandle.{SweeperHandle}
-use Rattle.g1_handles.specs.declared.member.reader_handle.ReaderHandle.{ReaderHandle}
+use Rattle.g1_handles.specs.declared.handles.SweeperHandle.{SweeperHandle}
+use Rattle.g1_handles.specs.declared.handles.ReaderHandle.{ReaderHandle}
 use Rattle.g1_handles.specs.Own.{RacerMember, SweeperMember, ReaderMember}
 use Rattle.g1_handles.specs.Counting.{no_counts, with_store, with_refined_card}
 
@@ -43,26 +43,13 @@ module _ {P : Type 0} {g : Ghosts P} {T : Type 0} (seen : Member P g → P → T
   OfRole None Q = ⊥
   OfRole (Some m) Q = IsSomeAnd m.role (λ p. Q (seen m p))
 
-  -- if the handle has one, it is so of it
-  abbrev pub IfRole : Option (Member P g) → (T → Type 0) → Type 0
-  IfRole None Q = Unit {0}
-  IfRole (Some m) Q = IfSome m.role (λ p. Q (seen m p))
-
 -- the handle has a racer, and it is so of it
 abbrev pub OfRacer : Option RacerMember → (Racing → Type 0) → Type 0
 OfRacer m Q = OfRole racing_in m Q
 
--- if the handle has a racer, it is so of it
-abbrev pub IfRacer : Option RacerMember → (Racing → Type 0) → Type 0
-IfRacer m Q = IfRole racing_in m Q
-
 -- the handle has a sweeper, and it is so of it
 abbrev pub OfSweeper : Option SweeperMember → (Sweeping → Type 0) → Type 0
 OfSweeper m Q = OfRole sweeping_in m Q
-
--- if the handle has a sweeper, it is so of it
-abbrev pub IfSweeper : Option SweeperMember → (Sweeping → Type 0) → Type 0
-IfSweeper m Q = IfRole sweeping_in m Q
 
 -- a racer before and after a store of the place t to slot p
 pub record Stores (a : Racing) (p : ℕ) (t : Option ℕ) (k : Kind) (b : Racing) : Type 0 where

@@ -7,7 +7,6 @@ ghost use Rattle.g1_handles.specs.Codes.{IsVisit};
 
 use crate::code::Reason;
 use crate::nullable_box::NullableBox;
-use crate::raw_box::RawBox;
 use core::mem::replace;
 use std::alloc::Global;
 
@@ -46,18 +45,18 @@ pub fn visit<H: AnyHandle, A, F: FnOnce(&mut H::Value) -> Result<A, Reason>>(
         (H.value handle) result.1 (H.value result.0) }
 {
     let (alloc, call) = words;
-    let Some(mut inside) = into_box(handle) else {
+    let Some(mut inside) = handle.into_nullable().into_box() else {
         return (closed(alloc), Err(Reason::NotOpen));
     };
     let answer = call(&mut inside);
-    (opened(inside), answer)
+    (H::from_nullable(NullableBox::of(inside)), answer)
 }
 
 /// Returns an open handle, which takes over a value.
 pub(crate) fn opened<H: AnyHandle>(boxed: Box<H::Value>) -> H
     ensures { H.value result ≡ Some boxed.value }
 {
-    H::from_nullable(NullableBox::of(RawBox::of(boxed)))
+    H::from_nullable(NullableBox::of(boxed))
 }
 
 /// Returns a handle that holds nothing.
@@ -72,8 +71,7 @@ pub(crate) fn into_box<H: AnyHandle>(handle: H) -> Option<Box<H::Value>>
     ensures { MatchOption result (H.value handle ≡ None)
         (λ boxed. H.value handle ≡ Some boxed.value) }
 {
-    let boxed = handle.into_nullable().into_raw_box()?;
-    Some(boxed.into_box())
+    handle.into_nullable().into_box()
 }
 
 /// Whether all handles are closed.

@@ -1,7 +1,6 @@
 //! A heap whose stores race.
 //!
-//! - [`racing_heap`] is the heap: at a pause, read there or with its members out. [`handle`] has
-//!   its handle.
+//! - [`racing_heap`] is the heap: at a pause, read there or with its members out.
 //! - [`open`] begins and ends it, [`resume`] hands its members out, and [`pause`] takes them in.
 //!   Before anything changes, a pause checks that it was given all members of the heap
 //!   (`one_race`).
@@ -15,7 +14,6 @@ pub mod at_pause;
 pub mod copy;
 pub mod drains;
 pub mod evacuation;
-pub mod handle;
 mod one_race;
 pub mod open;
 pub mod pause;

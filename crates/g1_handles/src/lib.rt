@@ -8,10 +8,10 @@
 //!   collector's calls at a pause.
 //! - [`member`] is a racer, a sweeper or a reader of such a heap, with its calls.
 //!
-//! What serves them all: [`any_handle`] says what all handles have in common, and [`sent`] that
-//! each may go to another thread. A handle has the words of a box behind a pointer that may be null
-//! (`nullable_box`, `raw_box`). [`code`] has the codes that calls return, and [`list`] writes lists
-//! of cards.
+//! What serves them all: [`handles`] has the handles, [`any_handle`] says what they have in
+//! common, and [`sent`] that each may go to another thread. A handle has the words of a box behind
+//! a pointer that may be null (`nullable_box`). [`code`] has the codes that calls return, and
+//! [`list`] writes lists of cards.
 //!
 //! A function `.._in` is a call on a core, `.._at` one on a heap at a pause, and `.._by` one of a
 //! racer, a sweeper or a reader; [`any_handle::visit`] makes it on what a handle holds, and gives
@@ -26,10 +26,10 @@
 
 pub mod any_handle;
 pub mod code;
+pub mod handles;
 pub mod heap;
 pub mod list;
 pub mod member;
 mod nullable_box;
 pub mod one_core;
-mod raw_box;
 pub mod sent;

@@ -1,6 +1,5 @@
 //! A member of a race: a racer, a sweeper or a reader, with its share of the race.
 //!
-//! - [`racer_handle`], [`sweeper_handle`] and [`reader_handle`] have their handles.
 //! - [`store`], [`log`] and [`refine`] are the path of a card while members are out, and [`counts`]
 //!   tells what a member has done.
 //! - [`exchange`] has the stores that return what a slot referred to or depend on it, [`batch`]
@@ -14,13 +13,10 @@ pub mod counts;
 pub mod data;
 pub mod exchange;
 pub mod log;
-pub mod racer_handle;
-pub mod reader_handle;
 pub mod reader_queries;
 pub mod refine;
 pub mod row;
 pub mod store;
-pub mod sweeper_handle;
 pub mod words;
 
 ghost use Rattle.std.specs.Prelude.{◌≡◌};

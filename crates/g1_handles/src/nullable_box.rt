@@ -2,15 +2,15 @@
 ghost use Rattle.std.specs.Prelude.{◌≡◌};
 ghost use Rattle.g1_handles.specs.Prelude.{Option, Some, None, MatchOption};
 
-use crate::raw_box::RawBox;
 use std::alloc::Global;
 use std::marker::Model;
 use std::ptr::null_mut;
 
 /// A value behind a pointer, or nothing if the pointer is null.
 ///
-/// Contracts see the value, or `None` at null. Dropping it frees nothing. A handle is a struct of
-/// the same words, since an exported function takes no type with parameters.
+/// It owns what a box owns: the value, and the right to free its block. Contracts see the value, or
+/// `None` at null. Dropping it frees nothing. A handle is a struct of the same words, since an
+/// exported function takes no type with parameters.
 pub struct NullableBox<T> {
     pub(crate) at: *mut T,
     pub(crate) alloc: Global,
@@ -24,11 +24,11 @@ impl<T> Model for NullableBox<T> {
 }
 
 impl<T: Drop> NullableBox<T> {
-    /// Takes over a value.
-    pub(crate) fn of(boxed: RawBox<T, Global>) -> NullableBox<T>
+    /// Takes over the value of a box.
+    pub(crate) fn of(boxed: Box<T>) -> NullableBox<T>
         ensures { result.value ≡ Some boxed.value }
     {
-        let RawBox { at, alloc } = boxed;
+        let (at, alloc) = Box::into_raw_with_allocator(boxed);
         NullableBox { at, alloc }
     }
 
@@ -42,15 +42,15 @@ impl<T: Drop> NullableBox<T> {
         }
     }
 
-    /// Gives the value back, if there is one.
-    pub(crate) fn into_raw_box(self) -> Option<RawBox<T, Global>>
+    /// Makes the box again, if there is a value.
+    pub(crate) fn into_box(self) -> Option<Box<T>>
         ensures { MatchOption result (self.value ≡ None) (λ boxed. self.value ≡ Some boxed.value) }
     {
         let NullableBox { at, alloc } = self;
         if at.is_null() {
             None
         } else {
-            Some(RawBox { at, alloc })
+            Some(unsafe { Box::from_raw(alloc, at) })
         }
     }
 }

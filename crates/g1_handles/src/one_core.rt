@@ -1,6 +1,6 @@
 //! A core behind a handle, for one thread at a time.
 //!
-//! - [`handle`] has the handle, and [`open`] opens and closes it.
+//! - [`open`] opens a handle and closes it.
 //! - [`store`], [`batch`], [`refinement`] and [`pause`] are the path of a card.
 //! - [`evacuation`] has what may follow one: the clear and the redirect.
 //! - [`copy`] copies a range of slots. [`queries`] and [`members`] read what is known, and
@@ -9,7 +9,6 @@
 pub mod batch;
 pub mod copy;
 pub mod evacuation;
-pub mod handle;
 pub mod members;
 pub mod open;
 pub mod pause;

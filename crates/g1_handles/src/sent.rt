@@ -1,10 +1,6 @@
 //! Each handle may go to another thread.
 
-use crate::heap::handle::HeapHandle;
-use crate::member::racer_handle::RacerHandle;
-use crate::member::reader_handle::ReaderHandle;
-use crate::member::sweeper_handle::SweeperHandle;
-use crate::one_core::handle::Handle;
+use crate::handles::{Handle, HeapHandle, RacerHandle, ReaderHandle, SweeperHandle};
 
 fn sent<T: Send>(_value: &T) {}
 

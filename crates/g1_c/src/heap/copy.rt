@@ -5,8 +5,8 @@ ghost use Rattle.g1_c.specs.{OfPaused, LacksRanges, TellsRefusal};
 
 use crate::calling::on_heap;
 use crate::tell::answer_word;
+use g1_handles::handles::HeapHandle;
 use g1_handles::heap::copy::copy_at;
-use g1_handles::heap::handle::HeapHandle;
 use std::alloc::Global;
 
 /// As in `g1.h`.
@@ -20,8 +20,6 @@ pub extern "C" fn g1_heap_copy(
 ) -> u32
     ensures copied { result ≡ 0 → IsSameHeap heap.old.value heap.new.value (λ old new.
         Copies old from to count new) }
-    ensures answered { OfPaused heap.old.value (λ old. (from + count ≤ slot_count old.layout)
-        × (to + count ≤ slot_count old.layout)) → result ≡ 0 }
     ensures within { result ≡ 0 → OfPaused heap.old.value (λ old.
         (from + count ≤ slot_count old.layout) × (to + count ≤ slot_count old.layout)) }
     ensures told { TellsRefusal 0 result heap.old.value heap.new.value (Unit {0})

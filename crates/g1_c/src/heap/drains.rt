@@ -4,11 +4,10 @@ ghost use Rattle.g1_c.specs.{take, DrainsRegion, Refines, IsWritten, IsRefusal};
 ghost use Rattle.g1_c.specs.{IsHeapRefused, IsSameHeap, HasFirst, LacksRegion, TellsRefusal};
 
 use crate::calling::on_heap;
-use crate::tell::answer_word;
-use g1_handles::code::{DONE, Reason};
+use crate::tell::{answer_word, tell_set};
+use g1_handles::handles::HeapHandle;
 use g1_handles::heap::drains::refine_at;
-use g1_handles::heap::handle::HeapHandle;
-use g1_handles::heap::sets::{SetTold, Which, set_of_heap};
+use g1_handles::heap::sets::{Which, set_of_heap};
 use std::alloc::Global;
 
 /// As in `g1.h`.
@@ -32,17 +31,10 @@ pub extern "C" fn g1_heap_drain(
     ensures refused { 0 < result → result ≢ 16 → heap.new.value ≡ heap.old.value }
 {
     *count = 0;
-    match set_of_heap(alloc, heap, Which::Refined, region, cards) {
-        Err(refusal) => refusal.word(),
-        Ok(SetTold::First(size)) => {
-            *count = size;
-            Reason::NoRoom.word()
-        }
-        Ok(SetTold::All(size)) => {
-            *count = size;
-            DONE
-        }
-    }
+    tell_set!(
+        set_of_heap(alloc, heap, Which::Refined, region, cards),
+        count
+    )
 }
 
 /// As in `g1.h`.

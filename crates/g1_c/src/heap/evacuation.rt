@@ -9,8 +9,8 @@ use crate::calling::on_heap;
 use crate::tell::{answer_word, tell, tell_reply};
 use g1_core::ClearReply;
 use g1_handles::code::Reason;
+use g1_handles::handles::HeapHandle;
 use g1_handles::heap::evacuation::{clear_at, forget_at, free_at, redirect_at, wipe_at};
-use g1_handles::heap::handle::HeapHandle;
 use std::alloc::Global;
 
 /// As in `g1.h`.
@@ -79,7 +79,6 @@ pub extern "C" fn g1_heap_redirect(
 pub extern "C" fn g1_heap_wipe(alloc: Global, heap: &mut HeapHandle, region: u32) -> u32
     ensures wiped { result ≡ 0 → IsSameHeap heap.old.value heap.new.value (λ old new.
         Wipes old region new) }
-    ensures answered { OfPaused heap.old.value (λ old. region < old.layout.regions) → result ≡ 0 }
     ensures told { TellsRefusal 0 result heap.old.value heap.new.value (Unit {0})
         (IsHeapRefused heap.old.value (λ old. LacksRegion old.layout region)) }
 {

@@ -8,13 +8,13 @@ ghost use Rattle.g1_c.specs.{LacksSlot, TellsNextMember, IsRaceWith, IsTold};
 
 use crate::calling::on_heap;
 use crate::one_core::queries::Totals;
-use crate::tell::{tell, tell_whether};
+use crate::tell::{tell, tell_set, tell_whether};
 use g1_core::Status;
-use g1_handles::code::{DONE, NULL, Reason};
+use g1_handles::code::NULL;
+use g1_handles::handles::HeapHandle;
 use g1_handles::heap::at_pause::PausedHeap;
-use g1_handles::heap::handle::HeapHandle;
 use g1_handles::heap::queries::{is_pending_at, next_member_at, status_at, target_at};
-use g1_handles::heap::sets::{SetTold, Which, set_of_heap};
+use g1_handles::heap::sets::{Which, set_of_heap};
 use std::alloc::Global;
 
 /// As in `g1.h`.
@@ -103,17 +103,10 @@ pub extern "C" fn g1_heap_members(
     ensures same { heap.new.value ≡ heap.old.value }
 {
     *count = 0;
-    match set_of_heap(alloc, heap, Which::Recorded, region, cards) {
-        Err(refusal) => refusal.word(),
-        Ok(SetTold::First(size)) => {
-            *count = size;
-            Reason::NoRoom.word()
-        }
-        Ok(SetTold::All(size)) => {
-            *count = size;
-            DONE
-        }
-    }
+    tell_set!(
+        set_of_heap(alloc, heap, Which::Recorded, region, cards),
+        count
+    )
 }
 
 /// As in `g1.h`.

@@ -1,14 +1,12 @@
 //! Several threads read a heap at a pause: how that begins and ends.
-ghost use Rattle.std.specs.Prelude.{◌≡◌, ◌<◌};
-ghost use Rattle.g1_c.specs.{length, IsRefusal, BeginsReading, EndsReading, held_readers};
-ghost use Rattle.g1_c.specs.{AreReadersOf, AreReadersLike, IsReadBy, IsReadRefused};
-ghost use Rattle.g1_c.specs.{IsReadEndRefused};
+ghost use Rattle.std.specs.Prelude.{◌≡◌};
+ghost use Rattle.g1_c.specs.{TellsRefusal, BeginsReading, EndsReading, held_readers};
+ghost use Rattle.g1_c.specs.{AreOnlyItsReaders, IsReadRefused, IsReadEndRefused};
 
 use crate::tell::answer_word;
-use g1_handles::heap::handle::HeapHandle;
+use g1_handles::handles::{HeapHandle, ReaderHandle};
 use g1_handles::heap::reading::read_heap;
 use g1_handles::heap::reading_end::end_read_of_heap;
-use g1_handles::member::reader_handle::ReaderHandle;
 use std::alloc::Global;
 
 /// As in `g1.h`.
@@ -18,12 +16,11 @@ pub extern "C" fn g1_heap_read(
     heap: &mut HeapHandle,
     readers: &mut [ReaderHandle],
 ) -> u32
-    ensures lent { result ≡ 0 → BeginsReading (length readers.old)
-        heap.old.value heap.new.value (held_readers readers.old) (held_readers readers.new) }
-    ensures why { 0 < result →
-        IsRefusal result (IsReadRefused heap.old.value (held_readers readers.old)) }
-    ensures refused { 0 < result → (heap.new.value ≡ heap.old.value)
-        × (held_readers readers.new ≡ held_readers readers.old) }
+    ensures lent { result ≡ 0 →
+        BeginsReading heap.old.value heap.new.value readers.old readers.new }
+    ensures told { TellsRefusal 0 result heap.old.value heap.new.value
+        (held_readers readers.new ≡ held_readers readers.old)
+        (IsReadRefused heap.old.value (held_readers readers.old)) }
 {
     answer_word(read_heap(alloc, heap, readers))
 }
@@ -40,15 +37,12 @@ pub extern "C" fn g1_heap_read_end(
     heap: &mut HeapHandle,
     readers: &mut [ReaderHandle],
 ) -> u32
-    requires one { IsReadBy heap.old.value (length readers.old) →
-        AreReadersLike heap.old.value (held_readers readers.old) →
-        AreReadersOf heap.old.value (held_readers readers.old) }
-    ensures ended { result ≡ 0 → EndsReading (length readers.old)
-        heap.old.value heap.new.value (held_readers readers.old) (held_readers readers.new) }
-    ensures why { 0 < result →
-        IsRefusal result (IsReadEndRefused heap.old.value (held_readers readers.old)) }
-    ensures refused { 0 < result → (heap.new.value ≡ heap.old.value)
-        × (held_readers readers.new ≡ held_readers readers.old) }
+    requires one { AreOnlyItsReaders heap.old.value readers.old }
+    ensures ended { result ≡ 0 →
+        EndsReading heap.old.value heap.new.value readers.old readers.new }
+    ensures told { TellsRefusal 0 result heap.old.value heap.new.value
+        (held_readers readers.new ≡ held_readers readers.old)
+        (IsReadEndRefused heap.old.value (held_readers readers.old)) }
 {
     answer_word(end_read_of_heap(alloc, heap, readers))
 }

@@ -1,11 +1,10 @@
 //! A row of words is stored by one call into a heap at a pause.
 ghost use Rattle.std.specs.Prelude.{◌≡◌};
-ghost use Rattle.g1_c.specs.{IsRow, StoresRowAt, IsHeapRefused, IsSameHeap, OfPaused, LacksRow};
-ghost use Rattle.g1_c.specs.{TellsRefusal};
+ghost use Rattle.g1_c.specs.{StoresRowAt, IsHeapRefused, IsSameHeap, LacksRow, TellsRefusal};
 
 use crate::calling::on_heap;
 use crate::tell::answer_word;
-use g1_handles::heap::handle::HeapHandle;
+use g1_handles::handles::HeapHandle;
 use g1_handles::heap::row::store_words_at;
 use std::alloc::Global;
 
@@ -19,8 +18,6 @@ pub extern "C" fn g1_heap_store_words(
 ) -> u32
     ensures stored { result ≡ 0 → IsSameHeap heap.old.value heap.new.value (λ old new.
         StoresRowAt old slot words.now new) }
-    ensures answered { OfPaused heap.old.value (λ old. IsRow old.layout slot words.now)
-        → result ≡ 0 }
     ensures told { TellsRefusal 0 result heap.old.value heap.new.value (Unit {0})
         (IsHeapRefused heap.old.value (λ old. LacksRow old.layout slot words.now)) }
 {

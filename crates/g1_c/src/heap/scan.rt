@@ -7,7 +7,7 @@ ghost use Rattle.g1_c.specs.{IsSameHeap, LacksSomeRegion, IsTold};
 use crate::calling::on_heap;
 use crate::tell::tell;
 use g1_handles::code::NULL;
-use g1_handles::heap::handle::HeapHandle;
+use g1_handles::handles::HeapHandle;
 use g1_handles::heap::scan::{next_dirty_at, next_into_at};
 use std::alloc::Global;
 

@@ -1,12 +1,12 @@
 //! The collector's own stores into a heap at a pause.
 ghost use Rattle.std.specs.Prelude.{◌≡◌, ◌⊎◌, ◌≤◌};
-ghost use Rattle.g1_c.specs.{length, take, StoresAt, StoresAllAt, IsFaultAt, OfKind};
-ghost use Rattle.g1_c.specs.{reference_of, IsHeapRefused, IsSameHeap, OfPaused, LacksPlace};
-ghost use Rattle.g1_c.specs.{TellsRefusal};
+ghost use Rattle.g1_c.specs.{length, take, StoresAt, StoresAllAt, IsFaultAt, OfKind, reference_of};
+ghost use Rattle.g1_c.specs.{IsHeapRefused, IsSameHeap, OfPaused, LacksPlace, TellsRefusal};
 
 use crate::calling::on_heap;
-use g1_handles::code::{DONE, STOPPED, kind_word};
-use g1_handles::heap::handle::HeapHandle;
+use crate::tell::tell_kind;
+use g1_handles::code::{DONE, STOPPED};
+use g1_handles::handles::HeapHandle;
 use g1_handles::heap::stores::{store_all_at, store_at};
 use g1_handles::one_core::batch::Store;
 use std::alloc::Global;
@@ -25,16 +25,7 @@ pub extern "C" fn g1_heap_store(
     ensures told { TellsRefusal 0 result heap.old.value heap.new.value (kind.new ≡ 0)
         (IsHeapRefused heap.old.value (λ old. LacksPlace old.layout slot target)) }
 {
-    match on_heap!(alloc, heap, store_at(slot, target)) {
-        Err(refusal) => {
-            *kind = 0;
-            refusal.word()
-        }
-        Ok(stored) => {
-            *kind = kind_word(stored);
-            DONE
-        }
-    }
+    tell_kind!(on_heap!(alloc, heap, store_at(slot, target)), kind)
 }
 
 /// As in `g1.h`.

@@ -8,7 +8,7 @@ ghost use denote.RawPtr.{null_ptr};
 use crate::calling::on_heap;
 use crate::tell::{answer_word, tell};
 use core::mem::replace_with;
-use g1_handles::heap::handle::HeapHandle;
+use g1_handles::handles::HeapHandle;
 use g1_handles::heap::words::{store_data_at, word_at, words_of_heap};
 use std::alloc::Global;
 use std::ptr::null;

@@ -1,13 +1,12 @@
 //! Several stores in a race by one call.
 ghost use Rattle.std.specs.Prelude.{◌≡◌, ◌⊎◌, ◌≤◌};
-ghost use Rattle.g1_c.specs.{length, take, race_layout};
-ghost use Rattle.g1_c.specs.{IsFaultAt, IsFullAt, StoresAll, CanStoreAll, OfRacer, IfRacer};
+ghost use Rattle.g1_c.specs.{length, take, race_layout, IsFaultAt, IsFullAt, StoresAll, OfRacer};
 ghost use Rattle.g1_c.specs.{SaysNoMember, TellsRefusal};
 
 use crate::calling::on_racer;
 use g1_handles::code::{DONE, FULL, STOPPED};
+use g1_handles::handles::RacerHandle;
 use g1_handles::member::batch::{BatchEnd, store_all_by};
-use g1_handles::member::racer_handle::RacerHandle;
 use g1_handles::one_core::batch::Store;
 use std::alloc::Global;
 
@@ -27,7 +26,6 @@ pub extern "C" fn g1_race_store_all(
     ensures full { result ≡ 4 → OfRacer racer.old.value (λ a.
         OfRacer racer.new.value (λ b. IsFullAt a.race stores.now stored.new b.racer)) }
     ensures done { result ≤ 4 → (result ≡ 0) ⊎ (result ≡ 3) ⊎ (result ≡ 4) }
-    ensures taken { IfRacer racer.old.value (λ a. CanStoreAll a stores.now → result ≡ 0) }
     ensures told { TellsRefusal 4 result racer.old.value racer.new.value (stored.new ≡ 0)
         (SaysNoMember racer.old.value) }
 {

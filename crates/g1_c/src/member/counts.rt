@@ -4,9 +4,8 @@ ghost use Rattle.g1_c.specs.{OfRacer, OfSweeper, SaysNoMember, stored_as, TellsR
 
 use crate::calling::{on_racer, on_sweeper};
 use g1_handles::code::DONE;
+use g1_handles::handles::{RacerHandle, SweeperHandle};
 use g1_handles::member::counts::{store_counts_by, sweep_counts_by};
-use g1_handles::member::racer_handle::RacerHandle;
-use g1_handles::member::sweeper_handle::SweeperHandle;
 use g1_layout::Kind;
 use std::alloc::Global;
 

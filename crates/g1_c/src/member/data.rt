@@ -1,12 +1,11 @@
 //! Stores of data in a race.
-ghost use Rattle.std.specs.Prelude.{◌≡◌, ◌<◌, ◌≤◌, ◌^◌};
-ghost use Rattle.g1_c.specs.{slot_count, race_layout, OfRacer, IfRacer};
-ghost use Rattle.g1_c.specs.{StoresData, IsRaceDataRefused, TellsRefusal};
+ghost use Rattle.std.specs.Prelude.{◌≡◌};
+ghost use Rattle.g1_c.specs.{OfRacer, StoresData, IsRaceDataRefused, TellsRefusal};
 
 use crate::calling::on_racer;
 use g1_handles::code::DONE;
+use g1_handles::handles::RacerHandle;
 use g1_handles::member::data::store_data_by;
-use g1_handles::member::racer_handle::RacerHandle;
 use std::alloc::Global;
 
 /// As in `g1.h`.
@@ -20,8 +19,6 @@ pub extern "C" fn g1_race_store_data(
 ) -> u32
     ensures stored { result ≡ 0 → OfRacer racer.old.value (λ a.
         OfRacer racer.new.value (λ b. StoresData a slot word old.new b)) }
-    ensures taken { IfRacer racer.old.value (λ a. slot < slot_count (race_layout a.race)
-        → 2 ^ 32 ≤ word → result ≡ 0) }
     ensures told { TellsRefusal 0 result racer.old.value racer.new.value (old.new ≡ 0)
         (IsRaceDataRefused racer.old.value slot word) }
 {

@@ -1,13 +1,13 @@
 //! Stores in a race that tell what the slot referred to before, or depend on it.
 ghost use Rattle.std.specs.Prelude.{◌≡◌, ◌⊎◌, ◌<◌, ◌≤◌};
 ghost use Rattle.g1_c.specs.{race_layout, IsStoreOf, CanStore, OfKind};
-ghost use Rattle.g1_c.specs.{reference_of, Swaps, Exchanges, FindsOther, OfRacer, IfRacer};
+ghost use Rattle.g1_c.specs.{reference_of, Swaps, Exchanges, FindsOther, OfRacer};
 ghost use Rattle.g1_c.specs.{IsRaceStoreRefused, IsRaceExchangeRefused, TellsRefusal};
 
 use crate::calling::on_racer;
 use g1_handles::code::{DIFFERS, DONE, NULL, kind_word};
+use g1_handles::handles::RacerHandle;
 use g1_handles::member::exchange::{Exchange, compare_exchange_by, swap_by};
-use g1_handles::member::racer_handle::RacerHandle;
 use std::alloc::Global;
 
 /// As in `g1.h`.
@@ -25,8 +25,6 @@ pub extern "C" fn g1_race_swap(
         Swaps a slot (reference_of target) (reference_of old.new) k b))) }
     ensures can { result ≡ 0 → OfRacer racer.old.value (λ a.
         CanStore a.race a.racer slot target) }
-    ensures taken { IfRacer racer.old.value (λ a.
-        CanStore a.race a.racer slot target → result ≡ 0) }
     ensures told { TellsRefusal 0 result racer.old.value racer.new.value
         ((old.new ≡ 4294967295) × (kind.new ≡ 0)) (IsRaceStoreRefused racer.old.value slot target) }
 {
@@ -66,9 +64,6 @@ pub extern "C" fn g1_race_compare_exchange(
         IsStoreOf (race_layout a.race) slot expected
         × CanStore a.race a.racer slot target) }
     ensures done { result ≤ 2 → (result ≡ 0) ⊎ (result ≡ 2) }
-    ensures taken { IfRacer racer.old.value (λ a.
-        IsStoreOf (race_layout a.race) slot expected
-        → CanStore a.race a.racer slot target → result ≤ 2) }
     ensures none { 0 < result → kind.new ≡ 0 }
     ensures told { TellsRefusal 2 result racer.old.value racer.new.value (found.new ≡ 4294967295)
         (IsRaceExchangeRefused racer.old.value slot expected target) }

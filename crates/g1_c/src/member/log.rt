@@ -1,12 +1,12 @@
 //! The log of a racer.
-ghost use Rattle.std.specs.Prelude.{◌≡◌, ◌⊎◌, ◌<◌, ◌≤◌};
-ghost use Rattle.g1_c.specs.{length, take, OfRacer, IfRacer, TakesLog};
+ghost use Rattle.std.specs.Prelude.{◌≡◌, ◌⊎◌, ◌<◌};
+ghost use Rattle.g1_c.specs.{length, take, OfRacer, TakesLog};
 ghost use Rattle.g1_c.specs.{IsWritten, SaysNoMember, TellsRefusal};
 
 use crate::tell::tell;
 use g1_handles::code::Reason;
+use g1_handles::handles::RacerHandle;
 use g1_handles::member::log::take_log;
-use g1_handles::member::racer_handle::RacerHandle;
 use std::alloc::Global;
 
 /// As in `g1.h`.
@@ -19,7 +19,6 @@ pub extern "C" fn g1_race_take_log(
 ) -> u32
     ensures log { result ≡ 0 → OfRacer racer.old.value (λ a.
         OfRacer racer.new.value (λ b. TakesLog a (take count.new cards.new) b)) }
-    ensures taken { IfRacer racer.old.value (λ a. 256 ≤ length cards.old → result ≡ 0) }
     ensures told { TellsRefusal 0 result racer.old.value racer.new.value (count.new ≡ 0)
         (λ refusal. SaysNoMember racer.old.value refusal ⊎ ((refusal ≡ Reason.NoRoom) ×
         (length cards.old < 256))) }

@@ -1,15 +1,14 @@
 //! Queries by a reader: what a slot refers to and its word, whether a card is pending, and what is
 //! recorded for a region.
 ghost use Rattle.std.specs.Prelude.{◌≡◌, ◌≤◌, ◌==◌};
-ghost use Rattle.g1_c.specs.{reference_of, OfReader, reader_layout, table_of_reader};
-ghost use Rattle.g1_c.specs.{TellsTarget, TellsPending, TellsNextMember, TellsWord, ReadsPair};
-ghost use Rattle.g1_c.specs.{IsReaderRefused};
+ghost use Rattle.g1_c.specs.{reference_of, OfReader, reader_layout, table_of_reader, TellsTarget};
+ghost use Rattle.g1_c.specs.{TellsPending, TellsNextMember, TellsWord, ReadsPair, IsReaderRefused};
 ghost use Rattle.g1_c.specs.{LacksCard, LacksPair, LacksRegion, LacksSlot, IsTold};
 
 use crate::calling::on_reader;
 use crate::tell::{tell, tell_whether};
 use g1_handles::code::NULL;
-use g1_handles::member::reader_handle::ReaderHandle;
+use g1_handles::handles::ReaderHandle;
 use g1_handles::member::reader_queries::{
     has_by, is_pending_by, next_member_by, target_by, word_by,
 };

@@ -1,12 +1,11 @@
 //! Concurrent refinement in a race.
-ghost use Rattle.std.specs.Prelude.{◌≡◌, ◌<◌};
-ghost use Rattle.g1_c.specs.{card_count, race_layout, OfSweeper, IfSweeper, Sweeps};
-ghost use Rattle.g1_c.specs.{IsSweepRefused, TellsRefusal};
+ghost use Rattle.std.specs.Prelude.{◌≡◌};
+ghost use Rattle.g1_c.specs.{OfSweeper, Sweeps, IsSweepRefused, TellsRefusal};
 
 use crate::calling::on_sweeper;
 use g1_handles::code::DONE;
+use g1_handles::handles::SweeperHandle;
 use g1_handles::member::refine::refine_by;
-use g1_handles::member::sweeper_handle::SweeperHandle;
 use std::alloc::Global;
 
 /// As in `g1.h`.
@@ -14,8 +13,6 @@ use std::alloc::Global;
 pub extern "C" fn g1_race_refine(alloc: Global, sweeper: &mut SweeperHandle, card: u32) -> u32
     ensures refined { result ≡ 0 → OfSweeper sweeper.old.value (λ a.
         OfSweeper sweeper.new.value (λ b. Sweeps a card b)) }
-    ensures taken { IfSweeper sweeper.old.value (λ a.
-        card < card_count (race_layout a.race) → result ≡ 0) }
     ensures told { TellsRefusal 0 result sweeper.old.value sweeper.new.value (Unit {0})
         (IsSweepRefused sweeper.old.value card) }
 {

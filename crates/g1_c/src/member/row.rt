@@ -1,11 +1,10 @@
 //! A row of words in a race by one call.
 ghost use Rattle.std.specs.Prelude.{◌≡◌, ◌≢◌, ◌⊎◌, ◌≤◌};
-ghost use Rattle.g1_c.specs.{length, race_layout, OfRacer, IfRacer, IsRow, StoresRow};
-ghost use Rattle.g1_c.specs.{IsRowRefused, TellsRefusal};
+ghost use Rattle.g1_c.specs.{length, OfRacer, StoresRow, IsRowRefused, TellsRefusal};
 
 use crate::calling::on_racer;
 use g1_handles::code::{DONE, FULL};
-use g1_handles::member::racer_handle::RacerHandle;
+use g1_handles::handles::RacerHandle;
 use g1_handles::member::row::store_words_by;
 use std::alloc::Global;
 
@@ -23,8 +22,6 @@ pub extern "C" fn g1_race_store_words(
     ensures whole { result ≡ 0 → stored.new ≡ length words.now }
     ensures full { result ≡ 4 → stored.new ≢ length words.now }
     ensures done { result ≤ 4 → (result ≡ 0) ⊎ (result ≡ 4) }
-    ensures taken { IfRacer racer.old.value (λ a.
-        IsRow (race_layout a.race) slot words.now → result ≤ 4) }
     ensures told { TellsRefusal 4 result racer.old.value racer.new.value (stored.new ≡ 0)
         (IsRowRefused racer.old.value slot words.now) }
 {

@@ -1,11 +1,11 @@
 //! Lock-free stores in a race.
 ghost use Rattle.std.specs.Prelude.{◌≡◌};
 ghost use Rattle.g1_c.specs.{CanStore, OfKind, reference_of};
-ghost use Rattle.g1_c.specs.{OfRacer, IfRacer, Stores, IsRaceStoreRefused, TellsRefusal};
+ghost use Rattle.g1_c.specs.{OfRacer, Stores, IsRaceStoreRefused, TellsRefusal};
 
 use crate::calling::on_racer;
-use g1_handles::code::{DONE, kind_word};
-use g1_handles::member::racer_handle::RacerHandle;
+use crate::tell::tell_kind;
+use g1_handles::handles::RacerHandle;
 use g1_handles::member::store::store_by;
 use std::alloc::Global;
 
@@ -23,19 +23,8 @@ pub extern "C" fn g1_race_store(
         Stores a slot (reference_of target) k b))) }
     ensures can { result ≡ 0 → OfRacer racer.old.value (λ a.
         CanStore a.race a.racer slot target) }
-    ensures taken { IfRacer racer.old.value (λ a.
-        CanStore a.race a.racer slot target → result ≡ 0) }
     ensures told { TellsRefusal 0 result racer.old.value racer.new.value (kind.new ≡ 0)
         (IsRaceStoreRefused racer.old.value slot target) }
 {
-    match on_racer!(alloc, racer, store_by(slot, target)) {
-        Err(refusal) => {
-            *kind = 0;
-            refusal.word()
-        }
-        Ok(stored) => {
-            *kind = kind_word(stored);
-            DONE
-        }
-    }
+    tell_kind!(on_racer!(alloc, racer, store_by(slot, target)), kind)
 }

@@ -1,12 +1,11 @@
 //! Stores of words in a race: a slot may hold null, a reference or data.
 ghost use Rattle.std.specs.Prelude.{◌≡◌, ◌⊎◌, ◌<◌, ◌≤◌};
-ghost use Rattle.g1_c.specs.{OfKind, OfRacer, IfRacer, SwapsWord};
-ghost use Rattle.g1_c.specs.{FindsOtherWord, CanStoreWord, MayHave, IsSwapWordRefused};
-ghost use Rattle.g1_c.specs.{IsExchangeWordRefused, TellsRefusal};
+ghost use Rattle.g1_c.specs.{OfKind, OfRacer, SwapsWord, FindsOtherWord, CanStoreWord, MayHave};
+ghost use Rattle.g1_c.specs.{IsSwapWordRefused, IsExchangeWordRefused, TellsRefusal};
 
 use crate::calling::on_racer;
 use g1_handles::code::{DIFFERS, DONE, kind_word};
-use g1_handles::member::racer_handle::RacerHandle;
+use g1_handles::handles::RacerHandle;
 use g1_handles::member::words::{compare_exchange_word_by, swap_word_by};
 use std::alloc::Global;
 
@@ -24,8 +23,6 @@ pub extern "C" fn g1_race_swap_word(
         OfRacer racer.new.value (λ b. OfKind kind.new (λ k. SwapsWord a slot word old.new k b))) }
     ensures can { result ≡ 0 → OfRacer racer.old.value (λ a.
         CanStoreWord a.race a.racer slot word) }
-    ensures taken { IfRacer racer.old.value (λ a.
-        CanStoreWord a.race a.racer slot word → result ≡ 0) }
     ensures told { TellsRefusal 0 result racer.old.value racer.new.value
         ((old.new ≡ 0) × (kind.new ≡ 0)) (IsSwapWordRefused racer.old.value slot word) }
 {
@@ -63,8 +60,6 @@ pub extern "C" fn g1_race_compare_exchange_word(
     ensures can { result ≤ 2 → OfRacer racer.old.value (λ a.
         CanStoreWord a.race a.racer slot word × MayHave a.race expected) }
     ensures done { result ≤ 2 → (result ≡ 0) ⊎ (result ≡ 2) }
-    ensures taken { IfRacer racer.old.value (λ a. CanStoreWord a.race a.racer slot word
-        → MayHave a.race expected → result ≤ 2) }
     ensures none { 0 < result → kind.new ≡ 0 }
     ensures told { TellsRefusal 2 result racer.old.value racer.new.value (found.new ≡ 0)
         (IsExchangeWordRefused racer.old.value slot expected word) }

@@ -6,9 +6,9 @@ ghost use Rattle.g1_c.specs.Calls.{TellsRefusal};
 
 use crate::calling::on_core;
 use g1_handles::code::{DONE, STOPPED};
+use g1_handles::handles::Handle;
 use g1_handles::list::write_list;
 use g1_handles::one_core::batch::{Store, store_all_in};
-use g1_handles::one_core::handle::Handle;
 use std::alloc::Global;
 
 /// What several stores counted.

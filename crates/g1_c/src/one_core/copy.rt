@@ -5,8 +5,8 @@ ghost use Rattle.g1_c.specs.{IsCallRefused, DoesCopy, TellsRefusal};
 
 use crate::calling::on_core;
 use crate::tell::answer_word;
+use g1_handles::handles::Handle;
 use g1_handles::one_core::copy::copy_in;
-use g1_handles::one_core::handle::Handle;
 use std::alloc::Global;
 
 /// As in `g1.h`.
@@ -14,9 +14,6 @@ use std::alloc::Global;
 pub extern "C" fn g1_copy(alloc: Global, handle: &mut Handle, from: u32, to: u32, count: u32) -> u32
     ensures copied { result ≡ 0 → Between handle.old.value handle.new.value (λ old new.
         DoesCopy from to count old new) }
-    ensures answered { IfSome handle.old.value (λ old.
-        from + count ≤ slot_count old.state.table.layout
-        → to + count ≤ slot_count old.state.table.layout → result ≡ 0) }
     ensures within { result ≡ 0 → IfSome handle.old.value (λ old.
         (from + count ≤ slot_count old.state.table.layout)
         × (to + count ≤ slot_count old.state.table.layout)) }

@@ -1,16 +1,15 @@
 //! The clear and the redirect, which may follow an evacuation.
 ghost use Rattle.std.specs.Prelude.{◌≡◌, ◌≢◌, ◌<◌};
-ghost use Rattle.g1_c.specs.{Between, IsRefusal, IsCallRefused, LacksRegion};
-ghost use Rattle.g1_c.specs.{ClearsTo, AreOnlyRead, length, take, IsWritten, IsRedirectRefused};
-ghost use Rattle.g1_c.specs.{RedirectsTo, TellsRefusal};
+ghost use Rattle.g1_c.specs.{Between, IsRefusal, IsCallRefused, LacksRegion, ClearsTo, AreOnlyRead};
+ghost use Rattle.g1_c.specs.{length, take, IsWritten, IsRedirectRefused, RedirectsTo, TellsRefusal};
 
 use crate::calling::on_core;
 use crate::tell::tell_reply;
 use g1_core::{ClearReply, Redirected};
 use g1_handles::code::{DONE, SHORT};
+use g1_handles::handles::Handle;
 use g1_handles::list::write_list;
 use g1_handles::one_core::evacuation::{clear_in, redirect_in};
-use g1_handles::one_core::handle::Handle;
 use std::alloc::Global;
 
 /// As in `g1.h`.

@@ -5,8 +5,8 @@ ghost use Rattle.g1_c.specs.{TellsMembers, Overflows, AreMembersRefused, IsCallR
 
 use crate::calling::on_core;
 use g1_handles::code::{DONE, Reason};
+use g1_handles::handles::Handle;
 use g1_handles::list::write_list;
-use g1_handles::one_core::handle::Handle;
 use g1_handles::one_core::members::{Listed, members_in};
 use std::alloc::Global;
 

@@ -5,7 +5,7 @@ ghost use Rattle.g1_c.specs.{settings_of, IsRefusal, IsOpenRefused, SaysNotOpen,
 
 use crate::tell::answer_word;
 use core::mem::replace_with;
-use g1_handles::one_core::handle::Handle;
+use g1_handles::handles::Handle;
 use g1_handles::one_core::open::{Counts, close_core, open_core};
 use std::alloc::Global;
 

@@ -6,8 +6,8 @@ ghost use Rattle.g1_c.specs.{IsDrainRefused, DrainsTo, TellsRefusal};
 use crate::calling::on_core;
 use g1_core::Drained;
 use g1_handles::code::{DONE, SHORT};
+use g1_handles::handles::Handle;
 use g1_handles::list::write_list;
-use g1_handles::one_core::handle::Handle;
 use g1_handles::one_core::pause::drain_in;
 use std::alloc::Global;
 

@@ -1,14 +1,13 @@
 //! Queries: what a slot refers to, whether a card is pending, and how much is pending and recorded.
-ghost use Rattle.std.specs.Prelude.{◌≡◌, ◌<◌, ◌≤◌, ◌==◌};
-ghost use Rattle.g1_c.specs.Prelude.{IfSome, IsSome, slot_count, card_count};
+ghost use Rattle.std.specs.Prelude.{◌≡◌, ◌≤◌, ◌==◌};
 ghost use Rattle.g1_c.specs.Prelude.{Between, OfOpen, reference_of, RefersTo, TellsPending};
 ghost use Rattle.g1_c.specs.Prelude.{TellsStatus, IsCallRefused, SaysNotOpen, LacksCard, LacksSlot};
-ghost use Rattle.g1_c.specs.Calls.{TellsRefusal};
+ghost use Rattle.g1_c.specs.Calls.{IsTold, TellsRefusal};
 
 use crate::calling::on_core;
 use crate::tell::{tell, tell_whether};
 use g1_handles::code::{DONE, NULL};
-use g1_handles::one_core::handle::Handle;
+use g1_handles::handles::Handle;
 use g1_handles::one_core::queries::{is_pending_in, status_in, target_in};
 use std::alloc::Global;
 
@@ -27,8 +26,6 @@ pub struct Totals {
 pub extern "C" fn g1_target(alloc: Global, handle: &mut Handle, slot: u32, target: &mut u32) -> u32
     ensures target { result ≡ 0 → Between handle.old.value handle.new.value (λ old new.
         RefersTo old slot (reference_of target.new) new) }
-    ensures answered { IfSome handle.old.value (λ old. slot < slot_count old.state.table.layout
-        → result ≡ 0) }
     ensures told { TellsRefusal 0 result handle.old.value handle.new.value (target.new ≡ 4294967295)
         (IsCallRefused handle.old.value (λ old. LacksSlot old.state.table.layout slot)) }
 {
@@ -44,14 +41,11 @@ pub extern "C" fn g1_is_pending(
     card: u32,
     pending: &mut u32,
 ) -> u32
-    ensures pending { result ≡ 0 → OfOpen handle.old.value (λ machine.
-        TellsPending machine.state.table card (pending.new == 1)) }
-    ensures word { pending.new ≤ 1 }
-    ensures answered { IfSome handle.old.value (λ machine.
-        card < card_count machine.state.table.layout → result ≡ 0) }
-    ensures told { TellsRefusal 0 result handle.old.value handle.new.value (pending.new ≡ 0)
+    ensures told { IsTold result (pending.new == 1) (pending.new ≡ 0) handle.old.value
+        handle.new.value (λ answer. OfOpen handle.old.value (λ machine.
+        TellsPending machine.state.table card answer))
         (IsCallRefused handle.old.value (λ old. LacksCard old.state.table.layout card)) }
-    ensures same { handle.new.value ≡ handle.old.value }
+    ensures word { pending.new ≤ 1 }
 {
     let answer = on_core!(alloc, handle, is_pending_in(card));
     tell_whether(answer, pending)
@@ -60,13 +54,11 @@ pub extern "C" fn g1_is_pending(
 /// As in `g1.h`.
 #[unsafe(no_mangle)]
 pub extern "C" fn g1_status(alloc: Global, handle: &mut Handle, totals: &mut Totals) -> u32
-    ensures totals { result ≡ 0 → OfOpen handle.old.value (λ machine.
+    ensures { IsTold result totals.new (totals.new ≡ record { pending = 0; recorded = 0 })
+        handle.old.value handle.new.value (λ totals. OfOpen handle.old.value (λ machine.
         TellsStatus machine.state.table
-        (record { pending = totals.new.pending; recorded = totals.new.recorded })) }
-    ensures answered { IsSome handle.old.value → result ≡ 0 }
-    ensures told { TellsRefusal 0 result handle.old.value handle.new.value
-        ((totals.new.pending ≡ 0) × (totals.new.recorded ≡ 0)) (SaysNotOpen handle.old.value) }
-    ensures same { handle.new.value ≡ handle.old.value }
+        (record { pending = totals.pending; recorded = totals.recorded })))
+        (SaysNotOpen handle.old.value) }
 {
     *totals = Totals {
         pending: 0,

@@ -5,8 +5,8 @@ ghost use Rattle.g1_c.specs.Prelude.{IsRefinementRefused, RefinesTo, reply_of};
 ghost use Rattle.g1_c.specs.Calls.{TellsRefusal};
 
 use crate::calling::on_core;
+use g1_handles::handles::Handle;
 use g1_handles::list::write_list;
-use g1_handles::one_core::handle::Handle;
 use g1_handles::one_core::refinement::{refine_in, reply_word};
 use std::alloc::Global;
 

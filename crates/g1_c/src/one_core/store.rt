@@ -1,11 +1,11 @@
 //! Stores.
 ghost use Rattle.std.specs.Prelude.{◌≡◌};
-ghost use Rattle.g1_c.specs.{IfSome, reference_of, IsStoreOf};
+ghost use Rattle.g1_c.specs.{reference_of};
 ghost use Rattle.g1_c.specs.{Between, OfKind, StoresTo, LacksPlace, IsCallRefused, TellsRefusal};
 
 use crate::calling::on_core;
-use g1_handles::code::{DONE, kind_word};
-use g1_handles::one_core::handle::Handle;
+use crate::tell::tell_kind;
+use g1_handles::handles::Handle;
 use g1_handles::one_core::store::store_in;
 use std::alloc::Global;
 
@@ -21,19 +21,8 @@ pub extern "C" fn g1_store(
     ensures stored { result ≡ 0
         → Between handle.old.value handle.new.value (λ old new. OfKind kind.new (λ k.
         StoresTo old slot (reference_of target) k new)) }
-    ensures taken { IfSome handle.old.value (λ old. IsStoreOf old.state.table.layout slot target
-        → result ≡ 0) }
     ensures told { TellsRefusal 0 result handle.old.value handle.new.value (kind.new ≡ 0)
         (IsCallRefused handle.old.value (λ old. LacksPlace old.state.table.layout slot target)) }
 {
-    match on_core!(alloc, handle, store_in(slot, target)) {
-        Err(refusal) => {
-            *kind = 0;
-            refusal.word()
-        }
-        Ok(stored) => {
-            *kind = kind_word(stored);
-            DONE
-        }
-    }
+    tell_kind!(on_core!(alloc, handle, store_in(slot, target)), kind)
 }

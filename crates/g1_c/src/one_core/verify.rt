@@ -1,11 +1,10 @@
 //! Checks of a core for a debug build.
-ghost use Rattle.std.specs.Prelude.{◌≡◌, ◌+◌, ◌≤◌};
-ghost use Rattle.g1_c.specs.{IfSome, length, slot_count, Between, Checks};
-ghost use Rattle.g1_c.specs.{LacksRanges, IsCallRefused, TellsRefusal};
+ghost use Rattle.std.specs.Prelude.{◌≡◌};
+ghost use Rattle.g1_c.specs.{length, Between, Checks, LacksRanges, IsCallRefused, TellsRefusal};
 
 use crate::calling::on_core;
 use g1_handles::code::{DONE, NULL};
-use g1_handles::one_core::handle::Handle;
+use g1_handles::handles::Handle;
 use g1_handles::one_core::verify::verify_in;
 use std::alloc::Global;
 
@@ -22,9 +21,6 @@ pub extern "C" fn g1_verify(
 ) -> u32
     ensures found { result ≡ 0 → Between handle.old.value handle.new.value (λ old new.
         Checks old first count references.now differing.new missing.new new) }
-    ensures answered { IfSome handle.old.value (λ old.
-        first + count ≤ slot_count old.state.table.layout
-        → first + length references.now ≤ slot_count old.state.table.layout → result ≡ 0) }
     ensures told { TellsRefusal 0 result handle.old.value handle.new.value
         ((differing.new ≡ 4294967295) × (missing.new ≡ 4294967295)) (IsCallRefused handle.old.value
         (λ old. LacksRanges old.state.table.layout first count first (length references.now))) }

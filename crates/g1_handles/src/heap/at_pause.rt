@@ -4,7 +4,7 @@ ghost use Rattle.g1_handles.specs.{IsCalled};
 
 use crate::any_handle::{closed, into_box, opened};
 use crate::code::Reason;
-use crate::heap::handle::HeapHandle;
+use crate::handles::HeapHandle;
 use crate::heap::racing_heap::RacingHeap;
 use g1_race::{Paused, Race};
 use std::alloc::Global;

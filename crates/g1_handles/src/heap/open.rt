@@ -1,13 +1,13 @@
 //! How a heap whose stores race begins and ends: at a pause.
 ghost use Rattle.std.specs.Prelude.{◌≡◌, ◌<◌};
-ghost use Rattle.g1_handles.specs.{IsTrue, Some, None, All, IfOk, IfErr, OnOk, OnErr, ℕ};
-ghost use Rattle.g1_handles.specs.{slice_index_or, vec_len, arc_value, layout_of, IsNewHeap};
+ghost use Rattle.g1_handles.specs.{IsTrue, Some, None, All, IfOk, IfErr, OnOk, OnErr};
+ghost use Rattle.g1_handles.specs.{vec_len, arc_value, layout_of, IsNewHeap};
 ghost use Rattle.g1_handles.specs.{IsHeapOpenRefused, AreHeapCounts, OfPaused, IsCloseRefused};
 ghost use Rattle.g1_handles.specs.{HasNewMembers, AreNew, boxed_counts};
 
 use crate::any_handle::{closed, into_box, is_closed, opened};
 use crate::code::Reason;
-use crate::heap::handle::HeapHandle;
+use crate::handles::HeapHandle;
 use crate::heap::racing_heap::{AtPause, RacingHeap, Readers, Room};
 use crate::member::counts::MemberCounts;
 use crate::member::{Member, Role};

@@ -3,17 +3,16 @@ ghost use Rattle.std.specs.Prelude.{◌≡◌, ◌≤◌};
 ghost use Rattle.g1_handles.specs.{Some, All, IfErr, OnOk, OnErr, IsSome, length, map};
 ghost use Rattle.g1_handles.specs.{vec_capacity, arc_value, Race, racer_view, sweeper_view};
 ghost use Rattle.g1_handles.specs.{racer_log, OfPaused, OfRacing, IsFor, IsPauseOf, IsPauseRefused};
-ghost use Rattle.g1_handles.specs.{AreOfHeap, AreLikeOf, AreFor, heap_race, heap_counts};
+ghost use Rattle.g1_handles.specs.{AreFor, heap_race, heap_counts};
 ghost use Rattle.g1_handles.specs.{idle_counts, boxed_counts, waiting_counts, ComesToPause};
 ghost use Rattle.g1_handles.specs.{held_racers, held_sweepers, role_in, AreClosed, IsOf, counts_of};
+ghost use Rattle.g1_handles.specs.{AreOnlyItsOwn, HoldSame};
 
 use crate::any_handle::{AnyHandle, closed, into_box, opened};
 use crate::code::Reason;
-use crate::heap::handle::HeapHandle;
+use crate::handles::{HeapHandle, RacerHandle, SweeperHandle};
 use crate::heap::one_race::check_members;
 use crate::heap::racing_heap::{AtPause, RacingHeap, UnderWay};
-use crate::member::racer_handle::RacerHandle;
-use crate::member::sweeper_handle::SweeperHandle;
 use crate::member::{Member, Role};
 use core::mem::{replace, replace_with};
 use g1_race::{Paused, Race};
@@ -33,18 +32,13 @@ pub fn pause_heap(
     racers: &mut [RacerHandle],
     sweepers: &mut [SweeperHandle],
 ) -> Result<(), Reason>
-    requires one { IsFor handle.old.value (length racers.old) (length sweepers.old) →
-        AreLikeOf handle.old.value (held_racers racers.old) (held_sweepers sweepers.old) →
-        AreOfHeap handle.old.value (held_racers racers.old) (held_sweepers sweepers.old) }
-    ensures paused { OnOk result (ComesToPause (length racers.old) (length sweepers.old)
-        handle.old.value handle.new.value (held_racers racers.old) (held_racers racers.new)
-        (held_sweepers sweepers.old) (held_sweepers sweepers.new)) }
-    ensures why { IfErr result (λ refusal.
-        IsPauseRefused handle.old.value (held_racers racers.old)
-        (held_sweepers sweepers.old) refusal) }
+    requires one { AreOnlyItsOwn handle.old.value racers.old sweepers.old }
+    ensures paused { OnOk result (ComesToPause handle.old.value handle.new.value
+        racers.old racers.new sweepers.old sweepers.new) }
+    ensures why { IfErr result (IsPauseRefused handle.old.value
+        (held_racers racers.old) (held_sweepers sweepers.old)) }
     ensures refused { OnErr result ((handle.new.value ≡ handle.old.value)
-        × (held_racers racers.new ≡ held_racers racers.old)
-        × (held_sweepers sweepers.new ≡ held_sweepers sweepers.old)) }
+        × HoldSame racers.old racers.new sweepers.old sweepers.new) }
 {
     let mut heap = into_box(replace(handle, closed(alloc))).ok_or(Reason::NotOpen)?;
     let answer = pause_of(alloc, &mut heap, racers, sweepers);
@@ -58,18 +52,13 @@ fn pause_of(
     racers: &mut [RacerHandle],
     sweepers: &mut [SweeperHandle],
 ) -> Result<(), Reason>
-    requires one { IsFor (Some heap.old) (length racers.old) (length sweepers.old) →
-        AreLikeOf (Some heap.old) (held_racers racers.old) (held_sweepers sweepers.old) →
-        AreOfHeap (Some heap.old) (held_racers racers.old) (held_sweepers sweepers.old) }
-    ensures paused { OnOk result (ComesToPause (length racers.old) (length sweepers.old)
-        (Some heap.old) (Some heap.new) (held_racers racers.old) (held_racers racers.new)
-        (held_sweepers sweepers.old) (held_sweepers sweepers.new)) }
-    ensures why { IfErr result (λ refusal.
-        IsPauseRefused (Some heap.old) (held_racers racers.old)
-        (held_sweepers sweepers.old) refusal) }
+    requires one { AreOnlyItsOwn (Some heap.old) racers.old sweepers.old }
+    ensures paused { OnOk result (ComesToPause (Some heap.old) (Some heap.new)
+        racers.old racers.new sweepers.old sweepers.new) }
+    ensures why { IfErr result (IsPauseRefused (Some heap.old)
+        (held_racers racers.old) (held_sweepers sweepers.old)) }
     ensures refused { OnErr result ((heap.new ≡ heap.old)
-        × (held_racers racers.new ≡ held_racers racers.old)
-        × (held_sweepers sweepers.new ≡ held_sweepers sweepers.old)) }
+        × HoldSame racers.old racers.new sweepers.old sweepers.new) }
 {
     let RacingHeap::Racing(under_way) = &*heap else {
         return Err(Reason::NotRacing);

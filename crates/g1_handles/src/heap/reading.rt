@@ -1,16 +1,15 @@
 //! How a heap at a pause is lent to several threads, each of which reads it by a reader.
 ghost use Rattle.std.specs.Prelude.{◌≡◌, ◌+◌, ◌≤◌, ◌++◌, IsPermutation};
-ghost use Rattle.g1_handles.specs.{Some, All, IfErr, OnOk, OnErr, length, vec_len};
+ghost use Rattle.g1_handles.specs.{Some, All, IfErr, OnOk, OnErr, vec_len};
 ghost use Rattle.g1_handles.specs.{vec_capacity, arc_value, Race, OfPaused, OfRead, BeginsReading};
 ghost use Rattle.g1_handles.specs.{held_readers, IsLentHeap, IsReadRefused, AreOut, AreShared};
 ghost use Rattle.g1_handles.specs.{OfAtPause};
 
 use crate::any_handle::{are_closed, closed, into_box, opened};
 use crate::code::Reason;
-use crate::heap::handle::HeapHandle;
+use crate::handles::{HeapHandle, ReaderHandle};
 use crate::heap::racing_heap::{AtPause, BeingRead, RacingHeap, Readers, Room};
 use crate::heap::resume::hand_out_to;
-use crate::member::reader_handle::ReaderHandle;
 use crate::member::{Member, Role};
 use core::mem::{replace, replace_with};
 use std::alloc::Global;
@@ -26,8 +25,8 @@ pub fn read_heap(
     handle: &mut HeapHandle,
     readers: &mut [ReaderHandle],
 ) -> Result<(), Reason>
-    ensures lent { OnOk result (BeginsReading (length readers.old) handle.old.value handle.new.value
-        (held_readers readers.old) (held_readers readers.new)) }
+    ensures lent { OnOk result (BeginsReading handle.old.value handle.new.value
+        readers.old readers.new) }
     ensures why { IfErr result (IsReadRefused handle.old.value (held_readers readers.old)) }
     ensures refused { OnErr result ((handle.new.value ≡ handle.old.value)
         × (held_readers readers.new ≡ held_readers readers.old)) }
@@ -39,8 +38,8 @@ pub fn read_heap(
 }
 
 fn read_of(alloc: Global, heap: &mut RacingHeap, readers: &mut [ReaderHandle]) -> Result<(), Reason>
-    ensures lent { OnOk result (BeginsReading (length readers.old) (Some heap.old) (Some heap.new)
-        (held_readers readers.old) (held_readers readers.new)) }
+    ensures lent { OnOk result (BeginsReading (Some heap.old) (Some heap.new)
+        readers.old readers.new) }
     ensures why { IfErr result (IsReadRefused (Some heap.old) (held_readers readers.old)) }
     ensures refused { OnErr result ((heap.new ≡ heap.old)
         × (held_readers readers.new ≡ held_readers readers.old)) }

@@ -1,17 +1,17 @@
 //! How a heap is at its pause again, after threads have read it.
 ghost use Rattle.std.specs.Prelude.{◌≡◌};
-ghost use Rattle.g1_handles.specs.{Some, IfErr, OnOk, OnErr, length, OfRead, EndsReading};
-ghost use Rattle.g1_handles.specs.{held_readers, AreReadersOf, AreReadersLike, IsLentHeap};
-ghost use Rattle.g1_handles.specs.{IsReadBy, IsReadEndRefused, AreOut, AreShared, OfAtPause};
+ghost use Rattle.g1_handles.specs.{Some, IfErr, OnOk, OnErr, OfRead, EndsReading};
+ghost use Rattle.g1_handles.specs.{held_readers, IsLentHeap};
+ghost use Rattle.g1_handles.specs.{IsReadEndRefused, AreOut, AreShared, OfAtPause};
+ghost use Rattle.g1_handles.specs.{AreOnlyItsReaders};
 
 use crate::any_handle::{closed, into_box, opened};
 use crate::code::Reason;
-use crate::heap::handle::HeapHandle;
+use crate::handles::{HeapHandle, ReaderHandle};
 use crate::heap::one_race::check_members;
 use crate::heap::pause::gather;
 use crate::heap::racing_heap::{AtPause, BeingRead, RacingHeap, Readers, Room};
 use crate::heap::reading::move_boxes;
-use crate::member::reader_handle::ReaderHandle;
 use core::mem::{replace, replace_with};
 use std::alloc::Global;
 
@@ -27,11 +27,9 @@ pub fn end_read_of_heap(
     handle: &mut HeapHandle,
     readers: &mut [ReaderHandle],
 ) -> Result<(), Reason>
-    requires one { IsReadBy handle.old.value (length readers.old) →
-        AreReadersLike handle.old.value (held_readers readers.old) →
-        AreReadersOf handle.old.value (held_readers readers.old) }
-    ensures ended { OnOk result (EndsReading (length readers.old) handle.old.value handle.new.value
-        (held_readers readers.old) (held_readers readers.new)) }
+    requires one { AreOnlyItsReaders handle.old.value readers.old }
+    ensures ended { OnOk result (EndsReading handle.old.value handle.new.value
+        readers.old readers.new) }
     ensures why { IfErr result (IsReadEndRefused handle.old.value (held_readers readers.old)) }
     ensures refused { OnErr result ((handle.new.value ≡ handle.old.value)
         × (held_readers readers.new ≡ held_readers readers.old)) }
@@ -47,11 +45,9 @@ fn end_read_of(
     heap: &mut RacingHeap,
     readers: &mut [ReaderHandle],
 ) -> Result<(), Reason>
-    requires one { IsReadBy (Some heap.old) (length readers.old) →
-        AreReadersLike (Some heap.old) (held_readers readers.old) →
-        AreReadersOf (Some heap.old) (held_readers readers.old) }
-    ensures ended { OnOk result (EndsReading (length readers.old) (Some heap.old) (Some heap.new)
-        (held_readers readers.old) (held_readers readers.new)) }
+    requires one { AreOnlyItsReaders (Some heap.old) readers.old }
+    ensures ended { OnOk result (EndsReading (Some heap.old) (Some heap.new)
+        readers.old readers.new) }
     ensures why { IfErr result (IsReadEndRefused (Some heap.old) (held_readers readers.old)) }
     ensures refused { OnErr result ((heap.new ≡ heap.old)
         × (held_readers readers.new ≡ held_readers readers.old)) }

@@ -4,13 +4,12 @@ ghost use Rattle.g1_handles.specs.{Some, All, IfErr, OnOk, OnErr, length, map, v
 ghost use Rattle.g1_handles.specs.{arc_value, Race, OfPaused, LeavesPause, OfAtPause, OfRacing};
 ghost use Rattle.g1_handles.specs.{IsResumeRefused, AreFor, boxed_counts, Resumes, held_racers};
 ghost use Rattle.g1_handles.specs.{held_sweepers, role_in, IsOf, counts_of};
+ghost use Rattle.g1_handles.specs.{HoldSame};
 
 use crate::any_handle::{AnyHandle, are_closed, closed, into_box, opened};
 use crate::code::Reason;
-use crate::heap::handle::HeapHandle;
+use crate::handles::{HeapHandle, RacerHandle, SweeperHandle};
 use crate::heap::racing_heap::{AtPause, RacingHeap, Room, UnderWay};
-use crate::member::racer_handle::RacerHandle;
-use crate::member::sweeper_handle::SweeperHandle;
 use crate::member::{Member, Role};
 use core::mem::{replace, replace_with};
 use std::alloc::Global;
@@ -28,15 +27,12 @@ pub fn resume_heap(
     racers: &mut [RacerHandle],
     sweepers: &mut [SweeperHandle],
 ) -> Result<(), Reason>
-    ensures resumed { OnOk result (Resumes (length racers.old) (length sweepers.old)
-        handle.old.value handle.new.value (held_racers racers.old) (held_racers racers.new)
-        (held_sweepers sweepers.old) (held_sweepers sweepers.new)) }
-    ensures why { IfErr result (λ refusal.
-        IsResumeRefused handle.old.value (held_racers racers.old)
-        (held_sweepers sweepers.old) refusal) }
+    ensures resumed { OnOk result (Resumes handle.old.value handle.new.value
+        racers.old racers.new sweepers.old sweepers.new) }
+    ensures why { IfErr result (IsResumeRefused handle.old.value
+        (held_racers racers.old) (held_sweepers sweepers.old)) }
     ensures refused { OnErr result ((handle.new.value ≡ handle.old.value)
-        × (held_racers racers.new ≡ held_racers racers.old)
-        × (held_sweepers sweepers.new ≡ held_sweepers sweepers.old)) }
+        × HoldSame racers.old racers.new sweepers.old sweepers.new) }
 {
     let mut heap = into_box(replace(handle, closed(alloc))).ok_or(Reason::NotOpen)?;
     let answer = resume_of(alloc, &mut heap, racers, sweepers);
@@ -50,15 +46,12 @@ fn resume_of(
     racers: &mut [RacerHandle],
     sweepers: &mut [SweeperHandle],
 ) -> Result<(), Reason>
-    ensures resumed { OnOk result (Resumes (length racers.old) (length sweepers.old)
-        (Some heap.old) (Some heap.new) (held_racers racers.old) (held_racers racers.new)
-        (held_sweepers sweepers.old) (held_sweepers sweepers.new)) }
-    ensures why { IfErr result (λ refusal.
-        IsResumeRefused (Some heap.old) (held_racers racers.old)
-        (held_sweepers sweepers.old) refusal) }
+    ensures resumed { OnOk result (Resumes (Some heap.old) (Some heap.new)
+        racers.old racers.new sweepers.old sweepers.new) }
+    ensures why { IfErr result (IsResumeRefused (Some heap.old)
+        (held_racers racers.old) (held_sweepers sweepers.old)) }
     ensures refused { OnErr result ((heap.new ≡ heap.old)
-        × (held_racers racers.new ≡ held_racers racers.old)
-        × (held_sweepers sweepers.new ≡ held_sweepers sweepers.old)) }
+        × HoldSame racers.old racers.new sweepers.old sweepers.new) }
 {
     let RacingHeap::Paused(at) = &*heap else {
         return Err(Reason::NotPaused);

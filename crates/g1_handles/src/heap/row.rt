@@ -14,7 +14,6 @@ use g1_layout::Layout;
 /// has changed.
 pub fn store_words_at(heap: &mut PausedHeap, slot: u32, words: &[u64]) -> Result<(), Reason>
     ensures stored { OnOk result (StoresRowAt heap.old slot words.now heap.new) }
-    ensures taken { IsRow heap.old.layout slot words.now → IsOk result }
     ensures why { IfErr result (LacksRow heap.old.layout slot words.now) }
     ensures refused { OnErr result (heap.new ≡ heap.old) }
     ensures kept { IsRaceWith heap.new.logs heap.old heap.new }
@@ -28,7 +27,6 @@ pub fn store_words_at(heap: &mut PausedHeap, slot: u32, words: &[u64]) -> Result
 /// these words.
 pub(crate) fn check_row(layout: Layout, slot: u32, words: &[u64]) -> Result<(), Reason>
     ensures row { IsOk result → IsRow layout slot words.now }
-    ensures taken { IsRow layout slot words.now → IsOk result }
     ensures why { IfErr result (LacksRow layout slot words.now) }
 {
     if !has_slots(layout, slot, words.len()) {

@@ -7,8 +7,8 @@ ghost use Rattle.g1_handles.specs.Sets.{TellsSet, IsSetCall};
 
 use crate::any_handle::{closed, into_box, opened};
 use crate::code::Reason;
+use crate::handles::HeapHandle;
 use crate::heap::at_pause::PausedHeap;
-use crate::heap::handle::HeapHandle;
 use crate::heap::racing_heap::RacingHeap;
 use core::mem::replace;
 use g1_layout::{Card, Region};

@@ -1,6 +1,6 @@
 //! Checks of a heap at a pause, for a debug build.
-ghost use Rattle.std.specs.Prelude.{◌≡◌, ◌+◌, ◌≤◌};
-ghost use Rattle.g1_handles.specs.{length, IfOk, IfErr, IsOk, slot_count};
+ghost use Rattle.std.specs.Prelude.{◌≡◌};
+ghost use Rattle.g1_handles.specs.{length, IfOk, IfErr};
 ghost use Rattle.g1_handles.specs.{IsRaceWith};
 ghost use Rattle.g1_handles.specs.{Finds, LacksRanges, table_at};
 
@@ -21,8 +21,6 @@ pub fn verify_at(
 ) -> Result<Findings, Reason>
     ensures found { IfOk result (λ f.
         Finds (table_at heap.old) first count memory.now f.differing f.missing) }
-    ensures answered { first + count ≤ slot_count heap.old.layout
-        → first + length memory.now ≤ slot_count heap.old.layout → IsOk result }
     ensures why { IfErr result (LacksRanges heap.old.layout first count first
         (length memory.now)) }
     ensures same { heap.new ≡ heap.old }

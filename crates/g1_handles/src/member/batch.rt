@@ -1,9 +1,9 @@
 //! Several stores in a race by one call.
 ghost use Rattle.std.specs.Prelude.{◌≡◌, ◌≢◌};
-ghost use Rattle.g1_handles.specs.Prelude.{Some, IfOk, IfErr, IsOkAnd, OnErr, race_id};
+ghost use Rattle.g1_handles.specs.Prelude.{Some, IfOk, IfErr, OnErr, race_id};
 ghost use Rattle.g1_handles.specs.Prelude.{racer_race};
-ghost use Rattle.g1_handles.specs.Racing.{OfRacer, IfRacer, racing};
-ghost use Rattle.g1_handles.specs.RaceStores.{StoresFirst, CanStoreAll};
+ghost use Rattle.g1_handles.specs.Racing.{OfRacer, racing};
+ghost use Rattle.g1_handles.specs.RaceStores.{StoresFirst};
 ghost use Rattle.g1_handles.specs.Refusals.{SaysNoMember};
 
 use crate::code::Reason;
@@ -38,8 +38,6 @@ pub struct RaceBatch {
 pub fn store_all_by(member: &mut Member<Racer>, stores: &[Store]) -> Result<RaceBatch, Reason>
     ensures stored { IfOk result (λ answer. OfRacer (Some member.old) (λ a.
         OfRacer (Some member.new) (λ b. StoresFirst a stores.now answer b))) }
-    ensures taken { IfRacer (Some member.old) (λ a. CanStoreAll a stores.now
-        → IsOkAnd result (λ answer. answer.end ≡ BatchEnd.Whole)) }
     ensures why { IfErr result (SaysNoMember (Some member.old)) }
     ensures refused { OnErr result (member.new ≡ member.old) }
 {
@@ -59,8 +57,6 @@ fn store_each(
     ensures same { racer_race racer.new ≡ racer_race racer.old }
     ensures stored { StoresFirst (racing race.now racer.old counts.old) stores.now result
         (racing race.now racer.new counts.new) }
-    ensures taken { CanStoreAll (racing race.now racer.old counts.old) stores.now
-        → result.end ≡ BatchEnd.Whole }
 {
     for i in 0..stores.len() {
         match store_next(race, racer, counts, stores[i].slot, stores[i].target) {

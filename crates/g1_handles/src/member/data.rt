@@ -1,7 +1,7 @@
 //! Stores of data in a race: a slot may hold data, which refers to nothing.
 ghost use Rattle.std.specs.Prelude.{◌≡◌, ◌<◌, ◌≤◌, ◌^◌};
 ghost use Rattle.g1_handles.specs.{Some, IsOk, IfOk, IfErr, OnErr, slot_count};
-ghost use Rattle.g1_handles.specs.{race_layout, OfRacer, IfRacer, StoresData, IsRaceDataRefused};
+ghost use Rattle.g1_handles.specs.{OfRacer, StoresData, IsRaceDataRefused};
 ghost use Rattle.g1_handles.specs.{SaysNoData};
 
 use crate::code::Reason;
@@ -18,8 +18,6 @@ pub const DATA: u64 = 4_294_967_296;
 pub fn store_data_by(member: &mut Member<Racer>, slot: u32, word: u64) -> Result<u64, Reason>
     ensures stored { IfOk result (λ old. OfRacer (Some member.old) (λ a.
         OfRacer (Some member.new) (λ b. StoresData a slot word old b))) }
-    ensures taken { IfRacer (Some member.old) (λ a.
-        slot < slot_count (race_layout a.race) → 2 ^ 32 ≤ word → IsOk result) }
     ensures why { IfErr result (IsRaceDataRefused (Some member.old) slot word) }
     ensures refused { OnErr result (member.new ≡ member.old) }
 {
@@ -37,7 +35,6 @@ pub fn store_data_by(member: &mut Member<Racer>, slot: u32, word: u64) -> Result
 pub(crate) fn data_slot(layout: Layout, slot: u32, word: u64) -> Result<Slot, Reason>
     ensures slot { IfOk result (λ found. found ≡ slot) }
     ensures data { IsOk result → (slot < slot_count layout) × (2 ^ 32 ≤ word) }
-    ensures taken { slot < slot_count layout → 2 ^ 32 ≤ word → IsOk result }
     ensures why { IfErr result (SaysNoData layout slot word) }
 {
     let Some(slot) = layout.slot(slot) else {

@@ -4,7 +4,7 @@ ghost use Rattle.g1_handles.specs.Prelude.{Some, IfOk, IfErr, IsOk, OnErr};
 ghost use Rattle.g1_handles.specs.Prelude.{race_layout};
 ghost use Rattle.g1_handles.specs.Codes.{IsStoreOf, reference_of};
 ghost use Rattle.g1_handles.specs.RaceStores.{Swaps, IsExchange};
-ghost use Rattle.g1_handles.specs.Racing.{OfRacer, IfRacer};
+ghost use Rattle.g1_handles.specs.Racing.{OfRacer};
 ghost use Rattle.g1_handles.specs.Refusals.{CanStore, IsRaceStoreRefused, IsRaceExchangeRefused};
 
 use crate::code::Reason;
@@ -44,8 +44,6 @@ pub fn swap_by(member: &mut Member<Racer>, slot: u32, target: u32) -> Result<Swa
         (reference_of swapped.old) swapped.kind b))) }
     ensures can { IsOk result → OfRacer (Some member.old) (λ a.
         CanStore a.race a.racer slot target) }
-    ensures taken { IfRacer (Some member.old) (λ a.
-        CanStore a.race a.racer slot target → IsOk result) }
     ensures why { IfErr result (IsRaceStoreRefused (Some member.old) slot target) }
     ensures refused { OnErr result (member.new ≡ member.old) }
 {
@@ -76,9 +74,6 @@ pub fn compare_exchange_by(
     ensures can { IsOk result → OfRacer (Some member.old) (λ a.
         IsStoreOf (race_layout a.race) slot expected
         × CanStore a.race a.racer slot target) }
-    ensures taken { IfRacer (Some member.old) (λ a.
-        IsStoreOf (race_layout a.race) slot expected
-        → CanStore a.race a.racer slot target → IsOk result) }
     ensures why { IfErr result (IsRaceExchangeRefused (Some member.old) slot expected target) }
     ensures refused { OnErr result (member.new ≡ member.old) }
 {

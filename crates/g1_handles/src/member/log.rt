@@ -1,12 +1,12 @@
 //! The log of a racer.
-ghost use Rattle.std.specs.Prelude.{◌≡◌, ◌⊎◌, ◌<◌, ◌≤◌};
-ghost use Rattle.g1_handles.specs.{Some, IfOk, IfErr, IsOk, OnErr, length};
-ghost use Rattle.g1_handles.specs.{take, IsWritten, OfRacer, IfRacer, TakesLog, SaysNoMember};
+ghost use Rattle.std.specs.Prelude.{◌≡◌, ◌⊎◌, ◌<◌};
+ghost use Rattle.g1_handles.specs.{Some, IfOk, IfErr, OnErr, length};
+ghost use Rattle.g1_handles.specs.{take, IsWritten, OfRacer, TakesLog, SaysNoMember};
 
 use crate::any_handle::{closed, into_box, opened};
 use crate::code::Reason;
+use crate::handles::RacerHandle;
 use crate::list::write_list;
-use crate::member::racer_handle::RacerHandle;
 use core::mem::replace;
 use std::alloc::Global;
 
@@ -20,7 +20,6 @@ pub const LOG: usize = 256;
 pub fn take_log(alloc: Global, handle: &mut RacerHandle, cards: &mut [u32]) -> Result<u32, Reason>
     ensures log { IfOk result (λ count. OfRacer handle.old.value (λ a.
         OfRacer handle.new.value (λ b. TakesLog a (take count cards.new) b))) }
-    ensures taken { IfRacer handle.old.value (λ a. 256 ≤ length cards.old → IsOk result) }
     ensures why { IfErr result (λ refusal. SaysNoMember handle.old.value refusal
         ⊎ ((refusal ≡ Reason.NoRoom) × (length cards.old < 256))) }
     ensures refused { OnErr result ((handle.new.value ≡ handle.old.value)

@@ -1,7 +1,7 @@
 //! Concurrent refinement in a race.
 ghost use Rattle.std.specs.Prelude.{◌≡◌, ◌<◌};
-ghost use Rattle.g1_handles.specs.{Some, IsOk, OnOk, IfErr, OnErr, card_count};
-ghost use Rattle.g1_handles.specs.{race_layout, OfSweeper, IfSweeper, Sweeps, IsSweepRefused};
+ghost use Rattle.g1_handles.specs.{Some, OnOk, IfErr, OnErr};
+ghost use Rattle.g1_handles.specs.{OfSweeper, Sweeps, IsSweepRefused};
 
 use crate::code::Reason;
 use crate::member::Member;
@@ -13,8 +13,6 @@ use g1_race::Sweeper;
 pub fn refine_by(member: &mut Member<Sweeper>, card: u32) -> Result<(), Reason>
     ensures refined { OnOk result (OfSweeper (Some member.old) (λ a.
         OfSweeper (Some member.new) (λ b. Sweeps a card b))) }
-    ensures taken { IfSweeper (Some member.old) (λ a.
-        card < card_count (race_layout a.race) → IsOk result) }
     ensures why { IfErr result (IsSweepRefused (Some member.old) card) }
     ensures refused { OnErr result (member.new ≡ member.old) }
 {

@@ -1,8 +1,8 @@
 //! A row of words in a race by one call.
 ghost use Rattle.std.specs.Prelude.{◌≡◌};
-ghost use Rattle.g1_handles.specs.{Some, IsOk, IfOk, IfErr, OnErr, race_id, racer_race};
+ghost use Rattle.g1_handles.specs.{Some, IfOk, IfErr, OnErr, race_id, racer_race};
 ghost use Rattle.g1_handles.specs.{race_layout};
-ghost use Rattle.g1_handles.specs.{OfRacer, IfRacer, racing};
+ghost use Rattle.g1_handles.specs.{OfRacer, racing};
 ghost use Rattle.g1_handles.specs.{IsRow, StoresRow, IsRowRefused};
 
 use crate::code::Reason;
@@ -20,8 +20,6 @@ use g1_race::{Race, Racer};
 pub fn store_words_by(member: &mut Member<Racer>, slot: u32, words: &[u64]) -> Result<usize, Reason>
     ensures stored { IfOk result (λ count. OfRacer (Some member.old) (λ a.
         OfRacer (Some member.new) (λ b. StoresRow a slot words.now count b))) }
-    ensures taken { IfRacer (Some member.old) (λ a.
-        IsRow (race_layout a.race) slot words.now → IsOk result) }
     ensures why { IfErr result (IsRowRefused (Some member.old) slot words.now) }
     ensures refused { OnErr result (member.new ≡ member.old) }
 {

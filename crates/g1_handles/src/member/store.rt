@@ -2,7 +2,7 @@
 ghost use Rattle.std.specs.Prelude.{◌≡◌};
 ghost use Rattle.g1_handles.specs.{Some, IfOk, IfErr, IsOk, OnErr};
 ghost use Rattle.g1_handles.specs.{race_id, racer_race, reference_of};
-ghost use Rattle.g1_handles.specs.{OfRacer, IfRacer, Stores, racing, IsRaceStoreRefused};
+ghost use Rattle.g1_handles.specs.{OfRacer, Stores, racing, IsRaceStoreRefused};
 ghost use Rattle.g1_handles.specs.{CanStore, SaysNoStore};
 
 use crate::code::Reason;
@@ -21,8 +21,6 @@ pub fn store_by(member: &mut Member<Racer>, slot: u32, target: u32) -> Result<Ki
         OfRacer (Some member.new) (λ b. Stores a slot (reference_of target) kind b))) }
     ensures can { IsOk result → OfRacer (Some member.old) (λ a.
         CanStore a.race a.racer slot target) }
-    ensures taken { IfRacer (Some member.old) (λ a.
-        CanStore a.race a.racer slot target → IsOk result) }
     ensures why { IfErr result (IsRaceStoreRefused (Some member.old) slot target) }
     ensures refused { OnErr result (member.new ≡ member.old) }
 {
@@ -47,7 +45,6 @@ pub(crate) fn store_next(
     ensures stored { IfOk result (λ kind. Stores (racing race.now racer.old counts.old) slot
         (reference_of target) kind (racing race.now racer.new counts.new)) }
     ensures can { IsOk result → CanStore race.now racer.old slot target }
-    ensures taken { CanStore race.now racer.old slot target → IsOk result }
     ensures why { IfErr result (SaysNoStore race.now racer.old slot target) }
     ensures refused { OnErr result ((racer.new ≡ racer.old) × (counts.new ≡ counts.old)) }
 {
@@ -67,7 +64,6 @@ pub(crate) fn may_store(
 ) -> Result<(Slot, Option<Slot>), Reason>
     ensures can { IsOk result → CanStore race.now racer.now slot target }
     ensures store { IfOk result (λ store. (store.0 ≡ slot) × (store.1 ≡ reference_of target)) }
-    ensures taken { CanStore race.now racer.now slot target → IsOk result }
     ensures why { IfErr result (SaysNoStore race.now racer.now slot target) }
 {
     let (slot, target) = store_of(race.layout(), slot, target)?;

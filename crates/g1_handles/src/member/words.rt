@@ -1,6 +1,6 @@
 //! Stores of words in a race: a slot may hold null, a reference or data.
 ghost use Rattle.std.specs.Prelude.{◌≡◌};
-ghost use Rattle.g1_handles.specs.{Some, IfOk, IfErr, IsOk, OnErr, OfRacer, IfRacer};
+ghost use Rattle.g1_handles.specs.{Some, IfOk, IfErr, IsOk, OnErr, OfRacer};
 ghost use Rattle.g1_handles.specs.{SwapsWord, IsWordExchange, IsWordFor, CanStoreWord, MayHave};
 ghost use Rattle.g1_handles.specs.{LacksWordPlace, IsSwapWordRefused, IsExchangeWordRefused};
 
@@ -18,8 +18,6 @@ pub fn swap_word_by(member: &mut Member<Racer>, slot: u32, word: u64) -> Result<
         OfRacer (Some member.new) (λ b. SwapsWord a slot word swapped.1 swapped.0 b))) }
     ensures can { IsOk result → OfRacer (Some member.old) (λ a.
         CanStoreWord a.race a.racer slot word) }
-    ensures taken { IfRacer (Some member.old) (λ a.
-        CanStoreWord a.race a.racer slot word → IsOk result) }
     ensures why { IfErr result (IsSwapWordRefused (Some member.old) slot word) }
     ensures refused { OnErr result (member.new ≡ member.old) }
 {
@@ -51,9 +49,6 @@ pub fn compare_exchange_word_by(
         OfRacer (Some member.new) (λ b. IsWordExchange a slot expected word exchange b))) }
     ensures can { IsOk result → OfRacer (Some member.old) (λ a.
         CanStoreWord a.race a.racer slot word × MayHave a.race expected) }
-    ensures taken { IfRacer (Some member.old) (λ a.
-        CanStoreWord a.race a.racer slot word
-        → MayHave a.race expected → IsOk result) }
     ensures why { IfErr result (IsExchangeWordRefused (Some member.old) slot expected word) }
     ensures refused { OnErr result (member.new ≡ member.old) }
 {
@@ -81,7 +76,6 @@ pub fn compare_exchange_word_by(
 fn slot_of(race: &Race, slot: u32, word: u64) -> Result<Slot, Reason>
     ensures slot { IfOk result (λ found. found ≡ slot) }
     ensures fits { IsOk result → IsWordFor race.now slot word }
-    ensures taken { IsWordFor race.now slot word → IsOk result }
     ensures why { IfErr result (LacksWordPlace race.now slot word) }
 {
     let Some(slot) = race.layout().slot(slot) else {

@@ -11,8 +11,6 @@ use g1_layout::Layout;
 /// `to` on. Returns `NoSlot` if one of the two ranges leaves the heap: nothing has changed.
 pub fn copy_in(core: &mut Core, from: u32, to: u32, count: u32) -> Result<(), Reason>
     ensures copied { OnOk result (DoesCopy from to count core.old core.new) }
-    ensures answered { from + count ≤ slot_count core.old.state.table.layout
-        → to + count ≤ slot_count core.old.state.table.layout → IsOk result }
     ensures within { IsOk result → (from + count ≤ slot_count core.old.state.table.layout)
         × (to + count ≤ slot_count core.old.state.table.layout) }
     ensures why { IfErr result

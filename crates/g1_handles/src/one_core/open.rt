@@ -7,7 +7,7 @@ ghost use Rattle.g1_handles.specs.Refusals.{IsOpenRefused, SaysNotOpen};
 
 use crate::any_handle::{closed, into_box, is_closed, opened};
 use crate::code::{DONE, Reason};
-use crate::one_core::handle::Handle;
+use crate::handles::Handle;
 use g1_core::{Config, Core};
 use g1_layout::Layout;
 use std::alloc::Global;

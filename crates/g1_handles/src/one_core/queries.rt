@@ -1,7 +1,7 @@
 //! Queries: what a slot refers to, whether a card is pending, and how much is pending and recorded.
 ghost use Rattle.std.specs.Prelude.{◌≡◌, ◌<◌};
-ghost use Rattle.g1_handles.specs.{IfOk, IfErr, OnErr, IsOk, IfSome, slot_count};
-ghost use Rattle.g1_handles.specs.{card_count, reference_of, RefersTo, TellsPending, TellsStatus};
+ghost use Rattle.g1_handles.specs.{IfOk, IfErr, OnErr, IfSome, slot_count};
+ghost use Rattle.g1_handles.specs.{reference_of, RefersTo, TellsPending, TellsStatus};
 ghost use Rattle.g1_handles.specs.{LacksCard, LacksSlot};
 
 use crate::code::{NULL, Reason};
@@ -11,7 +11,6 @@ use g1_layout::{Layout, Slot};
 /// Returns the word of what a slot of a core refers to, or `NoSlot`: nothing has changed.
 pub fn target_in(core: &mut Core, slot: u32) -> Result<u32, Reason>
     ensures target { IfOk result (λ word. RefersTo core.old slot (reference_of word) core.new) }
-    ensures answered { slot < slot_count core.old.state.table.layout → IsOk result }
     ensures why { IfErr result (LacksSlot core.old.state.table.layout slot) }
     ensures refused { OnErr result (core.new ≡ core.old) }
 {
@@ -37,7 +36,6 @@ pub(crate) fn reference_word(layout: Layout, target: Option<Slot>) -> u32
 /// Returns whether a card of a core is pending, or `NoCard`.
 pub fn is_pending_in(core: &Core, card: u32) -> Result<bool, Reason>
     ensures pending { IfOk result (TellsPending core.now.state.table card) }
-    ensures answered { card < card_count core.now.state.table.layout → IsOk result }
     ensures why { IfErr result (LacksCard core.now.state.table.layout card) }
 {
     let Some(card) = core.layout().card(card) else {

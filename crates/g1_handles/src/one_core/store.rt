@@ -13,7 +13,6 @@ use g1_layout::{Kind, Layout, Slot};
 pub fn store_in(core: &mut Core, slot: u32, target: u32) -> Result<Kind, Reason>
     ensures stored { IfOk result (λ kind.
         StoresTo core.old slot (reference_of target) kind core.new) }
-    ensures taken { IsStoreOf core.old.state.table.layout slot target → IsOk result }
     ensures why { IfErr result (LacksPlace core.old.state.table.layout slot target) }
     ensures refused { OnErr result (core.new ≡ core.old) }
 {
@@ -31,7 +30,6 @@ pub(crate) fn store_of(
 ) -> Result<(Slot, Option<Slot>), Reason>
     ensures store { IfOk result (λ store. (store.0 ≡ slot) × (store.1 ≡ reference_of target)) }
     ensures within { IsOk result → IsStoreOf layout slot target }
-    ensures taken { IsStoreOf layout slot target → IsOk result }
     ensures why { IfErr result (LacksPlace layout slot target) }
 {
     let Some(slot) = layout.slot(slot) else {

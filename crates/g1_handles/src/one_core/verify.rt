@@ -1,7 +1,6 @@
 //! Checks of a core for a debug build.
-ghost use Rattle.std.specs.Prelude.{◌≡◌, ◌+◌, ◌≤◌};
-ghost use Rattle.g1_handles.specs.Prelude.{length, IfOk, IfErr, IsOk, OnErr};
-ghost use Rattle.g1_handles.specs.Prelude.{slot_count};
+ghost use Rattle.std.specs.Prelude.{◌≡◌};
+ghost use Rattle.g1_handles.specs.Prelude.{length, IfOk, IfErr, OnErr};
 ghost use Rattle.g1_handles.specs.Queries.{Checks};
 ghost use Rattle.g1_handles.specs.Lacks.{LacksRanges};
 
@@ -37,8 +36,6 @@ pub fn verify_in(
 ) -> Result<Findings, Reason>
     ensures found { IfOk result (λ f.
         Checks core.old first count memory.now f.differing f.missing core.new) }
-    ensures answered { first + count ≤ slot_count core.old.state.table.layout
-        → first + length memory.now ≤ slot_count core.old.state.table.layout → IsOk result }
     ensures why { IfErr result
         (LacksRanges core.old.state.table.layout first count first (length memory.now)) }
     ensures refused { OnErr result (core.new ≡ core.old) }

@@ -1,5 +1,5 @@
 -- One word more.
-use Rattle.std.specs.Prelude.{◌+◌, ◌<◌}
+use Rattle.std.specs.Prelude.{◌<◌}
 use Rattle.g1_handles.specs.{arith, ℕ, sym, subst, ap, ◌∙◌, slice_index_or, StoresWordAt, slot_count}
 use Rattle.g1_race_words.specs.declared.view.RaceShape.{RaceShape}
 use Rattle.g1_handles.proofs.RowLemmas.{row_kept, row_next_at, row_slot, row_word}

@@ -1,7 +1,7 @@
 -- One store more, or why there is none.
 use Rattle.g1_handles.specs.{refl, subst, sym, ◌∙◌, racing, StoresFirst, IsEnd}
 use Rattle.g1_handles.specs.Racing.{Racing}
-use Rattle.g1_handles.proofs.BatchLemmas.{stores_next, stores_end, stores_whole}
+use Rattle.g1_handles.proofs.BatchLemmas.{stores_next, stores_end}
 use Rattle.g1_handles.proofs.member.batch.store_each.Goals as goal
 
 pub loop-i-preserved : goal.loop-i-preserved
@@ -24,5 +24,4 @@ returns-in-Err c =
       same = c.store_next.ensures.same ∙ c.loop-i.invariant.0;
       stored = subst (λ (b : Racing). StoresFirst first c.args.stores.now (record { count = c.loop-i.i; end = c.end_of.result }) b) (λ i. racing race (sym left.0 i) (sym left.1 i))
           (record { stored = c.loop-i.invariant.1; end = end });
-      taken = λ can. stores_whole first last c.args.stores.now c.loop-i.i c.end_of.result can c.loop-i.invariant.1 end;
     }

@@ -1,0 +1,225 @@
+//! The handles that C keeps: a core, a heap whose stores race, a racer, a sweeper or a reader
+//! behind a pointer, or nothing if the pointer is null.
+//!
+//! Contracts see what a handle holds, or `None` if it is closed. Dropping a handle frees nothing:
+//! `g1_close` frees a core, and `g1_heap_close` a heap with its members, each of which a pause or
+//! the end of a reading has taken in.
+ghost use Rattle.std.specs.Prelude.{◌≡◌};
+ghost use Rattle.g1_handles.specs.Prelude.{Option, coded_option, Machine, machine_code};
+ghost use Rattle.g1_handles.specs.declared.heap.racing_heap.RacingHeap.{RacingHeap};
+ghost use Rattle.g1_handles.specs.Own.{holds, core_row, heap_row, racer_row, sweeper_row};
+ghost use Rattle.g1_handles.specs.Own.{reader_row, RacerMember, SweeperMember, ReaderMember};
+
+use crate::any_handle::AnyHandle;
+use crate::heap::racing_heap::RacingHeap;
+use crate::member::Member;
+use crate::nullable_box::NullableBox;
+use g1_core::Core;
+use g1_race::{Racer, Reader, Sweeper};
+use std::alloc::Global;
+use std::marker::Model;
+
+/// A core.
+#[repr(C)]
+#[derive(Drop)]
+pub struct Handle {
+    at: *mut u8,
+    alloc: Global,
+    pub ghost value: { Option Machine } by { coded_option machine_code },
+}
+
+impl Model for Handle {
+    ghost also_owns = { λ h. holds core_row h.alloc h.at h.value };
+}
+
+impl AnyHandle for Handle {
+    type Value = Core;
+
+    ghost value = { λ h. h.value };
+
+    fn from_nullable(boxed: NullableBox<Core>) -> Handle
+        ensures { result.value ≡ boxed.value }
+    {
+        let NullableBox { at, alloc } = boxed;
+        Handle {
+            at: at as *mut u8,
+            alloc,
+        }
+    }
+
+    fn into_nullable(self) -> NullableBox<Core>
+        ensures { result.value ≡ self.value }
+    {
+        let Handle { at, alloc } = self;
+        NullableBox {
+            at: at as *mut Core,
+            alloc,
+        }
+    }
+}
+
+unsafe impl Send for Handle {}
+
+/// A heap whose stores race.
+#[repr(C)]
+#[derive(Drop)]
+pub struct HeapHandle {
+    at: *mut u8,
+    alloc: Global,
+    pub ghost value: { Option RacingHeap } by { coded_option heap_row.coded },
+}
+
+impl Model for HeapHandle {
+    ghost also_owns = { λ h. holds heap_row h.alloc h.at h.value };
+}
+
+impl AnyHandle for HeapHandle {
+    type Value = RacingHeap;
+
+    ghost value = { λ h. h.value };
+
+    fn from_nullable(boxed: NullableBox<RacingHeap>) -> HeapHandle
+        ensures { result.value ≡ boxed.value }
+    {
+        let NullableBox { at, alloc } = boxed;
+        HeapHandle {
+            at: at as *mut u8,
+            alloc,
+        }
+    }
+
+    fn into_nullable(self) -> NullableBox<RacingHeap>
+        ensures { result.value ≡ self.value }
+    {
+        let HeapHandle { at, alloc } = self;
+        NullableBox {
+            at: at as *mut RacingHeap,
+            alloc,
+        }
+    }
+}
+
+unsafe impl Send for HeapHandle {}
+
+/// A racer, with its share of the race.
+#[repr(C)]
+#[derive(Drop)]
+pub struct RacerHandle {
+    at: *mut u8,
+    alloc: Global,
+    pub ghost value: { Option RacerMember } by { coded_option racer_row.coded },
+}
+
+impl Model for RacerHandle {
+    ghost also_owns = { λ h. holds racer_row h.alloc h.at h.value };
+}
+
+impl AnyHandle for RacerHandle {
+    type Value = Member<Racer>;
+
+    ghost value = { λ h. h.value };
+
+    fn from_nullable(boxed: NullableBox<Member<Racer>>) -> RacerHandle
+        ensures { result.value ≡ boxed.value }
+    {
+        let NullableBox { at, alloc } = boxed;
+        RacerHandle {
+            at: at as *mut u8,
+            alloc,
+        }
+    }
+
+    fn into_nullable(self) -> NullableBox<Member<Racer>>
+        ensures { result.value ≡ self.value }
+    {
+        let RacerHandle { at, alloc } = self;
+        NullableBox {
+            at: at as *mut Member<Racer>,
+            alloc,
+        }
+    }
+}
+
+unsafe impl Send for RacerHandle {}
+
+/// A sweeper, with its share of the race.
+#[repr(C)]
+#[derive(Drop)]
+pub struct SweeperHandle {
+    at: *mut u8,
+    alloc: Global,
+    pub ghost value: { Option SweeperMember } by { coded_option sweeper_row.coded },
+}
+
+impl Model for SweeperHandle {
+    ghost also_owns = { λ h. holds sweeper_row h.alloc h.at h.value };
+}
+
+impl AnyHandle for SweeperHandle {
+    type Value = Member<Sweeper>;
+
+    ghost value = { λ h. h.value };
+
+    fn from_nullable(boxed: NullableBox<Member<Sweeper>>) -> SweeperHandle
+        ensures { result.value ≡ boxed.value }
+    {
+        let NullableBox { at, alloc } = boxed;
+        SweeperHandle {
+            at: at as *mut u8,
+            alloc,
+        }
+    }
+
+    fn into_nullable(self) -> NullableBox<Member<Sweeper>>
+        ensures { result.value ≡ self.value }
+    {
+        let SweeperHandle { at, alloc } = self;
+        NullableBox {
+            at: at as *mut Member<Sweeper>,
+            alloc,
+        }
+    }
+}
+
+unsafe impl Send for SweeperHandle {}
+
+/// A reader, with its share of the race.
+#[repr(C)]
+#[derive(Drop)]
+pub struct ReaderHandle {
+    at: *mut u8,
+    alloc: Global,
+    pub ghost value: { Option ReaderMember } by { coded_option reader_row.coded },
+}
+
+impl Model for ReaderHandle {
+    ghost also_owns = { λ h. holds reader_row h.alloc h.at h.value };
+}
+
+impl AnyHandle for ReaderHandle {
+    type Value = Member<Reader>;
+
+    ghost value = { λ h. h.value };
+
+    fn from_nullable(boxed: NullableBox<Member<Reader>>) -> ReaderHandle
+        ensures { result.value ≡ boxed.value }
+    {
+        let NullableBox { at, alloc } = boxed;
+        ReaderHandle {
+            at: at as *mut u8,
+            alloc,
+        }
+    }
+
+    fn into_nullable(self) -> NullableBox<Member<Reader>>
+        ensures { result.value ≡ self.value }
+    {
+        let ReaderHandle { at, alloc } = self;
+        NullableBox {
+            at: at as *mut Member<Reader>,
+            alloc,
+        }
+    }
+}
+
+unsafe impl Send for ReaderHandle {}
