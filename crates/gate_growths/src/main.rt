@@ -7,30 +7,27 @@
 //! compares what was left with what the call's contract says, and makes the call again. So every
 //! run prints the same lines and ends with status 0.
 //!
-//! There is a file for each layer. A layer of few scenarios has a function for each, which `play`
-//! calls here; one of many has a `play` of its own, over a table with a line for each.
+//! There is a file for each layer. The scenarios of a core and a book are tables of steps
+//! (`machinery`), and so is most of a pause; the others have a function each.
 #![tactic(auto)]
 
-mod books;
-mod cores;
 mod cycle;
 mod heap;
-mod history;
 mod hot;
 mod large;
 mod line;
 mod logs;
 mod machinery;
-mod numbers;
 mod outcome;
 mod pause;
 mod race;
 mod sets;
 mod shared;
 
-use outcome::{Failure, told};
+use outcome::told;
 use std::process::ExitCode;
 use std::sync::Wait;
+use test_support::Failure;
 
 fn main(rt: HostRuntime) -> ExitCode {
     match play(&rt) {
@@ -46,8 +43,7 @@ fn play<R: Wait + Print + Eprint + AllocGlobal>(rt: &R) -> Result<(), Failure> {
     told(rt, "a line", line::new_line(rt))?;
     told(rt, "a ring of hot cards", hot::new_ring(rt))?;
     sets::play(rt)?;
-    machinery::play(rt)?;
-    history::play(rt)?;
+    machinery::play_all(rt)?;
     told(rt, "callers at a line", line::new_callers(rt))?;
     told(rt, "a book that is shared", shared::book(rt))?;
     told(rt, "a core that is shared", shared::core(rt))?;

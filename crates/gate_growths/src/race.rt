@@ -3,10 +3,14 @@ ghost use Rattle.std.specs.Prelude.{◌≡◌, IfOk};
 ghost use Rattle.g1_race.specs.Members.{race_id, race_shape, racer_race, sweeper_race};
 ghost use Rattle.g1_race.specs.Members.{AreFreshRacers, AreFreshSweepers};
 
-use crate::numbers::{card, number_of, region, slot, small};
-use crate::outcome::{Failure, check, retried};
+use crate::machinery::REFERENCES;
 use g1_layout::{Kind, Layout};
 use g1_race::{Closed, Race, Racer, Sweeper};
+use test_support::Failure;
+use test_support::checks::equal;
+use test_support::failure::retried;
+use test_support::numbers::{card, number_of, region, slot, small};
+use test_support::steps::place_of;
 
 // A race of one racer and one sweeper.
 fn new_race<R: Eprint + AllocGlobal>(
@@ -23,20 +27,8 @@ fn new_race<R: Eprint + AllocGlobal>(
 
 /// A race with no store has nulls and clean cards, and nothing recorded.
 pub(crate) fn untouched<R: Eprint + AllocGlobal>(rt: &R) -> Result<(), Failure> {
-    let closed = closed_after(rt, small()?, &[], 0)?;
-    for number in 0..32 {
-        let place = place_after(&closed, number)?;
-        check(rt, place.is_none(), "a slot of a new race refers")?;
-    }
-    for number in 0..8 {
-        let is = is_at(&closed, number, false, &[])?;
-        check(rt, is, "a card of a new race")?;
-    }
-    Ok(())
+    are_seen(rt, &closed_after(rt, small()?, &[], 0)?, &[], 0)
 }
-
-/// Cards 0, 1 and 2 hold into regions 3, 2 and 3.
-pub(crate) static REFERENCES: [(u32, u32); 3] = [(0, 24), (4, 16), (8, 24)];
 
 /// A race that was closed after these stores and a refinement of the first cards.
 pub(crate) fn closed_after<R: Eprint + AllocGlobal>(
@@ -78,28 +70,15 @@ fn stored(
     ensures race { racer_race racer.new ≡ racer_race racer.old }
 {
     for reference in references {
-        store(rt, race, racer, *reference)?;
+        let from = slot(race.layout(), reference.0)?;
+        let to = slot(race.layout(), reference.1)?;
+        if !racer.has_room() {
+            return Err(Failure::Wrong);
+        }
+        let kind = racer.store(race, from, Some(to));
+        equal(rt, "a store of a race", kind, Kind::Logged)?;
     }
     Ok(())
-}
-
-fn store(
-    rt: &impl Eprint,
-    race: &Race,
-    racer: &mut Racer,
-    reference: (u32, u32),
-) -> Result<(), Failure>
-    requires race { racer_race racer.old ≡ race_id race.now }
-    ensures race { racer_race racer.new ≡ racer_race racer.old }
-{
-    let layout = race.layout();
-    let from = slot(&layout, reference.0)?;
-    let to = slot(&layout, reference.1)?;
-    if !racer.has_room() {
-        return Err(Failure::Wrong);
-    }
-    let kind = racer.store(race, from, Some(to));
-    check(rt, kind == Kind::Logged, "a store of a race")
 }
 
 // Refines the first cards in order.
@@ -108,7 +87,7 @@ fn refined(race: &Race, sweeper: &mut Sweeper, cards: u32) -> Result<(), Failure
     ensures race { sweeper_race sweeper.new ≡ sweeper_race sweeper.old }
 {
     for number in 0..cards {
-        let card = card(&race.layout(), number)?;
+        let card = card(race.layout(), number)?;
         let Ok(()) = sweeper.refine(race, card) else {
             unreachable!()
         };
@@ -119,35 +98,54 @@ fn refined(race: &Race, sweeper: &mut Sweeper, cards: u32) -> Result<(), Failure
 /// Whether the slots refer where they were stored to, the first cards are clean and recorded, and
 /// the others dirty and not recorded.
 pub(crate) fn are_refined(rt: &impl Eprint, closed: &Closed, done: u32) -> Result<(), Failure> {
-    for (number, (from, to)) in (0..3).zip(REFERENCES) {
-        let place = place_after(closed, from)?;
-        check(rt, place == Some(to), "a slot after a race")?;
-        let region = [to / 8];
-        let recorded: &[u32] = if number < done { &region } else { &[] };
-        let is = is_at(closed, number, number >= done, recorded)?;
-        check(rt, is, "a card after a race")?;
+    are_seen(rt, closed, &REFERENCES, done)
+}
+
+// The same of these references, each in the first slot of the next card.
+fn are_seen(
+    rt: &impl Eprint,
+    closed: &Closed,
+    references: &[(u32, u32)],
+    done: u32,
+) -> Result<(), Failure> {
+    for number in 0..32 {
+        let place = place_after(closed, number)?;
+        equal(
+            rt,
+            "a slot after a race",
+            place,
+            place_of(references, number),
+        )?;
     }
-    for number in 3..8 {
-        let is = is_at(closed, number, false, &[])?;
-        check(rt, is, "a card that nobody stored to")?;
+    for number in 0..8 {
+        let into = match place_of(references, 4 * number) {
+            Some(place) => Some(place / 8),
+            None => None,
+        };
+        let dirty = into.is_some() && number >= done;
+        let card = card(closed.layout(), number)?;
+        equal(
+            rt,
+            "a mark after a race",
+            (number, closed.marked(card)),
+            (number, dirty),
+        )?;
+        for of in 0..4 {
+            let has = closed.has(card, region(closed.layout(), of)?);
+            let wanted = number < done && into == Some(of);
+            equal(
+                rt,
+                "a pair after a race",
+                (number, of, has),
+                (number, of, wanted),
+            )?;
+        }
     }
     Ok(())
 }
 
 /// The number of the place that the slot of this number refers to after a race.
 pub(crate) fn place_after(closed: &Closed, number: u32) -> Result<Option<u32>, Failure> {
-    let from = slot(&closed.layout(), number)?;
+    let from = slot(closed.layout(), number)?;
     Ok(number_of(closed.target(from)))
-}
-
-// Whether the card is dirty or not, as told, and recorded for these regions alone.
-fn is_at(closed: &Closed, number: u32, dirty: bool, regions: &[u32]) -> Result<bool, Failure> {
-    let layout = closed.layout();
-    let card = card(&layout, number)?;
-    for of in 0..4 {
-        if closed.has(card, region(&layout, of)?) != regions.contains(&of) {
-            return Ok(false);
-        }
-    }
-    Ok(closed.marked(card) == dirty)
 }

@@ -1,10 +1,13 @@
 //! The remembered sets: making them, recording cards and listing them take memory.
 ghost use Rattle.std.specs.Prelude.{◌≡◌, IfOk};
 
-use crate::numbers;
-use crate::outcome::{Failure, check, refused, retried, told};
+use crate::outcome::told;
 use g1_layout::{Card, Layout};
 use g1_sets::Sets;
+use test_support::Failure;
+use test_support::checks::{check, equal};
+use test_support::failure::{refused, retried};
+use test_support::numbers::{card, region};
 
 // How many regions of how many cards the heap of a list has, and how many cards the list. The bits
 // for the cards of the last heap, of more than 65,536 cards, are a growth of their own.
@@ -44,79 +47,78 @@ impl Numbered {
     fn new<R: Eprint + AllocGlobal>(rt: &R, regions: u32, cards: u32) -> Result<Numbered, Failure> {
         let layout = Layout::large(regions, cards, 1).ok_or(Failure::Wrong)?;
         let sets = new_sets(rt, layout)?;
-        check(rt, sets.total() == 0, "new sets have a card")?;
+        equal(rt, "how many cards new sets have", sets.total(), 0)?;
         Ok(Numbered { layout, sets })
     }
 
     // Whether the region's set has just these cards and then `count` from 0 on, in the order of
     // insertion.
-    fn has_just(&self, region: u32, first: &[u32], count: u32) -> Result<bool, Failure> {
-        let region = numbers::region(&self.layout, region)?;
-        for index in 0..self.sets.len(region) {
+    fn has_just(
+        &self,
+        rt: &impl Eprint,
+        of: u32,
+        first: &[u32],
+        count: u32,
+    ) -> Result<(), Failure> {
+        let of = region(self.layout, of)?;
+        let members = self.sets.members(of);
+        let wanted = first.len().saturating_add(count as usize);
+        equal(rt, "how many cards a set has", members.len(), wanted)?;
+        for (member, index) in members.iter().zip(0..=u32::MAX) {
             let number = match first.get(index as usize) {
                 Some(number) => *number,
                 None => index.saturating_sub(first.len() as u32),
             };
-            if self.sets.at(region, index).number() != number {
-                return Ok(false);
-            }
+            equal(rt, "a card of a set", member.number(), number)?;
         }
-        Ok(self.sets.len(region) as usize == first.len().saturating_add(count as usize))
-    }
-
-    fn record(&mut self, card: u32, first: u32, second: u32) -> Result<(), Failure> {
-        let card = numbers::card(&self.layout, card)?;
-        let first = numbers::region(&self.layout, first)?;
-        let second = numbers::region(&self.layout, second)?;
-        Ok(self.sets.record(card, &[first, second])?)
-    }
-
-    // Two cards, one of them named twice.
-    fn record_many(&mut self, first: u32, second: u32, region: u32) -> Result<(), Failure> {
-        let first = numbers::card(&self.layout, first)?;
-        let second = numbers::card(&self.layout, second)?;
-        let region = numbers::region(&self.layout, region)?;
-        Ok(self.sets.record_many(&[first, second, first], region)?)
-    }
-
-    fn clear(&mut self, region: u32) -> Result<(), Failure> {
-        let region = numbers::region(&self.layout, region)?;
-        self.sets.clear(region);
         Ok(())
     }
 
-    fn cards(&self, region: u32) -> Result<Vec<Card>, Failure> {
-        let region = numbers::region(&self.layout, region)?;
-        Ok(self.sets.cards(region)?)
+    fn cards(&self, of: u32) -> Result<Vec<Card>, Failure> {
+        let of = region(self.layout, of)?;
+        Ok(self.sets.cards(of)?)
+    }
+
+    fn record(&mut self, number: u32, first: u32, second: u32) -> Result<(), Failure> {
+        let regions = [region(self.layout, first)?, region(self.layout, second)?];
+        Ok(self.sets.record(card(self.layout, number)?, &regions)?)
+    }
+
+    // Two cards, one of them named twice.
+    fn record_many(&mut self, first: u32, second: u32, of: u32) -> Result<(), Failure> {
+        let first = card(self.layout, first)?;
+        let second = card(self.layout, second)?;
+        let of = region(self.layout, of)?;
+        Ok(self.sets.record_many(&[first, second, first], of)?)
+    }
+
+    // Records a card, again where that is refused: it leaves how many cards there are.
+    fn add(&mut self, rt: &impl Eprint, card: u32, first: u32, second: u32) -> Result<(), Failure> {
+        let before = self.sets.total();
+        match self.record(card, first, second) {
+            Err(Failure::NoMemory) => {
+                refused(rt, "Sets::record");
+                equal(rt, "what a refused record left", self.sets.total(), before)?;
+                self.record(card, first, second)
+            }
+            answer => answer,
+        }
     }
 }
 
-// What the second region has before the first has a card, so that their sets grow at different
-// cards.
-static EARLIER: [u32; 3] = [60, 61, 62];
-
-// Cards 0 to 39 go into two sets. Where either cannot grow, neither has the card.
+// Cards 0 to 39 go into two sets. The second has three cards before the first has one, so that the
+// sets grow at different cards: where either cannot grow, neither has the card.
 fn recorded<R: Eprint + AllocGlobal>(rt: &R) -> Result<(), Failure> {
     let mut sets = Numbered::new(rt, 3, 64)?;
-    for card in EARLIER {
-        if let Err(Failure::NoMemory) = sets.record(card, 2, 2) {
-            refused(rt, "Sets::record");
-            sets.record(card, 2, 2)?;
-        }
+    for card in 60..63 {
+        sets.add(rt, card, 2, 2)?;
     }
     for card in 0..40 {
-        if let Err(Failure::NoMemory) = sets.record(card, 1, 2) {
-            refused(rt, "Sets::record");
-            let is = sets.has_just(1, &[], card)?;
-            check(rt, is, "a refused record changed the first set")?;
-            let is = sets.has_just(2, &EARLIER, card)?;
-            check(rt, is, "a refused record changed the second set")?;
-            sets.record(card, 1, 2)?;
-        }
+        sets.add(rt, card, 1, 2)?;
     }
-    check(rt, sets.has_just(0, &[], 0)?, "the set of no card")?;
-    check(rt, sets.has_just(1, &[], 40)?, "the first set")?;
-    check(rt, sets.has_just(2, &EARLIER, 40)?, "the second set")
+    sets.has_just(rt, 0, &[], 0)?;
+    sets.has_just(rt, 1, &[], 40)?;
+    sets.has_just(rt, 2, &[60, 61, 62], 40)
 }
 
 // Cards 0 to 39 go into one set, two at a time. Where it cannot grow, it has neither.
@@ -126,31 +128,28 @@ fn recorded_together<R: Eprint + AllocGlobal>(rt: &R) -> Result<(), Failure> {
         let first = 2 * pair;
         if let Err(Failure::NoMemory) = sets.record_many(first, first + 1, 1) {
             refused(rt, "Sets::record_many");
-            let is = sets.has_just(1, &[], first)?;
-            check(rt, is, "a refused call changed the set")?;
+            sets.has_just(rt, 1, &[], first)?;
             sets.record_many(first, first + 1, 1)?;
         }
     }
-    check(rt, sets.has_just(1, &[], 40)?, "the set")?;
-    check(rt, sets.sets.total() == 40, "another set has a card")
+    sets.has_just(rt, 1, &[], 40)?;
+    equal(rt, "how many cards all sets have", sets.sets.total(), 40)
 }
 
 // Cards 0 to 39 go into one set, and once it is cleared again, without a growth: it kept its room.
 fn recorded_again<R: Eprint + AllocGlobal>(rt: &R) -> Result<(), Failure> {
     let mut sets = Numbered::new(rt, 3, 64)?;
     for card in 0..40 {
-        if let Err(Failure::NoMemory) = sets.record(card, 1, 1) {
-            refused(rt, "Sets::record");
-            sets.record(card, 1, 1)?;
-        }
+        sets.add(rt, card, 1, 1)?;
     }
-    sets.clear(1)?;
-    check(rt, sets.has_just(1, &[], 0)?, "a cleared set has a card")?;
+    let of = region(sets.layout, 1)?;
+    sets.sets.clear(of);
+    sets.has_just(rt, 1, &[], 0)?;
     for card in 0..40 {
-        let recorded = sets.record(card, 1, 1).is_ok();
-        check(rt, recorded, "a cleared set has given its room back")?;
+        let is = sets.record(card, 1, 1).is_ok();
+        check(rt, is, "a cleared set has given its room back")?;
     }
-    check(rt, sets.has_just(1, &[], 40)?, "the set")
+    sets.has_just(rt, 1, &[], 40)
 }
 
 // The first region's set has `members` cards, from its neighbour's first card on; they were
@@ -164,24 +163,24 @@ fn listed<R: Eprint + AllocGlobal>(
 ) -> Result<(), Failure> {
     let mut sets = Numbered::new(rt, regions, cards)?;
     for card in (cards..cards.saturating_add(members)).rev() {
-        if let Err(Failure::NoMemory) = sets.record(card, 0, 0) {
-            refused(rt, "Sets::record");
-            sets.record(card, 0, 0)?;
-        }
+        sets.add(rt, card, 0, 0)?;
     }
     let list = match sets.cards(0) {
         Err(Failure::NoMemory) => {
             refused(rt, "Sets::cards");
-            let is = sets.sets.total() == members;
-            check(rt, is, "a refused list changed the sets")?;
+            equal(rt, "what a refused list left", sets.sets.total(), members)?;
             sets.cards(0)?
         }
         answer => answer?,
     };
-    let is = list.len() == members as usize;
-    check(rt, is, "the list has another length")?;
+    equal(
+        rt,
+        "how many cards a list has",
+        list.len(),
+        members as usize,
+    )?;
     for (card, number) in list.as_slice().iter().zip(cards..=u32::MAX) {
-        check(rt, card.number() == number, "the list is not ascending")?;
+        equal(rt, "a card of a list", card.number(), number)?;
     }
     Ok(())
 }

@@ -3,21 +3,23 @@
 ghost use Rattle.std.specs.Prelude.{◌≡◌, IfErr};
 ghost use Rattle.g1_shared.specs.Counts.{AreNone, shared_terms};
 
-use crate::books::{new_book, settings};
-use crate::cores::steps::Step::{Refine, Store};
-use crate::cores::steps::take;
-use crate::cores::{is_left, new_core, state_of};
-use crate::outcome::{Failure, check, refused};
-use crate::race::REFERENCES;
+use crate::machinery::{REFERENCES, new_book, new_core};
 use g1_book::{Book, Keeps, Ledgers, Shared, Terms};
+use g1_core::Core;
 use g1_layout::NoMemory;
 use std::marker::Brand;
 use std::sync::Wait;
 use std::sync::ledger::Ledger;
+use test_support::Failure;
+use test_support::checks::{check, equal};
+use test_support::failure::refused;
+use test_support::players::{OnCore, State, state_of};
+use test_support::step::Step::{Logged, Refine};
+use test_support::steps::play;
 
 /// A new book is shared, and is new when it comes back; also where that is refused.
 pub(crate) fn book<R: Wait + Eprint + AllocGlobal>(rt: &R) -> Result<(), Failure> {
-    let book = match share(rt, new_book(rt, settings(8, 4)?)?) {
+    let book = match share(rt, new_book(rt)?) {
         Ok(book) => book,
         Err(book) => {
             check(rt, is_new(&book), "what a refused sharing left")?;
@@ -34,22 +36,29 @@ fn is_new(book: &Book) -> bool {
 /// A core whose three cards are recorded is shared without a history, and comes back as it was;
 /// also where that is refused.
 pub(crate) fn core<R: Wait + Eprint + AllocGlobal>(rt: &R) -> Result<(), Failure> {
-    let mut core = new_core(rt, 4, 4)?;
-    let steps = [Store(&REFERENCES), Refine(&[0, 1, 2], &[0, 1, 2], 0)];
-    take(rt, &mut core, &steps)?;
-    let before = state_of(&mut core)?;
-    let book = Book::over(rt.alloc(), core, 1, u64::MAX);
-    let mut core = match share(rt, book) {
+    let mut on = new_core(rt, 4, 4)?;
+    let steps = [Logged(&REFERENCES), Refine(&[0, 1, 2], &[0, 1, 2], 0, 0)];
+    play(rt, &mut on, &steps)?;
+    let before = state_of(&mut on)?;
+    let OnCore { core, .. } = on;
+    let core = match share(rt, Book::over(rt.alloc(), core, 1, u64::MAX)) {
         Ok(book) => book.into_core(),
         Err(book) => {
-            let mut core = book.into_core();
-            is_left(rt, &mut core, &before, &[])?;
-            let book = Book::over(rt.alloc(), core, 1, u64::MAX);
-            let again = share(rt, book);
+            let core = is_left(rt, book.into_core(), &before)?;
+            let again = share(rt, Book::over(rt.alloc(), core, 1, u64::MAX));
             again.map_err(|_| Failure::NoMemory)?.into_core()
         }
     };
-    is_left(rt, &mut core, &before, &[])
+    is_left(rt, core, &before)?;
+    Ok(())
+}
+
+// The core, if it is as it was.
+fn is_left(rt: &impl Eprint, core: Core, before: &State) -> Result<Core, Failure> {
+    let mut on = OnCore::over(core);
+    equal(rt, "a core that came back", &state_of(&mut on)?, before)?;
+    let OnCore { core, .. } = on;
+    Ok(core)
 }
 
 // Shares the book and ends that at once. Where its ledgers or the sharing are refused, it says so,

@@ -1,6 +1,0 @@
-use Rattle.std.proofs.Common.{◌≡◌}
-use Rattle.g1_race.specs.Members.{racer_race}
-use Rattle.test_race.proofs.in_threads.store_all.Given as goal
-
-abbrev pub invariant-loop-turn : goal.invariant-loop-turn
-invariant-loop-turn l = racer_race l.racer ≡ racer_race l.fn.racer
