@@ -1,269 +1,171 @@
-//! A shared book: that callers' concurrent calls succeed, with answers and entries worked by hand.
-ghost use Rattle.std.specs.Prelude.{◌≡◌, ◌<◌, ◌≤◌, [], vec_len, All, IfOk};
-ghost use Rattle.std.proofs.Props.{props};
-ghost use Rattle.g1_layout.specs.Shape.{slot_count, card_count};
-ghost use Rattle.g1_shared.specs.Callers.{IsCallerOf};
-ghost use Rattle.g1_shared.specs.Counts.{shared_terms};
+//! What callers of a shared book or core are answered, with memory enough.
 
-use super::*;
-use crate::tests::calls::number_of;
-use g1_book::{Caller, Ledgers, Shared, Terms};
-use std::marker::Brand;
-use std::sync::Wait;
-use std::sync::ledger::Ledger;
-use steps::{Step, take};
+use super::player::Do::{Call, Flush, Full, FullRound, Guard, Pause, Refine, Work};
+use super::player::{Steps, played};
+use super::{book, logs_of};
+use g1_book::Book;
+use g1_core::{Config, Core, Fill, Kind, Settings};
+use std::test::Fail;
+use test_support::Step::{
+    self, Cleared, Drain, Members, Pending, Redirect, RefineNone, Status, Store, Target,
+};
+use test_support::numbers::small;
+use test_support::{Failure, OnCore, are_entries, equal, play};
 
-mod answers;
-mod asks;
-mod guard;
-mod pause;
-mod steps;
-mod threads;
-
-/// A caller, and the shared book that made it.
-#[derive(Drop)]
-struct SharedCaller<'a, M: Terms, S: Ledger> {
-    shared: &'a Shared<M, S>,
-    caller: Caller<M, S>,
-    ghost mine: { IsCallerOf shared.now caller } by { Prim.hlevel props },
+/// A caller reads what it has written.
+#[test]
+fn write_read_back(rt: HostRuntime) -> Result<(), Fail> {
+    let book = book(rt.alloc(), Settings::default(), 1, 10)?;
+    played(&rt, book, 1, WRITTEN)?;
+    Ok(())
 }
 
-impl<M: Terms, S: Ledger> SharedCaller<'_, M, S> {
-    fn slot<R: Wait + Abort>(&self, rt: &R, number: u32) -> Slot
-        ensures { result < slot_count M.terms.layout }
-    {
-        slot(rt, self.shared.lock(rt).book(), number)
-    }
+static WRITTEN: Steps<'static> = &[
+    (0, Call(Store(0, 8, Kind::Logged, Fill::No))),
+    (0, Call(Target(0, Some(8)))),
+];
 
-    fn card<R: Wait + Abort>(&self, rt: &R, number: u32) -> Card
-        ensures { result < card_count M.terms.layout }
-    {
-        card(rt, self.shared.lock(rt).book(), number)
-    }
-
-    fn region<R: Wait + Abort>(&self, rt: &R, number: u32) -> Region
-        ensures { result < M.terms.layout.regions }
-    {
-        region(rt, self.shared.lock(rt).book(), number)
-    }
-
-    /// Checks that the caller is a mutator.
-    fn assert_mutator<R: Wait + Abort>(&self, rt: &R)
-        ensures { self.now.caller.counts.number < M.terms.mutators }
-    {
-        assert!(rt; self.caller.number() < self.shared.lock(rt).book().mutators());
-    }
+/// A redirect moves the one reference into region 1 to the same offset of region 3.
+#[test]
+fn a_shared_redirect_moves_references(rt: HostRuntime) -> Result<(), Fail> {
+    let book = book(rt.alloc(), Settings::default(), 1, 10)?;
+    played(&rt, book, 1, MOVED)?;
+    Ok(())
 }
 
-/// The calls of a caller, with numbers for their arguments.
-impl<M: Terms, S: Ledger> SharedCaller<'_, M, S> {
-    fn store<R: Wait + Abort>(
-        &mut self,
-        rt: &R,
-        from: u32,
-        to: u32,
-    ) -> Result<StoreReply, Refusal> {
-        self.assert_mutator(rt);
-        let from = self.slot(rt, from);
-        let to = self.slot(rt, to);
-        self.shared.store(rt, &mut self.caller, from, Some(to))
-    }
+static MOVED: Steps<'static> = &[
+    (0, Call(Store(0, 8, Kind::Logged, Fill::No))),
+    (0, Call(Redirect(1, 3, 1, &[0]))),
+    (0, Call(Target(0, Some(24)))),
+];
 
-    fn flush<R: Wait + Abort>(&mut self, rt: &R) -> FlushReply {
-        self.assert_mutator(rt);
-        self.shared.flush(rt, &mut self.caller)
-    }
-
-    fn refine<R: Wait + Abort>(&mut self, rt: &R) -> Result<RefineReply, Refusal> {
-        self.shared.refine(rt, &mut self.caller)
-    }
-
-    fn work<R: Wait + Abort>(&mut self, rt: &R) -> Result<RefineReply, Refusal> {
-        self.shared.work(rt, &mut self.caller)
-    }
-
-    fn target<R: Wait + Abort>(&mut self, rt: &R, of: u32) -> Result<Option<u32>, Refusal> {
-        let of = self.slot(rt, of);
-        Ok(number_of(self.shared.target(rt, &mut self.caller, of)?))
-    }
-
-    fn is_pending<R: Wait + Abort>(&mut self, rt: &R, of: u32) -> Result<bool, Refusal> {
-        let of = self.card(rt, of);
-        self.shared.is_pending(rt, &mut self.caller, of)
-    }
-
-    fn members<R: Wait + Abort>(&mut self, rt: &R, of: u32) -> Result<CardList, Refusal> {
-        let of = self.region(rt, of);
-        self.shared.members(rt, &mut self.caller, of)
-    }
-
-    fn status<R: Wait + Abort>(&mut self, rt: &R) -> Result<Status, Refusal> {
-        self.shared.status(rt, &mut self.caller)
-    }
-
-    fn drain<R: Wait + Abort>(&mut self, rt: &R, of: u32) -> Result<Drained, Refusal> {
-        let of = self.region(rt, of);
-        self.shared.drain(rt, &mut self.caller, of)
-    }
-
-    fn clear<R: Wait + Abort>(&mut self, rt: &R, of: u32) -> Result<ClearReply, Refusal> {
-        let of = self.region(rt, of);
-        self.shared.clear(rt, &mut self.caller, of)
-    }
-
-    fn redirect<R: Wait + Abort>(
-        &mut self,
-        rt: &R,
-        from: u32,
-        to: u32,
-    ) -> Result<Redirected, Refusal> {
-        let from = self.region(rt, from);
-        let to = self.region(rt, to);
-        assert!(rt; from.number() != to.number());
-        self.shared.redirect(rt, &mut self.caller, from, to)
-    }
+/// A drain refines a card whose buffer stays in the line. The buffer of the next store of the card
+/// comes after it: so the first refines the card, and the second skips it.
+#[test]
+fn stale_is_skipped(rt: HostRuntime) -> Result<(), Fail> {
+    let book = book(rt.alloc(), logs_of(1), 1, 10)?;
+    played(&rt, book, 1, STALE)?;
+    Ok(())
 }
 
-/// What the callers of a shared book do, from when it is opened until it is finished.
-trait Play {
-    fn play<M: Terms, S: Ledger, R: Wait + Abort>(
-        &self,
-        rt: &R,
-        callers: &mut [SharedCaller<'_, M, S>],
-    ) -> Result<(), Refusal>;
+static STALE: Steps<'static> = &[
+    (0, Call(Store(0, 8, Kind::Logged, Fill::Full))),
+    (0, Call(Drain(1, &[0], &[0]))),
+    (0, Call(Store(0, 8, Kind::Logged, Fill::Full))),
+    (0, Refine((1, &[0], 0, 0, 1))),
+    (0, Refine((1, &[], 0, 1, 0))),
+    (0, Refine((0, &[], 0, 0, 0))),
+];
+
+/// With five buffers in the line a round begins, and ends where one is left. Each buffer that it
+/// takes is a call.
+#[test]
+fn shared_work(rt: HostRuntime) -> Result<(), Fail> {
+    let book = played(&rt, book(rt.alloc(), logs_of(1), 1, 10)?, 1, WORKED)?;
+    Ok(equal(&rt, "entries", book.entries().len(), 10)?)
 }
 
-/// Steps of callers, each with the number of its caller.
-type Steps<'a> = &'a [(usize, Step<'a>)];
+static WORKED: Steps<'static> = &[
+    (0, Call(Store(0, 24, Kind::Logged, Fill::Full))),
+    (0, Call(Store(4, 24, Kind::Logged, Fill::Full))),
+    (0, Call(Store(8, 24, Kind::Logged, Fill::Full))),
+    (0, Call(Store(12, 24, Kind::Logged, Fill::Full))),
+    (0, Call(Store(16, 24, Kind::Logged, Fill::Full))),
+    (0, Work((4, &[0, 1, 2, 3], 0, 0, 1))),
+    (0, Call(Status(1, 4))),
+];
 
-impl Play for Steps<'_> {
-    fn play<M: Terms, S: Ledger, R: Wait + Abort>(
-        &self,
-        rt: &R,
-        callers: &mut [SharedCaller<'_, M, S>],
-    ) -> Result<(), Refusal> {
-        for (number, step) in *self {
-            let caller = callers.get_mut(*number).expect(rt, "a caller");
-            take(rt, caller, *step)?;
-        }
-        Ok(())
-    }
+/// A shared book that is full refuses every call of every caller, and comes back with its entries.
+#[test]
+fn three_callers_fill_a_shared_book(rt: HostRuntime) -> Result<(), Fail> {
+    let book = played(&rt, book(rt.alloc(), Settings::default(), 2, 3)?, 3, FILLED)?;
+    Ok(are_entries(&rt, book.entries(), small()?, &FIRST)?)
 }
 
-/// The shared book, and its callers.
-fn opened<M: Terms, S: Ledger>(
-    ledgers: Ledgers,
-    book: Book,
-    callers: u32,
-) -> Result<(Shared<M, S>, Vec<Caller<M, S>>), Refusal>
-    requires ledgers { (ledgers.made ≡ M.name) × (ledgers.stored ≡ S.name) }
-    requires parts { (ledgers.parts ≡ callers) × (M.parts ≡ callers) × (S.parts ≡ callers) }
-    requires terms { shared_terms book ledgers.records ≡ M.terms }
-    requires empty { book.entries ≡ [] }
-    requires callers { (M.terms.mutators ≤ callers) × (callers ≤ 12) }
-    ensures len { IfOk result (λ opened. vec_len opened.1 ≡ callers) }
-    ensures mine { IfOk result (λ opened. All (IsCallerOf opened.0) opened.1.items) }
-{
-    match Shared::<M, S>::open(ledgers, book, callers) {
-        Ok(opened) => Ok(opened),
-        Err(_) => Err(Refusal::NoMemory),
-    }
+static FIRST: [(u32, Step<'static>); 3] = [
+    (0, Store(0, 8, Kind::Logged, Fill::No)),
+    (1, Store(4, 8, Kind::Logged, Fill::No)),
+    (2, RefineNone),
+];
+
+static FILLED: Steps<'static> = &[
+    (0, Call(Store(0, 8, Kind::Logged, Fill::No))),
+    (1, Call(Store(4, 8, Kind::Logged, Fill::No))),
+    (2, Call(RefineNone)),
+    (0, Full(Store(12, 0, Kind::Logged, Fill::No))),
+    (1, Full(Store(12, 0, Kind::Logged, Fill::No))),
+    (2, Full(RefineNone)),
+    (0, Full(Target(0, None))),
+    (1, Full(Pending(0, false))),
+    (2, Full(Members(1, &[]))),
+    (0, Full(Status(0, 0))),
+    (1, Full(Drain(1, &[], &[]))),
+    (2, Full(Cleared(1))),
+    (0, Full(Redirect(1, 3, 0, &[]))),
+    (0, Full(RefineNone)),
+    (1, Full(RefineNone)),
+];
+
+/// Where the first call of a round is refused, that is the answer. Each refused call gives up the
+/// buffer that it took, as the rounds between them see, which are too small to make a call. The
+/// cards of the buffers stay pending.
+#[test]
+fn refused_calls_give_up_their_buffers(rt: HostRuntime) -> Result<(), Fail> {
+    let book = played(&rt, book(rt.alloc(), logs_of(1), 1, 5)?, 1, GIVEN_UP)?;
+    Ok(equal(&rt, "pending cards", book.core().status().pending, 5)?)
 }
 
-/// Checks how many calls the caller has made under the lock, and how many of them are stores.
-fn assert_made<M: Terms, S: Ledger>(
-    rt: &impl Abort,
-    caller: &Caller<M, S>,
-    calls: u64,
-    stores: u64,
-) {
-    assert_equal(rt, (caller.made(), caller.stored()), (calls, stores));
+/// Without a history it is the same, and the next drain gives the cards.
+#[test]
+fn a_shared_core_stops_at_its_limit(rt: HostRuntime) -> Result<(), Fail> {
+    let config = Config::of(logs_of(1)).ok_or(Failure::Wrong)?;
+    let core = Core::new(rt.alloc(), small()?, config)?;
+    let book = played(&rt, Book::over(rt.alloc(), core, 1, 5), 1, GIVEN_UP)?;
+    let cards = [0, 1, 2, 3, 4];
+    let mut core = OnCore::over(book.into_core());
+    Ok(play(&rt, &mut core, &[Drain(3, &cards, &cards)])?)
 }
 
-/// The caller with the book that made it.
-fn shared_caller<'a, M: Terms, S: Ledger>(
-    shared: &'a Shared<M, S>,
-    caller: Caller<M, S>,
-) -> SharedCaller<'a, M, S>
-    requires { IsCallerOf shared.now caller }
-{
-    SharedCaller { shared, caller }
+static GIVEN_UP: Steps<'static> = &[
+    (0, Call(Store(0, 24, Kind::Logged, Fill::Full))),
+    (0, Call(Store(4, 24, Kind::Logged, Fill::Full))),
+    (0, Call(Store(8, 24, Kind::Logged, Fill::Full))),
+    (0, Call(Store(12, 24, Kind::Logged, Fill::Full))),
+    (0, Call(Store(16, 24, Kind::Logged, Fill::Full))),
+    (0, FullRound),
+    (0, Work((0, &[], 0, 0, 4))),
+    (0, Full(RefineNone)),
+    (0, Work((0, &[], 0, 0, 3))),
+];
+
+/// Stores leave a card in each log and two buffers in the line. After a pause no card is there, and
+/// all six are pending.
+#[test]
+fn a_pause_empties_the_logs_of_two_callers_and_the_line(rt: HostRuntime) -> Result<(), Fail> {
+    let book = book(rt.alloc(), logs_of(2), 2, 20)?;
+    played(&rt, book, 2, PAUSED)?;
+    Ok(())
 }
 
-/// The callers with the book that made them, in order.
-fn shared_callers<'a, M: Terms, S: Ledger>(
-    alloc: Global,
-    shared: &'a Shared<M, S>,
-    callers: Vec<Caller<M, S>>,
-) -> Result<Vec<SharedCaller<'a, M, S>>, NoMemory>
-    requires { All (IsCallerOf shared.now) callers.items }
-{
-    let mut all = Vec::with_capacity(alloc, callers.len())?;
-    for caller in callers {
-        all.push(shared_caller(shared, caller))?;
-    }
-    Ok(all)
+static PAUSED: Steps<'static> = &[
+    (0, Call(Store(0, 24, Kind::Logged, Fill::No))),
+    (0, Call(Store(4, 24, Kind::Logged, Fill::Full))),
+    (0, Call(Store(8, 24, Kind::Logged, Fill::No))),
+    (1, Call(Store(12, 24, Kind::Logged, Fill::No))),
+    (1, Call(Store(16, 24, Kind::Logged, Fill::Full))),
+    (1, Call(Store(20, 24, Kind::Logged, Fill::No))),
+    (0, Pause),
+    (0, Work((0, &[], 0, 0, 0))),
+    (0, Flush(0, Fill::No)),
+    (1, Flush(0, Fill::No)),
+    (1, Call(Status(6, 0))),
+];
+
+/// Who holds the lock makes the calls of the book.
+#[test]
+fn the_guard_makes_the_calls_of_the_book(rt: HostRuntime) -> Result<(), Fail> {
+    let book = played(&rt, book(rt.alloc(), logs_of(1), 1, 10)?, 1, HELD)?;
+    Ok(equal(&rt, "entries", book.entries().len(), 4)?)
 }
 
-/// The callers alone.
-fn bare_callers<M: Terms, S: Ledger>(
-    alloc: Global,
-    callers: Vec<SharedCaller<'_, M, S>>,
-) -> Result<Vec<Caller<M, S>>, NoMemory> {
-    let mut all = Vec::with_capacity(alloc, callers.len())?;
-    for SharedCaller { shared: _, caller } in callers {
-        all.push(caller)?;
-    }
-    Ok(all)
-}
-
-/// Opens the shared book, lets its callers play, and finishes it.
-fn share<M: Terms, S: Ledger, P: Play, R: Wait + Abort>(
-    rt: &R,
-    alloc: Global,
-    ledgers: Ledgers,
-    book: Book,
-    callers: u32,
-    play: &P,
-) -> Result<Book, Refusal>
-    requires ledgers { (ledgers.made ≡ M.name) × (ledgers.stored ≡ S.name) }
-    requires parts { (ledgers.parts ≡ callers) × (M.parts ≡ callers) × (S.parts ≡ callers) }
-    requires terms { shared_terms book ledgers.records ≡ M.terms }
-    requires empty { book.entries ≡ [] }
-    requires callers { (1 ≤ callers) × (M.terms.mutators ≤ callers) × (callers ≤ 12) }
-{
-    let (shared, all) = opened::<M, S>(ledgers, book, callers)?;
-    let all = played_by(rt, alloc, &shared, all, play)?;
-    assert!(rt; all.len() == callers as usize);
-    Ok(shared.finish(all))
-}
-
-/// The callers, once they have played.
-fn played_by<M: Terms, S: Ledger, P: Play, R: Wait + Abort>(
-    rt: &R,
-    alloc: Global,
-    shared: &Shared<M, S>,
-    callers: Vec<Caller<M, S>>,
-    play: &P,
-) -> Result<Vec<Caller<M, S>>, Refusal>
-    requires { All (IsCallerOf shared.now) callers.items }
-{
-    let mut playing = shared_callers(alloc, shared, callers)?;
-    play.play(rt, playing.as_mut_slice())?;
-    Ok(bare_callers(alloc, playing)?)
-}
-
-/// Shares the book among `callers` callers, lets them play, and gives it back.
-fn played<P: Play, R: Wait + Abort>(
-    rt: &R,
-    alloc: Global,
-    book: Book,
-    callers: u32,
-    play: &P,
-) -> Result<Book, Refusal>
-    requires { book.entries ≡ [] }
-{
-    assert!(rt; 1 <= callers && book.mutators() <= callers && callers <= 12);
-    let ledgers = Ledgers::open(alloc, callers)?;
-    share::<Brand, Brand, P, R>(rt, alloc, ledgers, book, callers, play)
-}
+static HELD: Steps<'static> = &[(0, Guard)];
