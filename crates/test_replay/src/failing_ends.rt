@@ -1,35 +1,30 @@
 //! Inputs and outputs that fail or end early, and what is written then.
-use crate::checks::assert_equal;
-use crate::played::run_alone;
-use crate::streams::{Narrow, failing_after};
-use g1_replay::{End, Options};
+use crate::played::{assert_equal, prints, replay, without_rounds};
+use crate::streams::{failing_after, taking};
+use g1_replay::{End, Mode, Options};
 use g1_trace::put;
-use std::alloc::AllocError;
 use std::io::{self, BufReader};
 use std::process::Abort;
 use std::sync::Wait;
 use std::test::Fail;
+use std::thread::Threads;
 
-pub(crate) const TRACE: &[u8] = b"heap 4 2 4\nstore 0 0 8\ndrain 1\n";
+const TRACE: &[u8] = b"heap 4 2 4\nstore 0 0 8\ndrain 1\n";
 
 /// One byte a read and one byte a write change nothing.
 #[test]
 fn byte_by_byte(rt: HostRuntime) -> Result<(), Fail> {
     let mut input = BufReader::new(rt.alloc(), failing_after(TRACE, 100))?;
-    let mut output = Narrow {
-        bytes: Vec::new(rt.alloc()),
-        room: 100,
-        fails: true,
-        refused: 0,
-    };
-    let end = run_alone(&rt, &mut input, &mut output, &Options::default());
+    let mut output = taking(rt.alloc(), 100, true);
+    let end = replay(&rt, Mode::Run, &mut input, &mut output, &Options::default());
     assert_equal(&rt, end, End::Whole);
     assert!(rt; output.bytes.as_slice() == b"logged\ndrained 0\n".as_slice());
     Ok(())
 }
 
 /// The trace up to each of its bytes, behind which a read fails: what its whole lines print comes
-/// before.
+/// before. A crew and a race run nothing then: 23 bytes are the whole first two lines, and 25 end
+/// in the middle of the third.
 #[test]
 fn reads_that_fail(rt: HostRuntime) -> Result<(), Fail> {
     for room in 0..=TRACE.len() {
@@ -38,19 +33,28 @@ fn reads_that_fail(rt: HostRuntime) -> Result<(), Fail> {
             23..=30 => b"logged\nread failed\n",
             _ => b"logged\ndrained 0\nread failed\n",
         };
-        prints_before_the_failure(&rt, room, wanted)?;
+        prints_before_the_failure(&rt, Mode::Run, room, wanted)?;
+    }
+    for (mode, room) in [
+        (Mode::Crew, 23),
+        (Mode::Crew, 25),
+        (Mode::Race, 23),
+        (Mode::Race, 25),
+    ] {
+        prints_before_the_failure(&rt, mode, room, b"read failed\n")?;
     }
     Ok(())
 }
 
-fn prints_before_the_failure<R: Abort + Wait + AllocGlobal>(
+fn prints_before_the_failure<R: Abort + Threads + Wait + Sync + AllocGlobal>(
     rt: &R,
+    mode: Mode,
     room: usize,
     wanted: &[u8],
 ) -> io::Result<()> {
     let mut input = BufReader::new(rt.alloc(), failing_after(TRACE, room))?;
     let mut output: Vec<u8> = Vec::new(rt.alloc());
-    let end = run_alone(rt, &mut input, &mut output, &Options::default());
+    let end = replay(rt, mode, &mut input, &mut output, &without_rounds(1000));
     assert_equal(rt, end, End::ReadFailed);
     assert_equal(rt, (room, output.as_slice()), (room, wanted));
     // It would have gone on, and was not asked again.
@@ -60,63 +64,53 @@ fn prints_before_the_failure<R: Abort + Wait + AllocGlobal>(
     Ok(())
 }
 
-/// After each byte of the output: a write that fails, or takes no byte, is the last one.
-fn stops_at_each_byte<R: Abort + Wait + AllocGlobal>(rt: &R, trace: &[u8], whole: &[u8]) {
-    for room in 0..whole.len() {
-        stops_at(rt, trace, whole, (room, true));
-        stops_at(rt, trace, whole, (room, false));
+/// After each byte of the output a write that fails, or takes no byte, is the last one: in the
+/// lines of calls, in a list, in the line of a fault, and in the lines of a crew and of a race.
+#[test]
+fn writes_that_fail(rt: HostRuntime) {
+    let cards = b"heap 64 64 64\nstore 0 64 4096\nstore 0 1280 4096\nstore 0 2560 4096\ndrain 1\n";
+    let rows: [(Mode, &[u8], &[u8]); 5] = [
+        (Mode::Run, TRACE, b"logged\ndrained 0\n"),
+        (
+            Mode::Run,
+            cards,
+            b"logged\nlogged\nlogged\ndrained 1 20 40\n",
+        ),
+        (Mode::Run, b"heap 4 2 4\nx\n", b"line 2: no such command\n"),
+        (Mode::Crew, b"heap 1 1 1\n", b"stores 0\ndrained\n"),
+        (Mode::Race, b"heap 1 1 1\n", b"stores 0\ndrained\n"),
+    ];
+    for (mode, trace, whole) in rows {
+        for room in 0..whole.len() {
+            stops_at(&rt, mode, trace, whole, (room, true));
+            stops_at(&rt, mode, trace, whole, (room, false));
+        }
     }
 }
 
-fn stops_at<R: Abort + Wait + AllocGlobal>(
+fn stops_at<R: Abort + Threads + Wait + Sync + AllocGlobal>(
     rt: &R,
+    mode: Mode,
     trace: &[u8],
     whole: &[u8],
     (room, fails): (usize, bool),
 ) {
     let mut input = trace;
-    let mut output = Narrow {
-        bytes: Vec::new(rt.alloc()),
-        room,
-        fails,
-        refused: 0,
-    };
-    let end = run_alone(rt, &mut input, &mut output, &Options::default());
+    let mut output = taking(rt.alloc(), room, fails);
+    let end = replay(rt, mode, &mut input, &mut output, &without_rounds(1000));
     assert_equal(rt, end, End::WriteFailed);
     assert!(rt; whole.starts_with(output.bytes.as_slice()));
     assert_equal(rt, (output.bytes.len(), output.refused), (room, 1));
 }
 
-/// In the lines of calls, in a list, and in the line of a fault.
-#[test]
-fn writes_that_fail(rt: HostRuntime) {
-    stops_at_each_byte(&rt, TRACE, b"logged\ndrained 0\n");
-    let cards = b"heap 64 64 64\nstore 0 64 4096\nstore 0 1280 4096\nstore 0 2560 4096\ndrain 1\n";
-    stops_at_each_byte(&rt, cards, b"logged\nlogged\nlogged\ndrained 1 20 40\n");
-    stops_at_each_byte(&rt, b"heap 4 2 4\nx\n", b"line 2: no such command\n");
-}
-
 /// The error of such a write says so.
 #[test]
 fn words_of_a_failed_write(rt: HostRuntime) -> Result<(), Fail> {
-    for fails in [true, false] {
-        says_that_it_failed(&rt, fails)?;
-    }
-    Ok(())
-}
-
-fn says_that_it_failed(rt: &(impl Abort + AllocGlobal), fails: bool) -> Result<(), AllocError> {
-    let mut output = Narrow {
-        bytes: Vec::new(rt.alloc()),
-        room: 1,
-        fails,
-        refused: 0,
-    };
-    let Err(failed) = put(&mut output, b"yes\n") else {
-        panic!(rt; "it was written")
+    let Err(failed) = put(&mut taking(rt.alloc(), 1, true), b"yes\n") else {
+        return Err(Fail::from("it was written"));
     };
     let shown = format!(in rt.alloc(); "{failed}")?;
-    assert_equal(rt, shown.as_str(), "write failed");
+    assert_equal(&rt, shown.as_str(), "write failed");
     Ok(())
 }
 
@@ -137,15 +131,7 @@ fn cut(length: usize) -> (&'static [u8], End) {
 #[test]
 fn every_beginning(rt: HostRuntime) {
     for length in 0..=TRACE.len() {
-        prints_when_cut(&rt, length, cut(length));
+        let mut input = TRACE.get(..length).unwrap_or(TRACE);
+        prints(&rt, &mut input, &Options::default(), cut(length));
     }
-}
-
-fn prints_when_cut<R: Abort + Wait + AllocGlobal>(rt: &R, length: usize, wanted: (&[u8], End)) {
-    assert!(rt; length <= TRACE.len());
-    let mut input = &TRACE[..length];
-    let mut printed: Vec<u8> = Vec::new(rt.alloc());
-    let end = run_alone(rt, &mut input, &mut printed, &Options::default());
-    let found = (printed.as_slice(), end);
-    assert_equal(rt, (length, found), (length, wanted));
 }

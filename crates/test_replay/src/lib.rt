@@ -7,15 +7,7 @@
 #![tactic(auto)]
 
 #[cfg(test)]
-mod answers;
-#[cfg(test)]
-mod checks;
-#[cfg(test)]
-mod crews_and_races;
-#[cfg(test)]
 mod failing_ends;
-#[cfg(test)]
-mod faults;
 #[cfg(test)]
 mod options;
 #[cfg(test)]

@@ -1,13 +1,19 @@
-//! Replays of a trace, and the options that they are made with.
+//! Replays of a trace, and how their ends are compared.
 ghost use Rattle.std.specs.Prelude.{◌≤◌};
 
-use crate::checks::assert_equal;
 use g1_core::Config;
 use g1_replay::{End, Mode, Options, crew, race, run};
+use std::fmt::Debug;
 use std::io::{BufRead, Write};
 use std::process::Abort;
 use std::sync::Wait;
 use std::thread::Threads;
+
+/// `assert_eq!` as a function: what it does where the values differ is proved here once, and not in
+/// each test.
+pub(crate) fn assert_equal<T: PartialEq + Debug + Drop>(rt: &impl Abort, got: T, want: T) {
+    assert_eq!(rt; got, want);
+}
 
 /// The subcommand's replay.
 pub(crate) fn replay<T: Threads + Wait + Sync + AllocGlobal, R: BufRead, W: Write>(
@@ -18,53 +24,25 @@ pub(crate) fn replay<T: Threads + Wait + Sync + AllocGlobal, R: BufRead, W: Writ
     options: &Options,
 ) -> End {
     match mode {
-        Mode::Run => run_alone(rt, input, output, options),
+        Mode::Run => run(rt, rt.alloc(), input, output, options),
         Mode::Crew => crew(rt, rt.alloc(), input, output, options),
         Mode::Race => race(rt, rt.alloc(), input, output, options),
     }
 }
 
-/// The replay by one thread.
-pub(crate) fn run_alone<T: Wait + AllocGlobal, R: BufRead, W: Write>(
+/// Checks what `run` prints of this input, and how it ends.
+pub(crate) fn prints<T: Abort + Wait + AllocGlobal, R: BufRead>(
     rt: &T,
     input: &mut R,
-    output: &mut W,
     options: &Options,
-) -> End {
-    run(rt, rt.alloc(), input, output, options)
-}
-
-/// Checks that the trace prints just this, and ends so.
-pub(crate) fn is_played<R: Abort + Threads + Wait + Sync + AllocGlobal>(
-    rt: &R,
-    mode: Mode,
-    trace: &str,
-    options: &Options,
-    (printed, wanted): (&str, End),
+    (printed, end): (&[u8], End),
 ) {
-    let mut input = trace.as_bytes();
     let mut output: Vec<u8> = Vec::new(rt.alloc());
-    let end = replay(rt, mode, &mut input, &mut output, options);
-    let text = str::from_utf8(output.as_slice()).expect(rt, "a text");
-    assert_equal(rt, (trace, text, end), (trace, printed, wanted));
+    let found = run(rt, rt.alloc(), input, &mut output, options);
+    assert_equal(rt, (output.as_slice(), found), (printed, end));
 }
 
-/// The settings of these numbers.
-pub(crate) fn config(
-    rt: &impl Abort,
-    log: usize,
-    limit: usize,
-    hot: u32,
-    ring: usize,
-    start: usize,
-) -> Config {
-    match Config::new(log, limit, hot, ring, start) {
-        Some(config) => config,
-        None => panic!(rt; "a setting is outside its limits"),
-    }
-}
-
-/// One mutator, whose log no card fills, and a refiner that makes no round.
+/// A mutator, a history of this many entries, and a refiner that makes no round.
 pub(crate) fn without_rounds(history: u32) -> Options
     requires { (1 ≤ history) × (history ≤ 1000000) }
 {
@@ -75,11 +53,4 @@ pub(crate) fn without_rounds(history: u32) -> Options
         refiners: 1,
         rounds: 0,
     }
-}
-
-/// Two mutators, and the rest as it is by default.
-pub(crate) fn two_mutators() -> Options {
-    let mut options = Options::default();
-    options.mutators = 2;
-    options
 }

@@ -1,6 +1,7 @@
 //! Readers and writers of the tests' own: that give or take one byte at a time, fail, or end early.
 ghost use Rattle.std.specs.Prelude.{Some};
 
+use std::alloc::Global;
 use std::io;
 use std::io::{ErrorKind, Read, Write};
 
@@ -48,6 +49,16 @@ pub(crate) struct Narrow {
     pub room: usize,
     pub fails: bool,
     pub refused: usize,
+}
+
+/// It has taken nothing yet, and takes `room` bytes.
+pub(crate) fn taking(alloc: Global, room: usize, fails: bool) -> Narrow {
+    Narrow {
+        bytes: Vec::new(alloc),
+        room,
+        fails,
+        refused: 0,
+    }
 }
 
 impl Write for Narrow {
