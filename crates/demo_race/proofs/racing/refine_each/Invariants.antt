@@ -1,6 +1,0 @@
-use Rattle.std.proofs.Common.{◌≡◌}
-use Rattle.g1_race.specs.Members.{sweeper_race}
-use Rattle.demo_race.proofs.racing.refine_each.Given as goal
-
-abbrev pub invariant-loop-buffer : goal.invariant-loop-buffer
-invariant-loop-buffer g l = sweeper_race l.sweeper ≡ sweeper_race l.fn.sweeper

@@ -1,6 +1,0 @@
-use Rattle.std.proofs.Common.{◌≡◌}
-use Rattle.g1_race.specs.Members.{racer_race}
-use Rattle.demo_race.proofs.racing.store_each.Given as goal
-
-abbrev pub invariant-loop-turn : goal.invariant-loop-turn
-invariant-loop-turn g l = racer_race l.racer ≡ racer_race l.fn.racer
