@@ -18,8 +18,8 @@ enum {
     REGION_SLOTS = CARDS * SLOTS,
     ALL_CARDS = REGIONS * CARDS,
     ALL_SLOTS = ALL_CARDS * SLOTS,
-    MUTATORS = 4,
-    SWEEPERS = 2,
+    MUTATORS = 8,
+    SWEEPERS = 4,
     LOGS = 16,     // room in the queue
     START = 4,     // logs in the queue when refinement begins
     STOP = 1,      // and when it ends

@@ -1,5 +1,6 @@
 //! What a caller can still get wrong at a core is refused, and changes nothing.
 use ninkoda::{Card, Cleared, Core, Counts, Drained, Kind, Refusal, Region, Slot, LOG};
+use std::sync::Mutex;
 use std::thread;
 
 const COUNTS: Counts = Counts {
@@ -54,6 +55,31 @@ fn knows_where_its_numbers_lie() {
     let slots = last.cards().flat_map(Card::slots).map(Slot::number);
     assert!(slots.eq(24..32));
     assert_eq!(last.cards().len() + card(&core, 0).slots().len(), 2 + 4);
+}
+
+/// Four threads store by one core under a lock, each from its own region into the next one.
+#[test]
+fn serves_several_threads_in_a_mutex() {
+    let shared = Mutex::new(core());
+    thread::scope(|scope| {
+        for number in 0..4 {
+            let shared = &shared;
+            scope.spawn(move || {
+                let mut core = shared.lock().expect("no thread panics");
+                let (from, to) = (8 * number, 8 * ((number + 1) % 4));
+                let (from, to) = (slot(&core, from), slot(&core, to));
+                let logged = Ok(Kind::Logged(from.card()));
+                assert_eq!(core.store(from, Some(to)), logged);
+                assert!(core.refine(&[from.card()]).is_ok());
+            });
+        }
+    });
+    let mut core = shared.into_inner().expect("no thread panics");
+    for number in 0..4 {
+        let region = core.region((number + 1) % 4).expect("a region");
+        let card = card(&core, 2 * number);
+        assert_eq!(core.members(region), Ok(vec![card]));
+    }
 }
 
 #[test]

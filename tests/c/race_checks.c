@@ -984,6 +984,8 @@ static void first_codes(void) {
     answers(code, bit(G1_BAD_HANDLES, 1), "a handle too many, which is closed");
     answers(g1_heap_pause(&heap, racers, 1, &sweeper, 1), 0, "pause");
     answers(g1_heap_close(&heap), 0, "close");
+    answers(g1_heap_open(&heap, &small, G1_RACERS, G1_SWEEPERS), 0, "as many as there may be");
+    answers(g1_heap_close(&heap), 0, "close");
 }
 
 // A copy of no slots is done if both ranges begin at most just behind the last slot.
