@@ -1,6 +1,6 @@
 use Rattle.std.proofs.Common.{◌≡◌}
 use Rattle.g1_race.specs.Members.{sweeper_race}
-use Rattle.gate_bench.proofs.calls.refine_by.Given as goal
+use Rattle.gate_bench.proofs.race_calls.refine.Given as goal
 
 abbrev pub invariant-loop-number : goal.invariant-loop-number
 invariant-loop-number l = sweeper_race l.sweeper ≡ sweeper_race l.fn.sweeper
