@@ -12,10 +12,9 @@ err_of d (Ok a) = d
 err_of d (Err e) = e
 
 module _ {V A : Type 0} (Q : V → Result A Reason → V → Type 0) where
-  -- a call on what is lent from an open handle, and put back
-  pub visited : {old new : Option V} {p q lent : V} {r : Result A Reason} → old ≡ Some p → lent ≡ p → new ≡ Some q → Q lent r q → IsVisit Q old r new
-  visited {old} {new} {p} {q} {lent} {r} is of later met =
-      subst (λ v. IsVisit Q v r new) (sym (is ∙ ap (λ x. Some x) (sym of))) (subst (λ v. IsVisit Q (Some lent) r v) (sym later) met)
+  -- a call on what an open handle lends
+  pub visited : {old new : Option V} {p q : V} {r : Result A Reason} → old ≡ Some p → new ≡ Some q → Q p r q → IsVisit Q old r new
+  visited {old} {new} {p} {q} {r} is later met = subst (λ v. IsVisit Q v r new) (sym is) (subst (λ v. IsVisit Q (Some p) r v) (sym later) met)
 
   -- what is so at a closed handle, and follows from each call, is so
   visit_by : (P : Option V → Option V → Type 0) (old new : Option V) (r : Result A Reason)

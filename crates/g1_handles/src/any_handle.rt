@@ -7,7 +7,6 @@ ghost use Rattle.g1_handles.specs.Codes.{IsVisit};
 
 use crate::code::Reason;
 use crate::nullable_box::NullableBox;
-use core::mem::replace;
 use std::alloc::Global;
 
 /// A handle that C keeps: a value behind a pointer, or nothing if the pointer is null.
@@ -16,13 +15,17 @@ use std::alloc::Global;
 /// type with parameters, so each kind of handle is a struct of its own.
 pub trait AnyHandle: Drop + Sized {
     ghost use Rattle.std.specs.Prelude.{◌≡◌};
-    ghost use Rattle.g1_handles.specs.Prelude.{Option};
+    ghost use Rattle.std.specs.Borrow.{sem, LendsIf};
+    ghost use Rattle.g1_handles.specs.Prelude.{Option, Some, None, MatchOption};
 
     /// What an open handle holds.
     type Value: Drop;
 
     /// What it holds, or `None` if it is closed.
     ghost value: { Self → Option Self.Value };
+
+    /// The same handle, which holds this value.
+    ghost holding: { Self → Self.Value → Self };
 
     /// The handle of these words.
     fn from_nullable(boxed: NullableBox<Self::Value>) -> Self
@@ -31,25 +34,32 @@ pub trait AnyHandle: Drop + Sized {
     /// The words of a handle.
     fn into_nullable(self) -> NullableBox<Self::Value>
         ensures { result.value ≡ value self };
+
+    /// Lends what it holds in place, or returns `None` if it is closed.
+    fn value_mut(&mut self) -> Option<&mut Self::Value>
+        ensures* lends { sem 𝓛 (LendsIf Self.row Self.Value.row self.entry result
+            (holding self.entry.now) self.entry.now) }
+        ensures lent { MatchOption result (value self.old ≡ None)
+            (λ inside. value self.old ≡ Some inside.now) };
+
+    ghost holds: { (h : Self) (x : Self.Value) → value (holding h x) ≡ Some x };
 }
 
-/// Makes a call on what a handle holds, and gives the handle back. `words` has the call. Returns
-/// `NotOpen` if the handle is closed: nothing has changed.
+/// Makes a call on what a handle holds. Returns `NotOpen` if the handle is closed: nothing has
+/// changed.
 #[inline(always)]
 pub fn visit<H: AnyHandle, A, F: FnOnce(&mut H::Value) -> Result<A, Reason>>(
-    handle: H,
-    words: (Global, F),
-) -> (H, Result<A, Reason>)
-    requires { F.IsAlwaysCallable words.1 }
-    ensures { IsVisit (FnOnceReturnsAtMut F.FnOnce words.1)
-        (H.value handle) result.1 (H.value result.0) }
+    handle: &mut H,
+    call: F,
+) -> Result<A, Reason>
+    requires { F.IsAlwaysCallable call }
+    ensures { IsVisit (FnOnceReturnsAtMut F.FnOnce call)
+        (H.value handle.old) result (H.value handle.new) }
 {
-    let (alloc, call) = words;
-    let Some(mut inside) = handle.into_nullable().into_box() else {
-        return (closed(alloc), Err(Reason::NotOpen));
+    let Some(value) = handle.value_mut() else {
+        return Err(Reason::NotOpen);
     };
-    let answer = call(&mut inside);
-    (H::from_nullable(NullableBox::of(inside)), answer)
+    call(value)
 }
 
 /// Returns an open handle, which takes over a value.
@@ -75,13 +85,13 @@ pub(crate) fn into_box<H: AnyHandle>(handle: H) -> Option<Box<H::Value>>
 }
 
 /// Whether all handles are closed.
-pub(crate) fn are_closed<H: AnyHandle>(alloc: Global, handles: &mut [H]) -> bool
+pub(crate) fn are_closed<H: AnyHandle>(handles: &mut [H]) -> bool
     ensures same { map H.value handles.new ≡ map H.value handles.old }
     ensures closed { IsTrue result → AreClosed (map H.value handles.old) }
     ensures open { AreClosed (map H.value handles.old) → IsTrue result }
 {
     for i in 0..handles.len() {
-        if !is_closed(alloc, &mut handles[i]) {
+        if !is_closed(&mut handles[i]) {
             return false;
         }
     }
@@ -89,14 +99,13 @@ pub(crate) fn are_closed<H: AnyHandle>(alloc: Global, handles: &mut [H]) -> bool
 }
 
 /// Whether a handle is closed.
-pub(crate) fn is_closed<H: AnyHandle>(alloc: Global, handle: &mut H) -> bool
+pub(crate) fn is_closed<H: AnyHandle>(handle: &mut H) -> bool
     ensures same { H.value handle.new ≡ H.value handle.old }
     ensures closed { IsTrue result → H.value handle.old ≡ None }
     ensures open { H.value handle.old ≡ None → IsTrue result }
 {
-    let Some(boxed) = into_box(replace(handle, closed(alloc))) else {
+    let Some(_) = handle.value_mut() else {
         return true;
     };
-    *handle = opened(boxed);
     false
 }

@@ -5,7 +5,7 @@
 //! `g1_close` frees a core, and `g1_heap_close` a heap with its members, each of which a pause or
 //! the end of a reading has taken in.
 ghost use Rattle.std.specs.Prelude.{◌≡◌};
-ghost use Rattle.g1_handles.specs.Prelude.{Option, coded_option, Machine, machine_code};
+ghost use Rattle.g1_handles.specs.Prelude.{Option, Some, refl, coded_option, Machine, machine_code};
 ghost use Rattle.g1_handles.specs.declared.heap.racing_heap.RacingHeap.{RacingHeap};
 ghost use Rattle.g1_handles.specs.Own.{holds, core_row, heap_row, racer_row, sweeper_row};
 ghost use Rattle.g1_handles.specs.Own.{reader_row, RacerMember, SweeperMember, ReaderMember};
@@ -37,6 +37,10 @@ impl AnyHandle for Handle {
 
     ghost value = { λ h. h.value };
 
+    ghost holding = { λ h x. record h { value = Some x } };
+
+    ghost holds = { λ h x. refl };
+
     fn from_nullable(boxed: NullableBox<Core>) -> Handle
         ensures { result.value ≡ boxed.value }
     {
@@ -54,6 +58,15 @@ impl AnyHandle for Handle {
         NullableBox {
             at: at as *mut Core,
             alloc,
+        }
+    }
+
+    fn value_mut(&mut self) -> Option<&mut Core> {
+        let at = self.at as *mut Core;
+        if at.is_null() {
+            None
+        } else {
+            Some(unsafe { &mut *at })
         }
     }
 }
@@ -78,6 +91,10 @@ impl AnyHandle for HeapHandle {
 
     ghost value = { λ h. h.value };
 
+    ghost holding = { λ h x. record h { value = Some x } };
+
+    ghost holds = { λ h x. refl };
+
     fn from_nullable(boxed: NullableBox<RacingHeap>) -> HeapHandle
         ensures { result.value ≡ boxed.value }
     {
@@ -95,6 +112,15 @@ impl AnyHandle for HeapHandle {
         NullableBox {
             at: at as *mut RacingHeap,
             alloc,
+        }
+    }
+
+    fn value_mut(&mut self) -> Option<&mut RacingHeap> {
+        let at = self.at as *mut RacingHeap;
+        if at.is_null() {
+            None
+        } else {
+            Some(unsafe { &mut *at })
         }
     }
 }
@@ -119,6 +145,10 @@ impl AnyHandle for RacerHandle {
 
     ghost value = { λ h. h.value };
 
+    ghost holding = { λ h x. record h { value = Some x } };
+
+    ghost holds = { λ h x. refl };
+
     fn from_nullable(boxed: NullableBox<Member<Racer>>) -> RacerHandle
         ensures { result.value ≡ boxed.value }
     {
@@ -136,6 +166,15 @@ impl AnyHandle for RacerHandle {
         NullableBox {
             at: at as *mut Member<Racer>,
             alloc,
+        }
+    }
+
+    fn value_mut(&mut self) -> Option<&mut Member<Racer>> {
+        let at = self.at as *mut Member<Racer>;
+        if at.is_null() {
+            None
+        } else {
+            Some(unsafe { &mut *at })
         }
     }
 }
@@ -160,6 +199,10 @@ impl AnyHandle for SweeperHandle {
 
     ghost value = { λ h. h.value };
 
+    ghost holding = { λ h x. record h { value = Some x } };
+
+    ghost holds = { λ h x. refl };
+
     fn from_nullable(boxed: NullableBox<Member<Sweeper>>) -> SweeperHandle
         ensures { result.value ≡ boxed.value }
     {
@@ -177,6 +220,15 @@ impl AnyHandle for SweeperHandle {
         NullableBox {
             at: at as *mut Member<Sweeper>,
             alloc,
+        }
+    }
+
+    fn value_mut(&mut self) -> Option<&mut Member<Sweeper>> {
+        let at = self.at as *mut Member<Sweeper>;
+        if at.is_null() {
+            None
+        } else {
+            Some(unsafe { &mut *at })
         }
     }
 }
@@ -201,6 +253,10 @@ impl AnyHandle for ReaderHandle {
 
     ghost value = { λ h. h.value };
 
+    ghost holding = { λ h x. record h { value = Some x } };
+
+    ghost holds = { λ h x. refl };
+
     fn from_nullable(boxed: NullableBox<Member<Reader>>) -> ReaderHandle
         ensures { result.value ≡ boxed.value }
     {
@@ -218,6 +274,15 @@ impl AnyHandle for ReaderHandle {
         NullableBox {
             at: at as *mut Member<Reader>,
             alloc,
+        }
+    }
+
+    fn value_mut(&mut self) -> Option<&mut Member<Reader>> {
+        let at = self.at as *mut Member<Reader>;
+        if at.is_null() {
+            None
+        } else {
+            Some(unsafe { &mut *at })
         }
     }
 }

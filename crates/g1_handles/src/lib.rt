@@ -14,9 +14,9 @@
 //! [`list`] writes lists of cards.
 //!
 //! A function `.._in` is a call on a core, `.._at` one on a heap at a pause, and `.._by` one of a
-//! racer, a sweeper or a reader; [`any_handle::visit`] makes it on what a handle holds, and gives
-//! the handle back. A call over several handles is one function. The crate `g1_c` exports each, in
-//! the file of the same room and name, and writes the results where C asks for them.
+//! racer, a sweeper or a reader; [`any_handle::visit`] makes it on what a handle lends. A call over
+//! several handles is one function. The crate `g1_c` exports each, in the file of the same room and
+//! name, and writes the results where C asks for them.
 //!
 //! Before anything changes, a call checks each word and the length of each array that must have
 //! room, and is refused if one of them is wrong or if a handle is closed. (The stores of a batch

@@ -31,10 +31,7 @@ pub extern "C" fn g1_heap_drain(
     ensures refused { 0 < result → result ≢ 16 → heap.new.value ≡ heap.old.value }
 {
     *count = 0;
-    tell_set!(
-        set_of_heap(alloc, heap, Which::Refined, region, cards),
-        count
-    )
+    tell_set!(set_of_heap(heap, Which::Refined, region, cards), count)
 }
 
 /// As in `g1.h`.

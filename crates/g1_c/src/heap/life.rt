@@ -47,7 +47,7 @@ pub extern "C" fn g1_heap_resume(
         (HoldSame racers.old racers.new sweepers.old sweepers.new)
         (IsResumeRefused heap.old.value (held_racers racers.old) (held_sweepers sweepers.old)) }
 {
-    answer_word(resume_heap(alloc, heap, racers, sweepers))
+    answer_word(resume_heap(heap, racers, sweepers))
 }
 
 /// As in `g1.h`.

@@ -103,10 +103,7 @@ pub extern "C" fn g1_heap_members(
     ensures same { heap.new.value ≡ heap.old.value }
 {
     *count = 0;
-    tell_set!(
-        set_of_heap(alloc, heap, Which::Recorded, region, cards),
-        count
-    )
+    tell_set!(set_of_heap(heap, Which::Recorded, region, cards), count)
 }
 
 /// As in `g1.h`.

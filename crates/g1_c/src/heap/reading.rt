@@ -22,7 +22,7 @@ pub extern "C" fn g1_heap_read(
         (held_readers readers.new ≡ held_readers readers.old)
         (IsReadRefused heap.old.value (held_readers readers.old)) }
 {
-    answer_word(read_heap(alloc, heap, readers))
+    answer_word(read_heap(heap, readers))
 }
 
 /// As in `g1.h`.

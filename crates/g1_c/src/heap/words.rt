@@ -7,7 +7,6 @@ ghost use denote.RawPtr.{null_ptr};
 
 use crate::calling::on_heap;
 use crate::tell::{answer_word, tell};
-use core::mem::replace_with;
 use g1_handles::handles::HeapHandle;
 use g1_handles::heap::words::{store_data_at, word_at, words_of_heap};
 use std::alloc::Global;
@@ -21,7 +20,7 @@ pub extern "C" fn g1_heap_words(alloc: Global, heap: &mut HeapHandle, words: &mu
         (SaysNoHeap heap.old.value) }
     ensures same { heap.new.value ≡ heap.old.value }
 {
-    tell(replace_with(heap, alloc, words_of_heap), null(), words)
+    tell(words_of_heap(heap), null(), words)
 }
 
 /// As in `g1.h`.

@@ -24,5 +24,5 @@ pub extern "C" fn g1_race_take_log(
         (length cards.old < 256))) }
     ensures written { IsWritten cards.old count.new cards.new }
 {
-    tell(take_log(alloc, racer, cards), 0, count)
+    tell(take_log(racer, cards), 0, count)
 }

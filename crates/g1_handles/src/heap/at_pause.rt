@@ -2,7 +2,7 @@
 ghost use Rattle.g1_handles.specs.{Some, Result, FnOnceReturnsAtMut, Pause, Reason, IsRaceWith};
 ghost use Rattle.g1_handles.specs.{IsCalled};
 
-use crate::any_handle::{closed, into_box, opened};
+use crate::any_handle::AnyHandle;
 use crate::code::Reason;
 use crate::handles::HeapHandle;
 use crate::heap::racing_heap::RacingHeap;
@@ -13,24 +13,20 @@ use std::sync::Arc;
 /// A heap at a pause. It holds a share of its race, so the waiting members can keep theirs.
 pub type PausedHeap = Paused<Arc<Race, Global>>;
 
-/// Makes a call on the heap of a handle, which is at a pause, and puts the heap back. `words` has
-/// the call. Returns `NotOpen`, or `NotPaused` if the heap's members are out or readers read it:
-/// nothing has changed.
+/// Makes a call on the heap of a handle, which is at a pause. Returns `NotOpen`, or `NotPaused` if
+/// the heap's members are out or readers read it: nothing has changed.
 pub fn at_pause<A, F: FnOnce(&mut PausedHeap) -> Result<A, Reason>>(
-    handle: HeapHandle,
-    words: (Global, F),
-) -> (HeapHandle, Result<A, Reason>)
-    requires callable { F.IsAlwaysCallable words.1 }
+    handle: &mut HeapHandle,
+    call: F,
+) -> Result<A, Reason>
+    requires callable { F.IsAlwaysCallable call }
     requires kept { (old new : Pause) (r : Result A Reason)
-        → FnOnceReturnsAtMut F.FnOnce words.1 old r new → IsRaceWith new.logs old new }
-    ensures { IsCalled (FnOnceReturnsAtMut F.FnOnce words.1) handle.value result.1 result.0.value }
+        → FnOnceReturnsAtMut F.FnOnce call old r new → IsRaceWith new.logs old new }
+    ensures { IsCalled (FnOnceReturnsAtMut F.FnOnce call)
+        handle.old.value result handle.new.value }
 {
-    let (alloc, call) = words;
-    let Some(mut heap) = into_box(handle) else {
-        return (closed(alloc), Err(Reason::NotOpen));
-    };
-    let answer = call_on(&mut heap, call);
-    (opened(heap), answer)
+    let heap = handle.value_mut().ok_or(Reason::NotOpen)?;
+    call_on(heap, call)
 }
 
 fn call_on<A, F: FnOnce(&mut PausedHeap) -> Result<A, Reason>>(

@@ -9,17 +9,15 @@ ghost use Rattle.std.specs.Prelude.{◌≡◌, ◌⊎◌};
 ghost use Rattle.g1_handles.specs.{All, Any, OnOk, IfErr, map, arc_value, race_shape, IsAmong};
 ghost use Rattle.g1_handles.specs.{SaysNoMember};
 
-use crate::any_handle::{AnyHandle, closed, into_box, opened};
+use crate::any_handle::AnyHandle;
 use crate::code::Reason;
 use crate::member::{Member, Role};
-use core::mem::replace;
 use g1_race::Race;
 use std::alloc::Global;
 use std::sync::Arc;
 
 /// Checks that each handle has a member of this race, and that none is given twice.
 pub(crate) fn check_members<P: Role, H: AnyHandle<Value = Member<P>>>(
-    alloc: Global,
     race: &Arc<Race, Global>,
     handles: &mut [H],
 ) -> Result<(), Reason>
@@ -31,7 +29,7 @@ pub(crate) fn check_members<P: Role, H: AnyHandle<Value = Member<P>>>(
 {
     let mut given = [false; 128];
     for i in 0..handles.len() {
-        let number = check_member(alloc, race, &mut handles[i])?;
+        let number = check_member(race, &mut handles[i])?;
         if number >= given.len() || given[number] {
             return Err(Reason::OtherRace);
         }
@@ -42,7 +40,6 @@ pub(crate) fn check_members<P: Role, H: AnyHandle<Value = Member<P>>>(
 
 /// Checks that a handle has a member of this race, and returns its number among those of its kind.
 fn check_member<P: Role, H: AnyHandle<Value = Member<P>>>(
-    alloc: Global,
     race: &Arc<Race, Global>,
     handle: &mut H,
 ) -> Result<usize, Reason>
@@ -52,16 +49,14 @@ fn check_member<P: Role, H: AnyHandle<Value = Member<P>>>(
     ensures why { IfErr result (λ refusal. (refusal ≡ Reason.OtherRace)
         ⊎ SaysNoMember (H.value handle.old) refusal) }
 {
-    let member = into_box(replace(handle, closed(alloc))).ok_or(Reason::NotOpen)?;
-    let answer = if member.role.is_none() {
-        Err(Reason::NotOpen)
-    } else if member.race.member_count() != race.member_count() || !is_same(&member.race, race) {
-        Err(Reason::OtherRace)
-    } else {
-        Ok(member.counts.number)
-    };
-    *handle = opened(member);
-    answer
+    let member = handle.value_mut().ok_or(Reason::NotOpen)?;
+    if member.role.is_none() {
+        return Err(Reason::NotOpen);
+    }
+    if member.race.member_count() != race.member_count() || !is_same(&member.race, race) {
+        return Err(Reason::OtherRace);
+    }
+    Ok(member.counts.number)
 }
 
 /// Whether a member's race is that of a share.

@@ -5,7 +5,7 @@ ghost use Rattle.g1_handles.specs.{vec_len, arc_value, layout_of, IsNewHeap};
 ghost use Rattle.g1_handles.specs.{IsHeapOpenRefused, AreHeapCounts, OfPaused, IsCloseRefused};
 ghost use Rattle.g1_handles.specs.{HasNewMembers, AreNew, boxed_counts};
 
-use crate::any_handle::{closed, into_box, is_closed, opened};
+use crate::any_handle::{AnyHandle, closed, into_box, is_closed, opened};
 use crate::code::Reason;
 use crate::handles::HeapHandle;
 use crate::heap::racing_heap::{AtPause, RacingHeap, Readers, Room};
@@ -38,7 +38,7 @@ pub fn open_heap(
         IsHeapOpenRefused handle.old.value (layout_of counts.now) racers sweepers refusal) }
     ensures refused { OnErr result (handle.new.value ≡ handle.old.value) }
 {
-    if !is_closed(alloc, handle) {
+    if !is_closed(handle) {
         return Err(Reason::AlreadyOpen);
     }
     if !are_heap_counts(racers, sweepers) {
@@ -137,10 +137,10 @@ pub fn close_heap(alloc: Global, handle: &mut HeapHandle) -> Result<(), Reason>
     ensures why { IfErr result (λ refusal. IsCloseRefused handle.old.value refusal) }
     ensures refused { OnErr result (handle.new.value ≡ handle.old.value) }
 {
-    let heap = into_box(replace(handle, closed(alloc))).ok_or(Reason::NotOpen)?;
-    if matches!(&*heap, RacingHeap::Paused(_)) {
-        return Ok(());
+    let heap = handle.value_mut().ok_or(Reason::NotOpen)?;
+    if !matches!(&*heap, RacingHeap::Paused(_)) {
+        return Err(Reason::NotPaused);
     }
-    *handle = opened(heap);
-    Err(Reason::NotPaused)
+    let _heap = into_box(replace(handle, closed(alloc)));
+    Ok(())
 }

@@ -8,7 +8,7 @@ ghost use Rattle.g1_handles.specs.{idle_counts, boxed_counts, waiting_counts, Co
 ghost use Rattle.g1_handles.specs.{held_racers, held_sweepers, role_in, AreClosed, IsOf, counts_of};
 ghost use Rattle.g1_handles.specs.{AreOnlyItsOwn, HoldSame};
 
-use crate::any_handle::{AnyHandle, closed, into_box, opened};
+use crate::any_handle::{AnyHandle, closed, into_box};
 use crate::code::Reason;
 use crate::handles::{HeapHandle, RacerHandle, SweeperHandle};
 use crate::heap::one_race::check_members;
@@ -40,34 +40,17 @@ pub fn pause_heap(
     ensures refused { OnErr result ((handle.new.value ≡ handle.old.value)
         × HoldSame racers.old racers.new sweepers.old sweepers.new) }
 {
-    let mut heap = into_box(replace(handle, closed(alloc))).ok_or(Reason::NotOpen)?;
-    let answer = pause_of(alloc, &mut heap, racers, sweepers);
-    *handle = opened(heap);
-    answer
-}
-
-fn pause_of(
-    alloc: Global,
-    heap: &mut RacingHeap,
-    racers: &mut [RacerHandle],
-    sweepers: &mut [SweeperHandle],
-) -> Result<(), Reason>
-    requires one { AreOnlyItsOwn (Some heap.old) racers.old sweepers.old }
-    ensures paused { OnOk result (ComesToPause (Some heap.old) (Some heap.new)
-        racers.old racers.new sweepers.old sweepers.new) }
-    ensures why { IfErr result (IsPauseRefused (Some heap.old)
-        (held_racers racers.old) (held_sweepers sweepers.old)) }
-    ensures refused { OnErr result ((heap.new ≡ heap.old)
-        × HoldSame racers.old racers.new sweepers.old sweepers.new) }
-{
+    let Some(heap) = handle.value_mut() else {
+        return Err(Reason::NotOpen);
+    };
     let RacingHeap::Racing(under_way) = &*heap else {
         return Err(Reason::NotRacing);
     };
     if racers.len() != under_way.racers.count || sweepers.len() != under_way.sweepers.count {
         return Err(Reason::BadHandles);
     }
-    check_members(alloc, &under_way.race, racers)?;
-    check_members(alloc, &under_way.race, sweepers)?;
+    check_members(&under_way.race, racers)?;
+    check_members(&under_way.race, sweepers)?;
     let share = Arc::try_clone(&under_way.race).or(Err(Reason::OtherRace))?;
     let RacingHeap::Racing(under_way) = heap else {
         unreachable!()

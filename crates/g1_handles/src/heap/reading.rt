@@ -5,14 +5,13 @@ ghost use Rattle.g1_handles.specs.{vec_capacity, arc_value, Race, OfPaused, OfRe
 ghost use Rattle.g1_handles.specs.{held_readers, IsLentHeap, IsReadRefused, AreOut, AreShared};
 ghost use Rattle.g1_handles.specs.{OfAtPause};
 
-use crate::any_handle::{are_closed, closed, into_box, opened};
+use crate::any_handle::{AnyHandle, are_closed};
 use crate::code::Reason;
 use crate::handles::{HeapHandle, ReaderHandle};
 use crate::heap::racing_heap::{AtPause, BeingRead, RacingHeap, Readers, Room};
 use crate::heap::resume::hand_out_to;
 use crate::member::{Member, Role};
-use core::mem::{replace, replace_with};
-use std::alloc::Global;
+use core::mem::replace_with;
 
 /// Lets threads read the heap of a handle, which is at a pause, and puts a reader into each of
 /// these closed handles. A reader reads what the pause has. Nothing changes until the reading ends.
@@ -20,37 +19,23 @@ use std::alloc::Global;
 ///
 /// Returns `NotOpen`, `NotPaused`, `BadHandles` if there are more handles than the heap has racers
 /// and sweepers, or `AlreadyOpen` for a reader's handle: nothing has changed.
-pub fn read_heap(
-    alloc: Global,
-    handle: &mut HeapHandle,
-    readers: &mut [ReaderHandle],
-) -> Result<(), Reason>
+pub fn read_heap(handle: &mut HeapHandle, readers: &mut [ReaderHandle]) -> Result<(), Reason>
     ensures lent { OnOk result (BeginsReading handle.old.value handle.new.value
         readers.old readers.new) }
     ensures why { IfErr result (IsReadRefused handle.old.value (held_readers readers.old)) }
     ensures refused { OnErr result ((handle.new.value ≡ handle.old.value)
         × (held_readers readers.new ≡ held_readers readers.old)) }
 {
-    let mut heap = into_box(replace(handle, closed(alloc))).ok_or(Reason::NotOpen)?;
-    let answer = read_of(alloc, &mut heap, readers);
-    *handle = opened(heap);
-    answer
-}
-
-fn read_of(alloc: Global, heap: &mut RacingHeap, readers: &mut [ReaderHandle]) -> Result<(), Reason>
-    ensures lent { OnOk result (BeginsReading (Some heap.old) (Some heap.new)
-        readers.old readers.new) }
-    ensures why { IfErr result (IsReadRefused (Some heap.old) (held_readers readers.old)) }
-    ensures refused { OnErr result ((heap.new ≡ heap.old)
-        × (held_readers readers.new ≡ held_readers readers.old)) }
-{
+    let Some(heap) = handle.value_mut() else {
+        return Err(Reason::NotOpen);
+    };
     let RacingHeap::Paused(at) = &*heap else {
         return Err(Reason::NotPaused);
     };
     if readers.len() > at.readers.idle.len() {
         return Err(Reason::BadHandles);
     }
-    if !are_closed(alloc, readers) {
+    if !are_closed(readers) {
         return Err(Reason::AlreadyOpen);
     }
     replace_with(heap, readers.len(), lend);

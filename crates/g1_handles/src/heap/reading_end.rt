@@ -5,14 +5,14 @@ ghost use Rattle.g1_handles.specs.{held_readers, IsLentHeap};
 ghost use Rattle.g1_handles.specs.{IsReadEndRefused, AreOut, AreShared, OfAtPause};
 ghost use Rattle.g1_handles.specs.{AreOnlyItsReaders};
 
-use crate::any_handle::{closed, into_box, opened};
+use crate::any_handle::AnyHandle;
 use crate::code::Reason;
 use crate::handles::{HeapHandle, ReaderHandle};
 use crate::heap::one_race::check_members;
 use crate::heap::pause::gather;
 use crate::heap::racing_heap::{AtPause, BeingRead, RacingHeap, Readers, Room};
 use crate::heap::reading::move_boxes;
-use core::mem::{replace, replace_with};
+use core::mem::replace_with;
 use std::alloc::Global;
 
 /// Ends the reading of the heap of a handle, which is then at its pause as it was. All its readers
@@ -34,24 +34,9 @@ pub fn end_read_of_heap(
     ensures refused { OnErr result ((handle.new.value ≡ handle.old.value)
         × (held_readers readers.new ≡ held_readers readers.old)) }
 {
-    let mut heap = into_box(replace(handle, closed(alloc))).ok_or(Reason::NotOpen)?;
-    let answer = end_read_of(alloc, &mut heap, readers);
-    *handle = opened(heap);
-    answer
-}
-
-fn end_read_of(
-    alloc: Global,
-    heap: &mut RacingHeap,
-    readers: &mut [ReaderHandle],
-) -> Result<(), Reason>
-    requires one { AreOnlyItsReaders (Some heap.old) readers.old }
-    ensures ended { OnOk result (EndsReading (Some heap.old) (Some heap.new)
-        readers.old readers.new) }
-    ensures why { IfErr result (IsReadEndRefused (Some heap.old) (held_readers readers.old)) }
-    ensures refused { OnErr result ((heap.new ≡ heap.old)
-        × (held_readers readers.new ≡ held_readers readers.old)) }
-{
+    let Some(heap) = handle.value_mut() else {
+        return Err(Reason::NotOpen);
+    };
     let being_read = match &*heap {
         RacingHeap::Read(being_read) => being_read,
         RacingHeap::Paused(_) => return Err(Reason::BadHandles),
@@ -60,7 +45,7 @@ fn end_read_of(
     if readers.len() != being_read.readers.out.count {
         return Err(Reason::BadHandles);
     }
-    check_members(alloc, &being_read.race, readers)?;
+    check_members(&being_read.race, readers)?;
     let RacingHeap::Read(being_read) = heap else {
         unreachable!()
     };

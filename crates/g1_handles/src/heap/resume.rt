@@ -6,13 +6,12 @@ ghost use Rattle.g1_handles.specs.{IsResumeRefused, AreFor, boxed_counts, Resume
 ghost use Rattle.g1_handles.specs.{held_sweepers, role_in, IsOf, counts_of};
 ghost use Rattle.g1_handles.specs.{HoldSame};
 
-use crate::any_handle::{AnyHandle, are_closed, closed, into_box, opened};
+use crate::any_handle::{AnyHandle, are_closed, opened};
 use crate::code::Reason;
 use crate::handles::{HeapHandle, RacerHandle, SweeperHandle};
 use crate::heap::racing_heap::{AtPause, RacingHeap, Room, UnderWay};
 use crate::member::{Member, Role};
-use core::mem::{replace, replace_with};
-use std::alloc::Global;
+use core::mem::replace_with;
 
 /// Lets the heap of a handle go on, and puts its racers and its sweepers into handles that are
 /// closed. The race begins with the table that the pause left, and each racer has its log, which is
@@ -22,7 +21,6 @@ use std::alloc::Global;
 /// Returns `NotOpen`, `NotPaused`, `BadHandles` if there are not as many handles as the heap was
 /// opened for, or `AlreadyOpen` for a member's handle: nothing has changed.
 pub fn resume_heap(
-    alloc: Global,
     handle: &mut HeapHandle,
     racers: &mut [RacerHandle],
     sweepers: &mut [SweeperHandle],
@@ -34,32 +32,16 @@ pub fn resume_heap(
     ensures refused { OnErr result ((handle.new.value ≡ handle.old.value)
         × HoldSame racers.old racers.new sweepers.old sweepers.new) }
 {
-    let mut heap = into_box(replace(handle, closed(alloc))).ok_or(Reason::NotOpen)?;
-    let answer = resume_of(alloc, &mut heap, racers, sweepers);
-    *handle = opened(heap);
-    answer
-}
-
-fn resume_of(
-    alloc: Global,
-    heap: &mut RacingHeap,
-    racers: &mut [RacerHandle],
-    sweepers: &mut [SweeperHandle],
-) -> Result<(), Reason>
-    ensures resumed { OnOk result (Resumes (Some heap.old) (Some heap.new)
-        racers.old racers.new sweepers.old sweepers.new) }
-    ensures why { IfErr result (IsResumeRefused (Some heap.old)
-        (held_racers racers.old) (held_sweepers sweepers.old)) }
-    ensures refused { OnErr result ((heap.new ≡ heap.old)
-        × HoldSame racers.old racers.new sweepers.old sweepers.new) }
-{
+    let Some(heap) = handle.value_mut() else {
+        return Err(Reason::NotOpen);
+    };
     let RacingHeap::Paused(at) = &*heap else {
         return Err(Reason::NotPaused);
     };
     if racers.len() != at.racers.len() || sweepers.len() != at.sweepers.len() {
         return Err(Reason::BadHandles);
     }
-    if !are_closed(alloc, racers) || !are_closed(alloc, sweepers) {
+    if !are_closed(racers) || !are_closed(sweepers) {
         return Err(Reason::AlreadyOpen);
     }
     replace_with(heap, (), leave_pause);

@@ -5,14 +5,12 @@ ghost use Rattle.g1_handles.specs.Prelude.{IsRaceWith};
 ghost use Rattle.g1_handles.specs.HeapCalls.{IsCalled};
 ghost use Rattle.g1_handles.specs.Sets.{TellsSet, IsSetCall};
 
-use crate::any_handle::{closed, into_box, opened};
+use crate::any_handle::AnyHandle;
 use crate::code::Reason;
 use crate::handles::HeapHandle;
 use crate::heap::at_pause::PausedHeap;
 use crate::heap::racing_heap::RacingHeap;
-use core::mem::replace;
 use g1_layout::{Card, Region};
-use std::alloc::Global;
 
 /// Which set of a region.
 #[derive(Clone, Copy)]
@@ -37,7 +35,6 @@ pub enum SetTold {
 ///
 /// Returns `NotOpen`, `NotPaused` or `NoRegion` if the call was refused: nothing has changed.
 pub fn set_of_heap(
-    alloc: Global,
     handle: &mut HeapHandle,
     which: Which,
     region: u32,
@@ -47,13 +44,11 @@ pub fn set_of_heap(
         handle.old.value result handle.new.value }
     ensures unwritten { OnErr result (cards.new ≡ cards.old) }
 {
-    let mut heap = into_box(replace(handle, closed(alloc))).ok_or(Reason::NotOpen)?;
-    let answer = match &mut *heap {
+    let heap = handle.value_mut().ok_or(Reason::NotOpen)?;
+    match &mut *heap {
         RacingHeap::Paused(at) => set_at(&mut at.pause, which, region, cards),
         RacingHeap::Read(_) | RacingHeap::Racing(_) => Err(Reason::NotPaused),
-    };
-    *handle = opened(heap);
-    answer
+    }
 }
 
 /// Writes the set of a region once every dirty card is refined, or as it is recorded.

@@ -5,32 +5,29 @@ ghost use Rattle.g1_handles.specs.{Some, IfOk, OnOk, IfErr, OnErr, race_words};
 ghost use Rattle.g1_handles.specs.{IsRaceWith, TellsWord, StoresDataAt, OfHeap, SaysNoHeap};
 ghost use Rattle.g1_handles.specs.{LacksSlot, SaysNoData, start_at};
 
-use crate::any_handle::{closed, into_box, opened};
+use crate::any_handle::AnyHandle;
 use crate::code::Reason;
 use crate::handles::HeapHandle;
 use crate::heap::at_pause::PausedHeap;
 use crate::heap::racing_heap::RacingHeap;
 use crate::member::data::data_slot;
-use std::alloc::Global;
 
 /// Returns the address of the words of the heap of a handle, at a pause or not: the word of each
 /// slot, in order. It stays the same for as long as the heap lasts. Returns `NotOpen` if the handle
 /// is closed.
-pub fn words_of_heap(handle: HeapHandle, alloc: Global) -> (HeapHandle, Result<*const u64, Reason>)
-    ensures words { IfOk result.1 (λ words.
-        OfHeap handle.value (λ race. words ≡ race_words race)) }
-    ensures why { IfErr result.1 (SaysNoHeap handle.value) }
-    ensures same { result.0.value ≡ handle.value }
+pub fn words_of_heap(handle: &mut HeapHandle) -> Result<*const u64, Reason>
+    ensures words { IfOk result (λ words.
+        OfHeap handle.old.value (λ race. words ≡ race_words race)) }
+    ensures why { IfErr result (SaysNoHeap handle.old.value) }
+    ensures same { handle.new.value ≡ handle.old.value }
 {
-    let Some(heap) = into_box(handle) else {
-        return (closed(alloc), Err(Reason::NotOpen));
-    };
+    let heap = handle.value_mut().ok_or(Reason::NotOpen)?;
     let words = match &*heap {
         RacingHeap::Paused(at) => at.race.words(),
         RacingHeap::Read(being_read) => being_read.race.words(),
         RacingHeap::Racing(under_way) => under_way.race.words(),
     };
-    (opened(heap), Ok(words))
+    Ok(words)
 }
 
 /// Returns a slot's word: 0 for null, the number of the slot that it refers to plus 1, or data from

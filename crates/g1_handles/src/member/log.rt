@@ -3,12 +3,10 @@ ghost use Rattle.std.specs.Prelude.{◌≡◌, ◌⊎◌, ◌<◌};
 ghost use Rattle.g1_handles.specs.{Some, IfOk, IfErr, OnErr, length};
 ghost use Rattle.g1_handles.specs.{take, IsWritten, OfRacer, TakesLog, SaysNoMember};
 
-use crate::any_handle::{closed, into_box, opened};
+use crate::any_handle::AnyHandle;
 use crate::code::Reason;
 use crate::handles::RacerHandle;
 use crate::list::write_list;
-use core::mem::replace;
-use std::alloc::Global;
 
 /// How many cards a racer's log has room for.
 pub const LOG: usize = 256;
@@ -17,7 +15,7 @@ pub const LOG: usize = 256;
 /// front of an array, oldest first, and returns how many they are.
 ///
 /// Returns `NotOpen`, or `NoRoom` if the array has less room than a log: nothing has changed.
-pub fn take_log(alloc: Global, handle: &mut RacerHandle, cards: &mut [u32]) -> Result<u32, Reason>
+pub fn take_log(handle: &mut RacerHandle, cards: &mut [u32]) -> Result<u32, Reason>
     ensures log { IfOk result (λ count. OfRacer handle.old.value (λ a.
         OfRacer handle.new.value (λ b. TakesLog a (take count cards.new) b))) }
     ensures why { IfErr result (λ refusal. SaysNoMember handle.old.value refusal
@@ -29,11 +27,9 @@ pub fn take_log(alloc: Global, handle: &mut RacerHandle, cards: &mut [u32]) -> R
     if cards.len() < LOG {
         return Err(Reason::NoRoom);
     }
-    let mut member = into_box(replace(handle, closed(alloc))).ok_or(Reason::NotOpen)?;
-    let answer = match &mut member.role {
+    let member = handle.value_mut().ok_or(Reason::NotOpen)?;
+    match &mut member.role {
         Some(racer) => Ok(write_list(racer.take_log().as_slice(), cards)),
         None => Err(Reason::NotOpen),
-    };
-    *handle = opened(member);
-    answer
+    }
 }

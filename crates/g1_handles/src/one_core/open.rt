@@ -53,7 +53,7 @@ pub fn open_core(
         IsOpenRefused handle.old.value (layout_of counts.now) (settings_of hot ring) refusal) }
     ensures refused { OnErr result (handle.new.value ≡ handle.old.value) }
 {
-    if !is_closed(alloc, handle) {
+    if !is_closed(handle) {
         return Err(Reason::AlreadyOpen);
     }
     let layout = Layout::large(counts.regions, counts.cards, counts.slots);

@@ -4,4 +4,4 @@ use Rattle.g1_c.proofs.{heap_tells}
 use Rattle.g1_c.proofs.heap.row.g1_heap_store_words.Goals as goal
 
 pub returns-clause-told : goal.returns-clause-told
-returns-clause-told c = heap_tells _ _ _ _ _ _ _ _ _ c.replace_with.ensures c.answer_word.ensures (λ _ _ _ c. search rules) (λ _ _ _ c. search rules)
+returns-clause-told c = heap_tells _ _ _ _ _ _ _ _ _ c.at_pause.ensures c.answer_word.ensures (λ _ _ _ c. search rules) (λ _ _ _ c. search rules)

@@ -5,6 +5,6 @@ use Rattle.g1_c.proofs.one_core.refinement.g1_refine.Goals as goal
 
 pub returns-in-Ok-clause-refined : goal.returns-in-Ok-clause-refined
 returns-in-Ok-clause-refined c few =
-    let made : Between c.args.handle.now.value c.replace_with.new.dest.value (λ old new. RefinesTo old c.args.cards.now c.in-Ok.reply new) = search rules in
-    subst (λ (reply : RefineReply). Between c.args.handle.now.value c.replace_with.new.dest.value (λ old new. RefinesTo old c.args.cards.now reply new))
+    let made : Between c.args.handle.now.value c.visit.new.handle.value (λ old new. RefinesTo old c.args.cards.now c.in-Ok.reply new) = search rules in
+    subst (λ (reply : RefineReply). Between c.args.handle.now.value c.visit.new.handle.value (λ old new. RefinesTo old c.args.cards.now reply new))
     (c.reply_word.ensures.reply ∙ search rules) made

@@ -4,7 +4,7 @@ use Rattle.g1_handles.specs.{◌∙◌, ℕ, List, arith, rules, All, length, ma
 use Rattle.g1_handles.specs.declared.code.Reason.TheVariants as refusal
 use Rattle.std.proofs.lemmas.Grind.{common_steps}
 use Rattle.g1_handles.proofs.{passed, seen_alike}
-use Rattle.g1_handles.proofs.heap.pause.pause_of.Goals as goal
+use Rattle.g1_handles.proofs.heap.pause.pause_heap.Goals as goal
 
 of_racers : (h : Option RacingHeap) (rs : List (Option RacerMember)) (ss : List (Option SweeperMember)) (r : Reason)
     → HasRacers h → IsFor h (length rs) (length ss) → (r ≡ refusal.OtherRace) ⊎ Any (λ m. SaysNoMember m r) rs → IsPauseRefused h rs ss r
@@ -18,7 +18,7 @@ of_sweepers h rs ss r out as_many (inr none) = inr (inr (inr (out, as_many, inr 
 
 pub returns-in_err-check_members-clause-why : goal.returns-in_err-check_members-clause-why
 returns-in_err-check_members-clause-why c =
-    let h = Some c.args.heap.now in
+    let h = c.args.handle.now.value in
     let rs = held_racers c.args.racers.now in
     let ss = held_sweepers c.args.sweepers.now in
     let out : HasRacers h = first_of (search rules, grind (arith, common_steps)) in
@@ -28,7 +28,7 @@ returns-in_err-check_members-clause-why c =
 
 pub returns-in_err-check_members-2-clause-why : goal.returns-in_err-check_members-2-clause-why
 returns-in_err-check_members-2-clause-why c =
-    let h = Some c.args.heap.now in
+    let h = c.args.handle.now.value in
     let rs = held_racers c.args.racers.now in
     let ss = held_sweepers c.args.sweepers.now in
     let out : HasRacers h = first_of (search rules, grind (arith, common_steps)) in
@@ -68,7 +68,7 @@ returns-clause-paused c =
       seen_alike role_in racer_log log_of (λ r. refl) rs _ given i,
     )) c.replace_with.ensures.0 in
     record {
-      paused = rw c.in-Racing-heap.is paused;
+      paused = rw (c.in-Some.ensures.lent, c.in-Racing-heap.is) paused;
       race = first_of (search rules, grind (arith, common_steps));
       counts = c.replace_with.ensures.1.1.1.0 ∙ ((λ i. (came.counts i, too.counts i)) ∙ (λ i. (map counts_of (racers i), map counts_of (sweepers i))));
       idle = first_of (search rules, grind (arith, common_steps));

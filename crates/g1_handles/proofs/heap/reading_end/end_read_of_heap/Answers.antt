@@ -6,7 +6,7 @@ use Rattle.g1_handles.specs.declared.heap.racing_heap.RacingHeap.TheVariants as 
 use Rattle.std.proofs.lemmas.Grind.{common_steps}
 use Rattle.g1_handles.proofs.{passed}
 use Rattle.g1_handles.proofs.ReaderLemmas.{all_know, all_of_race}
-use Rattle.g1_handles.proofs.heap.reading_end.end_read_of.Goals as goal
+use Rattle.g1_handles.proofs.heap.reading_end.end_read_of_heap.Goals as goal
 
 back_at_pause : (h : RacingHeap) (l : List MemberCounts) → OfAtPause (Some h) (λ a. IsPermutation (boxed_counts a.readers.idle) l) → IsPermutation (idle_counts (Some h)) l
 back_at_pause (heap.Paused a) l same = same
@@ -20,7 +20,7 @@ of_readers h rs r as_many (inr none) = inr (inr (inr (as_many, inl none)))
 
 pub returns-in_err-check_members-clause-why : goal.returns-in_err-check_members-clause-why
 returns-in_err-check_members-clause-why c =
-    let h = Some c.args.heap.now in
+    let h = c.args.handle.now.value in
     let rs = held_readers c.args.readers.now in
     let as_many : IsReadBy h (length rs) = first_of (search rules, grind (arith, common_steps)) in
     passed (λ r. (r ≡ refusal.OtherRace) ⊎ Any (λ m. SaysNoMember m r) rs) (IsReadEndRefused h rs) c.check_members.result _ _ c.in_err-check_members.was c.check_members.ensures.why c.from_residual.ensures.1
@@ -49,7 +49,7 @@ returns-clause-ended c =
     record {
       ended = first_of (search rules, grind (arith, common_steps));
       count = first_of (search rules, grind (arith, common_steps));
-      counts = rw c.in-Read-heap.is (subst (λ (l : List MemberCounts). IsPermutation (idle_counts (Some c.replace_with.new.dest)) (l ++ boxed_counts b.readers.idle)) came (back_at_pause c.replace_with.new.dest _ c.replace_with.ensures.1));
+      counts = rw (c.in-Some.ensures.lent, c.in-Read-heap.is) (subst (λ (l : List MemberCounts). IsPermutation (idle_counts (Some c.replace_with.new.dest)) (l ++ boxed_counts b.readers.idle)) came (back_at_pause c.replace_with.new.dest _ c.replace_with.ensures.1));
       like = first_of (search rules, grind (arith, common_steps));
       closed = first_of (search rules, grind (arith, common_steps));
     }

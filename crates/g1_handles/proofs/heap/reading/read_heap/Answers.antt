@@ -4,7 +4,7 @@ use Rattle.g1_handles.specs.{arith, rules, ℕ, List, Some, All, length, map, sy
 use Rattle.g1_handles.specs.declared.heap.racing_heap.AtPause.{AtPause}
 use Rattle.std.proofs.lemmas.Grind.{common_steps}
 use Rattle.g1_handles.proofs.ReaderLemmas.{KnowsPause, handed_out}
-use Rattle.g1_handles.proofs.heap.reading.read_of.Goals as goal
+use Rattle.g1_handles.proofs.heap.reading.read_heap.Goals as goal
 
 readers_at : (a : AtPause) (b : BeingRead) (n : ℕ) (ms : List (Option ReaderMember)) → IsLentPause a b → AreOut n b
     → map role_in ms ≡ map (λ r. Some r) b.readers.out.roles.items → All (IsOf (arc_value b.race)) ms → AreReadersAt (arc_value a.race) a.pause ms
@@ -30,8 +30,8 @@ returns-clause-lent c =
     let shared = rw (c.in-Paused.is, c.in-Read.is) at c.replace_with.ensures.1.1 in
     record {
       lent = search rules;
-      readers_at = rw c.in-Paused.is (readers_at a b n ms lent out c.hand_out_to.ensures.roles (c.hand_out_to.ensures.race _ out.boxes.waiting));
+      readers_at = rw (c.in-Some.ensures.lent, c.in-Paused.is) (readers_at a b n ms lent out c.hand_out_to.ensures.roles (c.hand_out_to.ensures.race _ out.boxes.waiting));
       count = search rules;
-      counts = rw c.in-Paused.is (subst (λ (l : List MemberCounts). IsPermutation (boxed_counts a.readers.idle) (l ++ boxed_counts b.readers.idle)) (sym c.hand_out_to.ensures.counts) shared);
+      counts = rw (c.in-Some.ensures.lent, c.in-Paused.is) (subst (λ (l : List MemberCounts). IsPermutation (boxed_counts a.readers.idle) (l ++ boxed_counts b.readers.idle)) (sym c.hand_out_to.ensures.counts) shared);
       closed = search rules;
     }

@@ -5,7 +5,7 @@ use Rattle.g1_handles.specs.declared.heap.racing_heap.AtPause.{AtPause}
 use Rattle.g1_handles.specs.declared.heap.racing_heap.Readers.{Readers}
 use Rattle.std.proofs.lemmas.Grind.{common_steps}
 use Rattle.g1_handles.proofs.{found, seen_alike}
-use Rattle.g1_handles.proofs.heap.resume.resume_of.Goals as goal
+use Rattle.g1_handles.proofs.heap.resume.resume_heap.Goals as goal
 
 goes_on : (a : AtPause) (b : UnderWay) (rs : List (Option RacerMember)) (ss : List (Option SweeperMember)) → LeavesPause a b
     → map role_in rs ≡ map (λ r. Some r) b.racers.roles.items → map role_in ss ≡ map (λ w. Some w) b.sweepers.roles.items
@@ -37,11 +37,12 @@ returns-clause-resumed c =
     let too = c.hand_out_to-2.ensures in
     let go = rw (c.in-Paused.is, c.in-Racing.is) at c.replace_with.ensures in
     let on = goes_on c.in-Paused.at b (held_racers c.hand_out_to.new.handles) (held_sweepers c.hand_out_to-2.new.handles) go out.roles too.roles (out.race _ go.racers.waiting) (too.race _ go.sweepers.waiting) in
+    let was = c.in-Some.ensures.lent ∙ ap (λ (h : RacingHeap). Some h) c.in-Paused.is in
     record {
-      resumed = rw c.in-Paused.is on;
+      resumed = rw (c.in-Some.ensures.lent, c.in-Paused.is) on;
       race = search rules;
-      counts = (λ i. (out.counts i, too.counts i)) ∙ ((λ i. (boxed_counts (go.racers_waited i), boxed_counts (go.sweepers_waited i))) ∙ sym (ap (λ (h : RacingHeap). heap_counts (Some h)) c.in-Paused.is));
-      idle = ap (λ (r : Readers). boxed_counts r.idle) go.idle ∙ sym (ap (λ (h : RacingHeap). idle_counts (Some h)) c.in-Paused.is);
+      counts = (λ i. (out.counts i, too.counts i)) ∙ ((λ i. (boxed_counts (go.racers_waited i), boxed_counts (go.sweepers_waited i))) ∙ sym (ap heap_counts was));
+      idle = ap (λ (r : Readers). boxed_counts r.idle) go.idle ∙ sym (ap idle_counts was);
       members = search rules;
       closed = search rules;
     }
