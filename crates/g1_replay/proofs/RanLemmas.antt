@@ -1,6 +1,6 @@
 -- What the jobs of a crew come to, by its book.
 use Rattle.std.specs.Prelude.{◌≡◌, ◌≢◌, ◌≤◌, ◌==◌, ◌++◌}
-use Rattle.g1_replay.specs.{ℕ, List, [], length, refl, sym, subst, ap, ◌∙◌, append-nil, Option, inl, inr, arith, Result, Ok, Err, IfErr, IfSome, cases_Bool, eqb-true, count_by, Shape, opening, Entry, IsPermitted, is_store, History, IsHistory, BookTerms, Refusal, Command, is_store_command, layout_in, AppendsFront, stores_text, front_more, puts_none, puts_then, Stop, BookFull, NoThread, WriteFailed, CrewRan, CrewDrained, AreOfCallers, Options, Some, None, crew_stop, drains, HasDrained, played_none, entries_of, HasPlayed, IsBookFull, MayStop, Prints, written_by, IsRunEnd, IsUnstarted, Appends}
+use Rattle.g1_replay.specs.{ℕ, List, [], length, refl, sym, subst, ap, ◌∙◌, append-nil, Option, inl, inr, arith, Result, Ok, Err, IfErr, IfSome, cases_Bool, eqb-true, count_by, Shape, opening, Entry, IsPermitted, is_store, History, IsHistory, BookTerms, Refusal, Command, is_store_command, layout_in, AppendsFront, stores_text, front_more, puts_none, puts_then, Stop, BookFull, NoThread, WriteFailed, CrewRan, CrewDrained, AreOfCallers, Options, Some, None, crew_stop, drains, book_draining, at, HasDrained, played_none, entries_of, HasPlayed, IsBookFull, MayStop, Prints, written_by, IsRunEnd, IsUnstarted, Appends}
 use Rattle.g1_history.specs.declared.refusal.Refusal.TheVariants as refusal
 
 -- a book with drains behind it is a run, and its text counts the stores in front of them
@@ -39,7 +39,7 @@ stores_failed asked h out out' history many w =
 
 -- the count was written, and drains behind it
 pub book_written : (asked : List Command) (old new : History) (out mid_out out' : Option (List ℕ)) (r : Result (Unit {0}) Stop) → IfErr r MayStop → IsHistory new → count_by is_store old.entries ≡ count_by is_store_command asked → Appends out mid_out (stores_text (count_by is_store old.entries))
-    → HasDrained HasPlayed IsBookFull (layout_in old).regions old new mid_out out' r → (text : List ℕ) × CrewDrained old.limit (layout_in old) None old.entries asked r text × Prints out out' r text
+    → HasDrained book_draining (layout_in old).regions (at old mid_out) (at new out') r → (text : List ℕ) × CrewDrained old.limit (layout_in old) None old.entries asked r text × Prints out out' r text
 book_written asked old new out mid_out out' r stops history many w d =
     (stores_text (count_by is_store old.entries) ++ d.text, ran_book asked old new d.drained r d.text many d.played history (may_end r stops) (drains_alone r stops) d.filled d.all, puts_then out mid_out out' (written_by r) (stores_text (count_by is_store old.entries)) d.text w d.written)
 

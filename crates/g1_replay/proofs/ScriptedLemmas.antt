@@ -1,7 +1,8 @@
 -- A trace that is read to its end before its scripts are run: how it is read, what that comes to, and its whole output.
 use Rattle.std.specs.Prelude.{◌≡◌, ◌⊎◌}
-use Rattle.g1_replay.specs.{ℕ, List, [], refl, subst, Option, Some, None, inl, inr, ⊎_elim, true, false, Bool, Result, Ok, Err, Appends, Consumes-nil, Shape, Command, Dialect, TraceFault, Puts, puts_none, puts_then, End, Commands, Stop, Fault, NoMemory, WriteFailed, Follows, of_done, Prints, written_by, PrintsSome, IsEndWritten, ending_line, IsReadStop, Reads, IsRunEnd, IsScriptReplayed, ScriptEnd, WasUnread, IfSome}
+use Rattle.g1_replay.specs.{ℕ, List, [], refl, subst, Option, Some, None, inl, inr, ⊎_elim, true, false, Bool, Result, Ok, Err, Appends, Consumes-nil, Shape, Command, Dialect, TraceFault, Puts, puts_none, puts_then, End, Stop, Fault, NoMemory, WriteFailed, Scene, Follows, keeping, AreKept, Prints, written_by, PrintsSome, IsEndWritten, ending_line, IsReadStop, Reads, IsRunEnd, IsScriptReplayed, ScriptEnd, WasUnread, IfSome}
 use Rattle.g1_replay.specs.Scripted.{Scripted}
+use Rattle.g1_replay.specs.declared.scripts.Scripts.{Scripts}
 use Rattle.g1_replay.proofs.EndLemmas.{ReadsAs, all_done, replayed}
 use Rattle.g1_replay.proofs.ReadingLemmas.{reads_then}
 
@@ -16,36 +17,34 @@ stop_silent stop out out' h w = w
 pub stops_unread : (d : Dialect) (n : ℕ) (rd : Option (List ℕ)) → WasUnread d n n rd rd (Err NoMemory) []
 stops_unread d n rd = record { heap = None; commands = []; ends = inr refl; read = record { lines = []; rest = []; consumed = Consumes-nil rd; passed = λ x. refl; met = refl }; silent = refl }
 
--- what takes the commands of lines and writes nothing
-module _ {S : Type 0} (Did : S → List Command → List ℕ → S → Type 0) (Full : S → Type 0) (silent : (s t : S) (cs : List Command) (text : List ℕ) → Did s cs text t → text ≡ []) where
-  -- a header, and then lines that were not read to their end
-  pub lines_stop : (Stops : Stop → Type 0) (only : (stop : Stop) → Stops stop → stop ≡ NoMemory) (n : ℕ) (a a' : Commands) (old new : S) (rd rd1 rd' out out' : Option (List ℕ)) (stop : Stop) → IsReadStop stop ⊎ Stops stop
-      → Reads a.dialect None n a.source.now.number rd rd1 (Some a.layout) [] (Ok true) → Follows (of_done Did) Full a a' old new rd1 rd' out out' (Err stop) → WasUnread a.dialect n a'.source.now.number rd rd' (Err stop) [] × Appends out out' []
-  lines_stop Stops only n a a' old new rd rd1 rd' out out' stop may head f =
-      let h : IsReadStop stop ⊎ (stop ≡ NoMemory) = ⊎_elim (λ (r : IsReadStop stop). inl r) (λ (s : Stops stop). inr (only stop s)) may in (
-        record {
-          heap = Some a.layout;
-          commands = f.commands;
-          ends = h;
-          read = reads_then a.dialect None (Some a.layout) (Some a.layout) n a.source.now.number a'.source.now.number rd rd1 rd' [] f.commands (Err stop) head f.read;
-          silent = refl;
-        },
-        stop_silent stop out out' h (subst (λ (x : List ℕ). Puts out out' (written_by {V = Bool} (Err stop)) x) (silent old new f.done.done f.done.text f.done.made) f.done.written),
-      )
+-- a header, and then lines that were not read to their end
+pub lines_stop : (n : ℕ) (a b : Scene Scripts) (rd rd1 rd' : Option (List ℕ)) (stop : Stop) → IsReadStop stop ⊎ (stop ≡ NoMemory)
+    → Reads a.commands.dialect None n a.commands.source.now.number rd rd1 (Some a.commands.layout) [] (Ok true) → Follows keeping.deeds a b (rd1, rd') (Err stop)
+    → WasUnread a.commands.dialect n b.commands.source.now.number rd rd' (Err stop) [] × Appends a.at.written b.at.written []
+lines_stop n a b rd rd1 rd' stop h head f = (
+  record {
+    heap = Some a.commands.layout;
+    commands = f.commands;
+    ends = h;
+    read = reads_then a.commands.dialect None (Some a.commands.layout) (Some a.commands.layout) n a.commands.source.now.number b.commands.source.now.number rd rd1 rd' [] f.commands (Err stop) head f.read;
+    silent = refl;
+  },
+  stop_silent stop a.at.written b.at.written h (subst (λ (x : List ℕ). Puts a.at.written b.at.written (written_by {V = Bool} (Err stop)) x) f.done.made.1 f.done.written),
+)
 
-  -- a header, and then lines that were
-  pub lines_read : (n : ℕ) (a a' : Commands) (old new : S) (rd rd1 rd' out out' : Option (List ℕ)) → Reads a.dialect None n a.source.now.number rd rd1 (Some a.layout) [] (Ok true)
-      → Follows (of_done Did) Full a a' old new rd1 rd' out out' (Ok false) → ((cs : List Command) × Reads a.dialect None n a'.source.now.number rd rd' (Some a.layout) cs (Ok false) × Did old cs [] new) × Appends out out' []
-  lines_read n a a' old new rd rd1 rd' out out' head f =
-      let same : f.commands ≡ f.done.done = all_done f.commands f.done.done f.done.undone f.done.all f.done.stopped in
-      let none = silent old new f.done.done f.done.text f.done.made in (
-        (
-          f.done.done,
-          subst (λ (cs : List Command). Reads a.dialect None n a'.source.now.number rd rd' (Some a.layout) cs (Ok false)) same (reads_then a.dialect None (Some a.layout) (Some a.layout) n a.source.now.number a'.source.now.number rd rd1 rd' [] f.commands (Ok false) head f.read),
-          subst (λ (x : List ℕ). Did old f.done.done x new) none f.done.made,
-        ),
-        subst (λ (x : List ℕ). Appends out out' x) none f.done.written,
-      )
+-- a header, and then lines that were
+pub lines_read : (n : ℕ) (a b : Scene Scripts) (rd rd1 rd' : Option (List ℕ)) → Reads a.commands.dialect None n a.commands.source.now.number rd rd1 (Some a.commands.layout) [] (Ok true) → Follows keeping.deeds a b (rd1, rd') (Ok false)
+    → ((cs : List Command) × Reads a.commands.dialect None n b.commands.source.now.number rd rd' (Some a.commands.layout) cs (Ok false) × AreKept (λ steps. steps.items) a.at.state.steps.items cs b.at.state.steps.items) × Appends a.at.written b.at.written []
+lines_read n a b rd rd1 rd' head f =
+    let same : f.commands ≡ f.done.done = all_done f.commands f.done.done f.done.undone f.done.all f.done.stopped in (
+      (
+        f.done.done,
+        subst (λ (cs : List Command). Reads a.commands.dialect None n b.commands.source.now.number rd rd' (Some a.commands.layout) cs (Ok false)) same
+            (reads_then a.commands.dialect None (Some a.commands.layout) (Some a.commands.layout) n a.commands.source.now.number b.commands.source.now.number rd rd1 rd' [] f.commands (Ok false) head f.read),
+        f.done.made.0,
+      ),
+      subst (λ (x : List ℕ). Appends a.at.written b.at.written x) f.done.made.1 f.done.written,
+    )
 
 -- a trace that was not read to its end
 pub scripts_unread : (Ran : ScriptEnd) (d : Dialect) (n n' : ℕ) (rd rd' out out' : Option (List ℕ)) (stop : Stop) → WasUnread d n n' rd rd' (Err stop) [] → Appends out out' []

@@ -1,6 +1,6 @@
 -- From what was read and played to the text of a permitted run.
 use Rattle.std.specs.Prelude.{◌≡◌, ◌≢◌, ◌≤◌, ◌++◌, ◌⊎◌}
-use Rattle.g1_replay.specs.{Bool, ℕ, List, [], refl, length, sym, ap, ◌∙◌, subst, arith, Option, Some, None, true, Result, Ok, Err, IfErr, IfSome, IfNone, Shape, opening, Entry, IsPermitted, History, IsHistory, BookTerms, layout_in, Command, Dialect, Options, Stop, Fault, NoMemory, BookFull, NoThread, Told, PrintsSome, written_by, puts_none, ⊎_elim, end_met, AreSetBy, entries_of, IsNewMachinery, Machinery, StepsThrough, IsBookFull, Follows, inl, inr, MayStop, Prints, IsReadStop, Reads, Commands}
+use Rattle.g1_replay.specs.{Bool, ℕ, List, [], refl, length, sym, ap, ◌∙◌, subst, arith, Option, Some, None, true, Result, Ok, Err, IfErr, IfSome, IfNone, Shape, opening, Entry, IsPermitted, History, IsHistory, BookTerms, layout_in, Command, Dialect, Options, Stop, Fault, NoMemory, BookFull, NoThread, Told, PrintsSome, written_by, puts_none, ⊎_elim, end_met, AreSetBy, entries_of, IsNewMachinery, Machinery, stepping, Scene, Follows, inl, inr, MayStop, Prints, IsReadStop, Reads}
 use Rattle.g1_replay.proofs.PlayingLemmas.{none_undone}
 use Rattle.g1_replay.proofs.ReadingLemmas.{reads_then}
 use Rattle.g1_replay.proofs.SteppedLemmas.{stepped_played}
@@ -56,11 +56,14 @@ starts_none : (r : Result (Unit {0}) Stop) → IfErr r (λ stop. IsReadStop stop
 starts_none r h e = ⊎_elim (λ x. x) (λ x. x) (subst (λ r. IfErr r (λ stop. IsReadStop stop ⊎ MayStop stop)) e h)
 
 -- what was read and played behind the header is the text of a permitted run, by the steps of a new machinery
-pub played_told : (o : Options) (n n' : ℕ) (a a' : Commands) (old new : Machinery) (rd rd1 rd' out out' : Option (List ℕ)) (r : Result (Unit {0}) Stop)
-    → a'.source.now.number ≡ n' → IsNewMachinery a.layout o old → Reads a.dialect None n a.source.now.number rd rd1 (Some a.layout) [] (Ok true)
-    → Follows StepsThrough (λ m. IsBookFull m.book) a a' old new rd1 rd' out out' (end_met r) → IfErr r (λ stop. IsReadStop stop ⊎ MayStop stop) → IsHistory new.book
-    → PrintsSome (Told a.dialect o n n' rd rd') out out' r
-played_told o n n' a a' old new rd rd1 rd' out out' r at_end opened head f stops h =
+pub played_told : (o : Options) (n n' : ℕ) (from to : Scene Machinery) (rd rd1 rd' : Option (List ℕ)) (r : Result (Unit {0}) Stop)
+    → to.commands.source.now.number ≡ n' → IsNewMachinery from.commands.layout o from.at.state → Reads from.commands.dialect None n from.commands.source.now.number rd rd1 (Some from.commands.layout) [] (Ok true)
+    → Follows stepping.deeds from to (rd1, rd') (end_met r) → IfErr r (λ stop. IsReadStop stop ⊎ MayStop stop) → IsHistory to.at.state.book
+    → PrintsSome (Told from.commands.dialect o n n' rd rd') from.at.written to.at.written r
+played_told o n n' from to rd rd1 rd' r at_end opened head f stops h =
+    let a = from.commands in
+    let old = from.at.state in
+    let new = to.at.state in
     let is = opened.book in
     let p = stepped_played old new f.done.done f.done.undone f.done.text (opened.capacity ∙ sym (ap (λ (h : History). h.machine.settings.limit) is)) f.done.made in
     let es : new.book.entries ≡ entries_of p.pieces = p.grows.entries ∙ ap (λ (h : History). h.entries ++ entries_of p.pieces) is in
@@ -90,5 +93,5 @@ played_told o n n' a a' old new rd rd1 rd' out out' r at_end opened head f stops
         within = subst (λ (xs : List Entry). length xs ≤ o.history) es (subst (λ (k : ℕ). length new.book.entries ≤ k) most h.within);
         full = λ e. ap (λ (xs : List Entry). length xs) (sym es) ∙ f.done.filled (ap end_met e) ∙ most;
       },
-      written_as out out' r f.done.text f.done.written,
+      written_as from.at.written to.at.written r f.done.text f.done.written,
     )

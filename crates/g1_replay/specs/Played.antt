@@ -13,7 +13,7 @@ use Rattle.g1_replay.specs.declared.runs.machinery.Machinery.{Machinery}
 use Rattle.g1_replay.specs.declared.stop.Stop.{Stop}
 use Rattle.g1_replay.specs.declared.stop.Stop.TheVariants.{WriteFailed}
 use Rattle.g1_replay.specs.Pieces.{flush_text}
-use Rattle.g1_replay.specs.Playing.{stop_of, written_by}
+use Rattle.g1_replay.specs.Playing.{At, stop_of, written_by}
 use Rattle.g1_replay.specs.Still.{is_pause}
 
 -- This caller makes these calls at a book, and nobody else makes one.
@@ -122,11 +122,10 @@ abbrev pub IsAnswered : Call → (old new : History) → Result (List ℕ) Refus
 IsAnswered call old new = Says (call_line call) (λ r. MakesAsked true old 0 call r new)
 
 -- A call was asked of a book, and its answer was written.
-abbrev pub IsCallPlayed : Call → (old new : History) → (out out' : Option (List ℕ))
-    → Result (Unit {0}) Stop → Type 0
-IsCallPlayed call old new = IsDoneAndSaid (IsAnswered call old new)
+abbrev pub IsCallPlayed : Call → (old new : At History) → Result (Unit {0}) Stop → Type 0
+IsCallPlayed call old new =
+    IsDoneAndSaid (IsAnswered call old.state new.state) old.written new.written
 
 -- A command was played: it was done, and its answer was written.
-abbrev pub IsPlayed : Command → (old new : Machinery) → (out out' : Option (List ℕ))
-    → Result (Unit {0}) Stop → Type 0
-IsPlayed c old new = IsDoneAndSaid (Makes c old new)
+abbrev pub IsPlayed : Command → (old new : At Machinery) → Result (Unit {0}) Stop → Type 0
+IsPlayed c old new = IsDoneAndSaid (Makes c old.state new.state) old.written new.written

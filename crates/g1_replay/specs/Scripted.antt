@@ -1,7 +1,7 @@
 -- A trace that is read whole before its scripts run.
 use Rattle.std.specs.Prelude.{◌≡◌, ◌⊎◌}
 use Rattle.g1_replay.specs.Prelude.{ℕ, List, [], false, Result, Ok, Option, Some, None, IfSome}
-use Rattle.g1_replay.specs.Prelude.{IfErr, IsErrAnd, sym, subst, Shape, Command, Dialect}
+use Rattle.g1_replay.specs.Prelude.{IfErr, IsErrAnd, Shape, Command, Dialect}
 use Rattle.g1_replay.specs.declared.end.End.{End}
 use Rattle.g1_replay.specs.declared.stop.Stop.{Stop}
 use Rattle.g1_replay.specs.declared.stop.Stop.TheVariants.{NoMemory, NoThread}
@@ -51,7 +51,3 @@ abbrev pub IsScriptReplayed : ScriptEnd → Dialect → (rd rd' out out' : Optio
     → Type 0
 IsScriptReplayed Ran d = IsReplayed d (Scripted Ran)
     (λ heap commands text. IfSome heap (λ l. Ran l commands (Ok tt) text)) (λ _ _ text. text ≡ [])
-
--- what stops a script is what may stop a command
-pub no_memory_may : (stop : Stop) → stop ≡ NoMemory → MayStop stop
-no_memory_may stop e = subst MayStop (sym e) tt

@@ -2,8 +2,7 @@
 ghost use Rattle.std.specs.Prelude.{◌≡◌};
 ghost use Rattle.g1_replay.specs.{List, [], Err, None, IfSome, length, count_by, Appends};
 ghost use Rattle.g1_replay.specs.{is_store, is_store_command, Command, IsHistory};
-ghost use Rattle.g1_replay.specs.{layout_in, CrewDrained, crew_stop, played_in, played_none};
-ghost use Rattle.g1_replay.specs.{played_then, HasPlayed, IsBookFull, PrintsSome};
+ghost use Rattle.g1_replay.specs.{layout_in, CrewDrained, crew_stop, book_draining, PrintsSome};
 
 use crate::calls::play_call;
 use crate::drains::{Drains, put_drains};
@@ -14,22 +13,12 @@ use g1_trace::put_stores;
 use std::io::Write;
 
 impl Drains for Book {
-    ghost layout = { layout_in };
-
-    ghost did = { HasPlayed };
-
-    ghost full = { IsBookFull };
+    ghost draining = { book_draining };
 
     /// The first caller's drain of the region.
     fn put_drain<W: Write>(&mut self, region: Region, output: &mut W) -> Result<(), Stop> {
         play_call(self, Call::Drain(region), output)
     }
-
-    ghost none = { played_none };
-
-    ghost then = { played_then };
-
-    ghost stays = { played_in };
 }
 
 // How many stores there were, and the drains of all regions.

@@ -1,6 +1,5 @@
-use Rattle.std.specs.Prelude.{◌≡◌}
-use Rattle.g1_replay.specs.{rules, err_from_is_err_and, NoMemory}
-use Rattle.g1_replay.proofs.{Kept, kept_whole, lines_stop, lines_read, stops_unread}
+use Rattle.g1_replay.specs.{rules, err_from_is_err_and}
+use Rattle.g1_replay.proofs.{kept_whole, lines_stop, lines_read, stops_unread}
 use Rattle.g1_replay.proofs.lines.whole.read_scripts.Goals as goal
 
 pub returns-in_err-scripts-clause-read : goal.returns-in_err-scripts-clause-read
@@ -12,12 +11,12 @@ pub returns-in_err-play_all-clause-read : goal.returns-in_err-play_all-clause-re
 returns-in_err-play_all-clause-read g c =
     let p = err_from_is_err_and c.from_residual-in_err-play_all.result c.from_residual-in_err-play_all.ensures.1 in
     let same = c.in_err-play_all.ensures.same.0 in
-    let by = (lines_stop Kept (λ s. ⊥) (λ s t cs text kept. kept.1) (λ stop. stop ≡ NoMemory) (λ stop e. e) _ _ _ _ _ _ _ _ _ _ _ c.in_err-play_all.ensures.stops (c.in_ok-layout.ensures.read _) c.in_err-play_all.ensures.followed).0 in
+    let by = (lines_stop _ _ _ _ _ _ _ c.in_err-play_all.ensures.stops (c.in_ok-layout.ensures.read _) c.in_err-play_all.ensures.followed).0 in
     rw (p.1, p.2) (search rules)
 
 pub returns-clause-read : goal.returns-clause-read
 returns-clause-read g c =
     let same = c.in_ok-play_all.ensures.same.0 in
-    let read = (lines_read Kept (λ s. ⊥) (λ s t cs text kept. kept.1) _ _ _ _ _ _ _ _ _ _ (c.in_ok-layout.ensures.read _) c.in_ok-play_all.ensures.followed).0 in
+    let read = (lines_read _ _ _ _ _ _ (c.in_ok-layout.ensures.read _) c.in_ok-play_all.ensures.followed).0 in
     let by = read.1 in
-    (read.0, search rules, kept_whole (λ steps. steps.items) _ _ read.0 c.in_ok-scripts.ensures.none read.2.0)
+    (read.0, search rules, kept_whole (λ steps. steps.items) _ _ read.0 c.in_ok-scripts.ensures.none read.2)

@@ -15,5 +15,5 @@ returns-in_err-machinery g c =
 pub returns : goal.returns
 returns g c =
     let same = c.play_all-result.ensures.same.0 in
-    played_told c.args.options.now _ _ _ _ c.in_ok-machinery.machinery c.play_all-result.new.player _ _ _ _ _ c.play_all-result.result (search rules) c.in_ok-machinery.ensures (c.in_ok-layout.ensures.read _)
+    played_told c.args.options.now _ _ _ _ _ _ _ c.play_all-result.result (search rules) c.in_ok-machinery.ensures (c.in_ok-layout.ensures.read _)
     c.play_all-result.ensures.followed c.play_all-result.ensures.stops c.entries-history.ensures.history
