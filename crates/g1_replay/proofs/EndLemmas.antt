@@ -1,6 +1,6 @@
 -- The line of the end, and the whole output where the end says what it is.
 use Rattle.std.specs.Prelude.{◌≡◌, ◌∷◌, ◌++◌}
-use Rattle.g1_replay.specs.{ℕ, List, [], refl, ap, ◌∙◌, subst, append-nil, append_assoc, Option, Some, None, false, Result, Ok, Err, IfSome, Appends-trans, Appends, Consumes, Shape, Options, Command, Dialect, TraceFault, AppendsFront, read_trace, before, front_then, End, Whole, Refused, Stop, Fault, WriteFailed, Tale, Told, IsEndWritten, IsReplayed, ending_line, end_of, IsDoneText, IsRunText, IsUndone, IsWholeOutput, IsRefusedOutput, end_met, Prints, Reads, IsLeftToRead}
+use Rattle.g1_replay.specs.{ℕ, List, [], refl, ap, ◌∙◌, subst, append-nil, append_assoc, Option, Some, None, false, Result, Ok, Err, IfSome, Appends-trans, Appends, Consumes, Shape, Options, Command, Dialect, TraceFault, AppendsFront, read_trace, before, front_then, End, Whole, Refused, Stop, Fault, WriteFailed, Tale, Told, IsEndWritten, IsReplayed, ending_line, end_of, IsDoneText, IsRunText, IsUndone, IsWholeOutput, IsRefusedOutput, end_met, Prints, Reads, place, IsLeftToRead}
 use Rattle.g1_replay.specs.declared.end.End.TheVariants.{WriteFailed as EndWriteFailed}
 use Rattle.g1_replay.proofs.ReadingLemmas.{left_none}
 
@@ -36,11 +36,11 @@ all_done cs done undone e none = e ∙ ap (λ w. done ++ w) none ∙ append-nil 
 -- A trace that ends so was read to these commands, and this is said of them.
 abbrev pub ReadsAs : Dialect → Tale → Result (Unit {0}) Stop → (Option Shape → List Command → List ℕ → Type 0) → Type 0
 ReadsAs d Tells r IsText = (n : ℕ) (rd rd' : Option (List ℕ)) (text : List ℕ) → Tells 1 n rd rd' r text
-    → (heap : Option Shape) × (cs : List Command) × Reads d None 1 n rd rd' heap cs (end_met r) × IsText heap cs text
+    → (heap : Option Shape) × (cs : List Command) × Reads d (place None 1 rd) (place heap n rd') cs (end_met r) × IsText heap cs text
 
 module _ (d : Dialect) (Tells : Dialect → Tale) (IsWhole IsRefused : Option Shape → List Command → List ℕ → Type 0) (whole : ReadsAs d (Tells d) (Ok tt) IsWhole) (refused : (f : TraceFault) → ReadsAs d (Tells d) (Err (Fault f)) IsRefused)
     (n : ℕ) (rd' out out' : Option (List ℕ)) (text : List ℕ) where
-  whole_read : (xs : List ℕ) (heap : Option Shape) (cs : List Command) → Reads d None 1 n (Some xs) rd' heap cs (Ok false) → IsWhole heap cs text → Appends out out' text → IsWholeOutput IsWhole d xs out out'
+  whole_read : (xs : List ℕ) (heap : Option Shape) (cs : List Command) → Reads d (place None 1 (Some xs)) (place heap n rd') cs (Ok false) → IsWhole heap cs text → Appends out out' text → IsWholeOutput IsWhole d xs out out'
   whole_read xs None cs t said w = let none = t.met.2 in cc
   whole_read xs (Some l) cs t said w =
       let all = all_consumed xs rd' (t.lines ++ t.rest) t.consumed in
@@ -86,4 +86,4 @@ module _ (d : Dialect) (Tells : Dialect → Tale) (IsWhole IsRefused : Option Sh
 pub run_read : (d : Dialect) (o : Options) (r : Result (Unit {0}) Stop) → ((undone : List Command) → IsUndone (end_met r) undone → undone ≡ []) → ReadsAs d (Told d o) r (IsDoneText o)
 run_read d o r none n rd rd' text t =
     let no_more = none t.undone t.stopped in
-    (t.heap, t.done, subst (λ (cs : List Command). Reads d None 1 n rd rd' t.heap cs (end_met r)) (all_done t.commands t.done t.undone t.all no_more) t.read, subst (λ (cs : List Command). IsRunText o t.heap t.done cs text) no_more t.run)
+    (t.heap, t.done, subst (λ (cs : List Command). Reads d (place None 1 rd) (place t.heap n rd') cs (end_met r)) (all_done t.commands t.done t.undone t.all no_more) t.read, subst (λ (cs : List Command). IsRunText o t.heap t.done cs text) no_more t.run)

@@ -1,8 +1,12 @@
 -- Lines that were played: one, and one after another.
 use Rattle.std.specs.Prelude.{◌≡◌, ◌≢◌, ◌+◌, ◌∷◌, ◌++◌, ◌<◌, ◌≤◌, ◌⊎◌}
-use Rattle.g1_replay.specs.{ℕ, List, [], refl, inl, inr, sym, ap, subst, ◌∙◌, append_assoc, append-nil, take, drop, length, Option, Some, None, true, arith, Bool, Result, Ok, Err, IfErr, OnOk, Consumes, Appends, Puts, Refusal, stop_of, IsSaid, take-take, drop-take, take-append-drop, Shape, Command, Dialect, puts_none, puts_then, Stop, Fault, NoMemory, BookFull, WriteFailed, IsUndone, Does, MayStop, Deeds, At, Scene, Plays, Follows, FollowsFront, PlaysFirst, Prints, written_by, IsReadStop, IsOfTrace, Reads, ReadsBehind, Commands, more_may_come}
+use Rattle.g1_replay.specs.{ℕ, List, [], refl, inl, inr, sym, ap, subst, ◌∙◌, append_assoc, append-nil, take, drop, length, Option, Some, None, true, arith, Bool, Result, Ok, Err, IfErr, IsErrAnd, err_from_is_err_and, OnOk, Consumes, Appends, Puts, Refusal, stop_of, IsSaid, take-take, drop-take, take-append-drop, Shape, Command, Dialect, puts_none, puts_then, Stop, Fault, NoMemory, BookFull, WriteFailed, IsUndone, Does, MayStop, Deeds, At, Scene, Plays, Follows, FollowsFront, PlaysFirst, Prints, written_by, IsReadStop, IsOfTrace, Reads, place, ReadsBehind, Commands, more_may_come}
 use Rattle.g1_history.specs.declared.refusal.Refusal.TheVariants as refusal
 use Rattle.g1_replay.proofs.ReadingLemmas.{reads_none, reads_then}
+
+-- what the exit of a `?` returns
+pub err_is : {T E : Type 0} {e : E} (r : Result T E) → IsErrAnd r (λ y. y ≡ e) → r ≡ Err e
+err_is r h = let p = err_from_is_err_and r h in p.1 ∙ ap Err p.2
 
 -- nothing to be done
 pub none_undone : {V : Type 0} (r : Result V Stop) → r ≢ Err BookFull → IsUndone r []
@@ -83,29 +87,29 @@ module _ {S : Type 0} (deeds : Deeds S) where
       let n' = b.commands.source.now.number in
       let n2 = c.commands.source.now.number in
       let heap = Some a.commands.layout in
-      let read = subst (λ (d : Dialect). Reads d heap n' n2 rd' rd2 heap q.commands r) same.2 (subst (λ (l : Shape). Reads b.commands.dialect (Some l) n' n2 rd' rd2 (Some l) q.commands r) same.1 q.read) in
+      let read = subst (λ (d : Dialect). Reads d (place heap n' rd') (place heap n2 rd2) q.commands r) same.2 (subst (λ (l : Shape). Reads b.commands.dialect (place (Some l) n' rd') (place (Some l) n2 rd2) q.commands r) same.1 q.read) in
       record {
         commands = p.commands ++ q.commands;
-        read = reads_then a.commands.dialect heap heap heap a.commands.source.now.number n' n2 rd rd' rd2 p.commands q.commands r p.read read;
+        read = reads_then a.commands.dialect (place heap a.commands.source.now.number rd) (place heap n' rd') (place heap n2 rd2) p.commands q.commands r p.read read;
         done = does_then a.at b.at c.at p.commands q.commands r p.done q.done;
       }
 
   -- no line; a line without a command, or the end of the input; and a line that stopped the reading
   pub follows_none : (a : Scene S) (rd : Option (List ℕ)) → Follows deeds a a (rd, rd) (Ok true)
-  follows_none a rd = record { commands = []; read = reads_none a.commands.dialect (Some a.commands.layout) a.commands.source.now.number rd; done = does_none a.at (Ok true) (λ e. cc) }
+  follows_none a rd = record { commands = []; read = reads_none a.commands.dialect (place (Some a.commands.layout) a.commands.source.now.number rd); done = does_none a.at (Ok true) (λ e. cc) }
 
-  pub line_passed : (a a' : Commands) (s : At S) (rd rd' : Option (List ℕ)) (more : Bool) → ReadsBehind a a' rd rd' [] (Ok more) → Follows deeds (record { commands = a; at = s }) (record { commands = a'; at = s }) (rd, rd') (Ok more)
+  pub line_passed : (a a' : Commands) (s : At S) (rd rd' : Option (List ℕ)) (more : Bool) → ReadsBehind a a' (rd, rd') [] (Ok more) → Follows deeds (record { commands = a; at = s }) (record { commands = a'; at = s }) (rd, rd') (Ok more)
   line_passed a a' s rd rd' more read = record { commands = []; read = read; done = does_none s (Ok more) (λ e. cc) }
 
-  pub line_unread : (a a' : Commands) (s : At S) (rd rd' : Option (List ℕ)) (stop : Stop) → IsReadStop stop → ReadsBehind a a' rd rd' [] (Err stop) → Follows deeds (record { commands = a; at = s }) (record { commands = a'; at = s }) (rd, rd') (Err stop)
+  pub line_unread : (a a' : Commands) (s : At S) (rd rd' : Option (List ℕ)) (stop : Stop) → IsReadStop stop → ReadsBehind a a' (rd, rd') [] (Err stop) → Follows deeds (record { commands = a; at = s }) (record { commands = a'; at = s }) (rd, rd') (Err stop)
   line_unread a a' s rd rd' stop h read = record { commands = []; read = read; done = does_none s (Err stop) (λ e. let same : stop ≡ BookFull = cc in subst IsReadStop same h) }
 
   -- a command that stopped the replay
   pub line_stopped : (c : Command) (old new : Scene S) (rd rd' : Option (List ℕ)) (stop : Stop) → MayStop stop
-      → ReadsBehind old.commands new.commands rd rd' (c ∷ []) (Ok true) → Does deeds (c ∷ []) old.at new.at (Err stop) → Follows deeds old new (rd, rd') (Err stop)
+      → ReadsBehind old.commands new.commands (rd, rd') (c ∷ []) (Ok true) → Does deeds (c ∷ []) old.at new.at (Err stop) → Follows deeds old new (rd, rd') (Err stop)
   line_stopped c old new rd rd' stop h read done = record { commands = c ∷ []; read = stopped_at stop h; done = done }
     where
-      stopped_at : (stop : Stop) → MayStop stop → ReadsBehind old.commands new.commands rd rd' (c ∷ []) (Err stop)
+      stopped_at : (stop : Stop) → MayStop stop → ReadsBehind old.commands new.commands (rd, rd') (c ∷ []) (Err stop)
       stopped_at NoMemory h = record { lines = read.lines; rest = read.rest; consumed = read.consumed; passed = read.passed; met = read.met }
       stopped_at BookFull h = record { lines = read.lines; rest = read.rest; consumed = read.consumed; passed = read.passed; met = read.met }
       stopped_at WriteFailed h = record { lines = read.lines; rest = read.rest; consumed = read.consumed; passed = read.passed; met = read.met }
@@ -124,7 +128,7 @@ module _ {S : Type 0} (deeds : Deeds S) where
 module _ {S : Type 0} (plays : Plays S) where
   -- a command that was played, or stopped
   pub line_done : (c : Command) (old new : Scene S) (rd rd' : Option (List ℕ)) (r : Result (Unit {0}) Stop) → IfErr r plays.stops
-      → ReadsBehind old.commands new.commands rd rd' (c ∷ []) (Ok true) → Does plays.deeds (c ∷ []) old.at new.at (more_may_come r) → Follows plays.deeds old new (rd, rd') (more_may_come r)
+      → ReadsBehind old.commands new.commands (rd, rd') (c ∷ []) (Ok true) → Does plays.deeds (c ∷ []) old.at new.at (more_may_come r) → Follows plays.deeds old new (rd, rd') (more_may_come r)
   line_done c old new rd rd' (Ok u) h read done = record { commands = c ∷ []; read = read; done = done }
   line_done c old new rd rd' (Err stop) h read done = line_stopped plays.deeds c old new rd rd' stop (plays.may_stop stop h) read done
 

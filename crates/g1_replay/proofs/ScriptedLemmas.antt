@@ -1,6 +1,6 @@
 -- A trace that is read to its end before its scripts are run: how it is read, what that comes to, and its whole output.
 use Rattle.std.specs.Prelude.{◌≡◌, ◌⊎◌}
-use Rattle.g1_replay.specs.{ℕ, List, [], refl, subst, Option, Some, None, inl, inr, ⊎_elim, true, false, Bool, Result, Ok, Err, Appends, Consumes-nil, Shape, Command, Dialect, TraceFault, Puts, puts_none, puts_then, End, Stop, Fault, NoMemory, WriteFailed, Scene, Follows, keeping, AreKept, Prints, written_by, PrintsSome, IsEndWritten, ending_line, IsReadStop, Reads, IsRunEnd, IsScriptReplayed, ScriptEnd, WasUnread, IfSome}
+use Rattle.g1_replay.specs.{ℕ, List, [], refl, subst, Option, Some, None, inl, inr, ⊎_elim, true, false, Bool, Result, Ok, Err, Appends, Consumes-nil, Shape, Command, Dialect, TraceFault, Puts, puts_none, puts_then, End, Stop, Fault, NoMemory, WriteFailed, Scene, Follows, keeping, AreKept, Prints, written_by, PrintsSome, IsEndWritten, ending_line, IsReadStop, Reads, place, IsRunEnd, IsScriptReplayed, ScriptEnd, WasUnread, IfSome}
 use Rattle.g1_replay.specs.Scripted.{Scripted}
 use Rattle.g1_replay.specs.declared.scripts.Scripts.{Scripts}
 use Rattle.g1_replay.proofs.EndLemmas.{ReadsAs, all_done, replayed}
@@ -19,28 +19,28 @@ stops_unread d n rd = record { heap = None; commands = []; ends = inr refl; read
 
 -- a header, and then lines that were not read to their end
 pub lines_stop : (n : ℕ) (a b : Scene Scripts) (rd rd1 rd' : Option (List ℕ)) (stop : Stop) → IsReadStop stop ⊎ (stop ≡ NoMemory)
-    → Reads a.commands.dialect None n a.commands.source.now.number rd rd1 (Some a.commands.layout) [] (Ok true) → Follows keeping.deeds a b (rd1, rd') (Err stop)
+    → Reads a.commands.dialect (place None n rd) (place (Some a.commands.layout) a.commands.source.now.number rd1) [] (Ok true) → Follows keeping.deeds a b (rd1, rd') (Err stop)
     → WasUnread a.commands.dialect n b.commands.source.now.number rd rd' (Err stop) [] × Appends a.at.written b.at.written []
 lines_stop n a b rd rd1 rd' stop h head f = (
   record {
     heap = Some a.commands.layout;
     commands = f.commands;
     ends = h;
-    read = reads_then a.commands.dialect None (Some a.commands.layout) (Some a.commands.layout) n a.commands.source.now.number b.commands.source.now.number rd rd1 rd' [] f.commands (Err stop) head f.read;
+    read = reads_then a.commands.dialect _ _ _ [] f.commands (Err stop) head f.read;
     silent = refl;
   },
   stop_silent stop a.at.written b.at.written h (subst (λ (x : List ℕ). Puts a.at.written b.at.written (written_by {V = Bool} (Err stop)) x) f.done.made.1 f.done.written),
 )
 
 -- a header, and then lines that were
-pub lines_read : (n : ℕ) (a b : Scene Scripts) (rd rd1 rd' : Option (List ℕ)) → Reads a.commands.dialect None n a.commands.source.now.number rd rd1 (Some a.commands.layout) [] (Ok true) → Follows keeping.deeds a b (rd1, rd') (Ok false)
-    → ((cs : List Command) × Reads a.commands.dialect None n b.commands.source.now.number rd rd' (Some a.commands.layout) cs (Ok false) × AreKept (λ steps. steps.items) a.at.state.steps.items cs b.at.state.steps.items) × Appends a.at.written b.at.written []
+pub lines_read : (n : ℕ) (a b : Scene Scripts) (rd rd1 rd' : Option (List ℕ)) → Reads a.commands.dialect (place None n rd) (place (Some a.commands.layout) a.commands.source.now.number rd1) [] (Ok true) → Follows keeping.deeds a b (rd1, rd') (Ok false)
+    → ((cs : List Command) × Reads a.commands.dialect (place None n rd) (place (Some a.commands.layout) b.commands.source.now.number rd') cs (Ok false) × AreKept (λ steps. steps.items) a.at.state.steps.items cs b.at.state.steps.items) × Appends a.at.written b.at.written []
 lines_read n a b rd rd1 rd' head f =
     let same : f.commands ≡ f.done.done = all_done f.commands f.done.done f.done.undone f.done.all f.done.stopped in (
       (
         f.done.done,
-        subst (λ (cs : List Command). Reads a.commands.dialect None n b.commands.source.now.number rd rd' (Some a.commands.layout) cs (Ok false)) same
-            (reads_then a.commands.dialect None (Some a.commands.layout) (Some a.commands.layout) n a.commands.source.now.number b.commands.source.now.number rd rd1 rd' [] f.commands (Ok false) head f.read),
+        subst (λ (cs : List Command). Reads a.commands.dialect (place None n rd) (place (Some a.commands.layout) b.commands.source.now.number rd') cs (Ok false)) same
+            (reads_then a.commands.dialect _ _ _ [] f.commands (Ok false) head f.read),
         f.done.made.0,
       ),
       subst (λ (x : List ℕ). Appends a.at.written b.at.written x) f.done.made.1 f.done.written,
@@ -53,7 +53,7 @@ scripts_unread Ran d n n' rd rd' out out' stop s w =
     ([], inl s, puts_then out out' out' (written_by {V = Unit {0}} (Err stop)) [] [] w (puts_none out' (written_by {V = Unit {0}} (Err stop))))
 
 -- a trace that was read to its end, and what its scripts came to
-pub scripts_run : (Ran : ScriptEnd) (d : Dialect) (n n' : ℕ) (l : Shape) (cs : List Command) (rd rd' out mid_out out' : Option (List ℕ)) (r : Result (Unit {0}) Stop) → Reads d None n n' rd rd' (Some l) cs (Ok false) → Appends out mid_out []
+pub scripts_run : (Ran : ScriptEnd) (d : Dialect) (n n' : ℕ) (l : Shape) (cs : List Command) (rd rd' out mid_out out' : Option (List ℕ)) (r : Result (Unit {0}) Stop) → Reads d (place None n rd) (place (Some l) n' rd') cs (Ok false) → Appends out mid_out []
     → (text : List ℕ) × Ran l cs r text × Prints mid_out out' r text → (text : List ℕ) × Scripted Ran d n n' rd rd' r text × Prints out out' r text
 scripts_run Ran d n n' l cs rd rd' out mid_out out' r read w t = (t.0, inr (record { layout = l; commands = cs; read = read; ran = t.1 }), puts_then out mid_out out' (written_by r) [] t.0 w t.2)
 

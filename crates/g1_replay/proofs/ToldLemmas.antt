@@ -1,6 +1,6 @@
 -- From what was read and played to the text of a permitted run.
 use Rattle.std.specs.Prelude.{◌≡◌, ◌≢◌, ◌≤◌, ◌++◌, ◌⊎◌}
-use Rattle.g1_replay.specs.{Bool, ℕ, List, [], refl, length, sym, ap, ◌∙◌, subst, arith, Option, Some, None, true, Result, Ok, Err, IfErr, IfSome, IfNone, Shape, opening, Entry, IsPermitted, History, IsHistory, BookTerms, layout_in, Command, Dialect, Options, Stop, Fault, NoMemory, BookFull, NoThread, Told, PrintsSome, written_by, puts_none, ⊎_elim, end_met, AreSetBy, entries_of, IsNewMachinery, Machinery, stepping, Scene, Follows, inl, inr, MayStop, Prints, IsReadStop, Reads}
+use Rattle.g1_replay.specs.{Bool, ℕ, List, [], refl, length, sym, ap, ◌∙◌, subst, arith, Option, Some, None, true, Result, Ok, Err, IfErr, IfSome, IfNone, Shape, opening, Entry, IsPermitted, History, IsHistory, BookTerms, layout_in, Command, Dialect, Options, Stop, Fault, NoMemory, BookFull, NoThread, Told, PrintsSome, written_by, puts_none, ⊎_elim, end_met, AreSetBy, entries_of, IsNewMachinery, Machinery, stepping, Scene, Follows, inl, inr, MayStop, Prints, IsReadStop, Reads, place}
 use Rattle.g1_replay.proofs.PlayingLemmas.{none_undone}
 use Rattle.g1_replay.proofs.ReadingLemmas.{reads_then}
 use Rattle.g1_replay.proofs.SteppedLemmas.{stepped_played}
@@ -17,7 +17,7 @@ nothing_permitted None = tt
 nothing_permitted (Some l) = tt
 
 -- nothing was done
-pub told_nothing : (d : Dialect) (o : Options) (n n' : ℕ) (rd rd' out : Option (List ℕ)) (heap : Option Shape) (stop : Stop) → stop ≢ NoThread → stop ≢ BookFull → Reads d None n n' rd rd' heap [] (Err stop) → PrintsSome (Told d o n n' rd rd') out out (Err stop)
+pub told_nothing : (d : Dialect) (o : Options) (n n' : ℕ) (rd rd' out : Option (List ℕ)) (heap : Option Shape) (stop : Stop) → stop ≢ NoThread → stop ≢ BookFull → Reads d (place None n rd) (place heap n' rd') [] (Err stop) → PrintsSome (Told d o n n' rd rd') out out (Err stop)
 told_nothing d o n n' rd rd' out heap stop no_thread no_book read = (
   [],
   record {
@@ -38,11 +38,11 @@ told_nothing d o n n' rd rd' out heap stop no_thread no_book read = (
 )
 
 -- a trace without a header
-pub head_told : (d : Dialect) (o : Options) (n n' : ℕ) (rd rd' out : Option (List ℕ)) (stop : Stop) → IsReadStop stop → Reads d None n n' rd rd' None [] (Err stop) → PrintsSome (Told d o n n' rd rd') out out (Err stop)
+pub head_told : (d : Dialect) (o : Options) (n n' : ℕ) (rd rd' out : Option (List ℕ)) (stop : Stop) → IsReadStop stop → Reads d (place None n rd) (place None n' rd') [] (Err stop) → PrintsSome (Told d o n n' rd rd') out out (Err stop)
 head_told d o n n' rd rd' out stop h read = told_nothing d o n n' rd rd' out None stop (λ e. subst IsReadStop e h) (λ e. subst IsReadStop e h) read
 
 -- a header, and no memory for what it asks for
-pub unopened_told : (d : Dialect) (o : Options) (n n' : ℕ) (l : Shape) (rd rd' out : Option (List ℕ)) → Reads d None n n' rd rd' (Some l) [] (Ok true) → PrintsSome (Told d o n n' rd rd') out out (Err NoMemory)
+pub unopened_told : (d : Dialect) (o : Options) (n n' : ℕ) (l : Shape) (rd rd' out : Option (List ℕ)) → Reads d (place None n rd) (place (Some l) n' rd') [] (Ok true) → PrintsSome (Told d o n n' rd rd') out out (Err NoMemory)
 unopened_told d o n n' l rd rd' out read =
     told_nothing d o n n' rd rd' out (Some l) NoMemory (λ e. cc) (λ e. cc) (record { lines = read.lines; rest = read.rest; consumed = read.consumed; passed = read.passed; met = read.met })
 
@@ -57,7 +57,7 @@ starts_none r h e = ⊎_elim (λ x. x) (λ x. x) (subst (λ r. IfErr r (λ stop.
 
 -- what was read and played behind the header is the text of a permitted run, by the steps of a new machinery
 pub played_told : (o : Options) (n n' : ℕ) (from to : Scene Machinery) (rd rd1 rd' : Option (List ℕ)) (r : Result (Unit {0}) Stop)
-    → to.commands.source.now.number ≡ n' → IsNewMachinery from.commands.layout o from.at.state → Reads from.commands.dialect None n from.commands.source.now.number rd rd1 (Some from.commands.layout) [] (Ok true)
+    → to.commands.source.now.number ≡ n' → IsNewMachinery from.commands.layout o from.at.state → Reads from.commands.dialect (place None n rd) (place (Some from.commands.layout) from.commands.source.now.number rd1) [] (Ok true)
     → Follows stepping.deeds from to (rd1, rd') (end_met r) → IfErr r (λ stop. IsReadStop stop ⊎ MayStop stop) → IsHistory to.at.state.book
     → PrintsSome (Told from.commands.dialect o n n' rd rd') from.at.written to.at.written r
 played_told o n n' from to rd rd1 rd' r at_end opened head f stops h =
@@ -76,8 +76,8 @@ played_told o n n' from to rd rd1 rd' r at_end opened head f stops h =
         done = f.done.done;
         undone = f.done.undone;
         ends = starts_none r stops;
-        read = reads_then a.dialect None (Some a.layout) (Some a.layout) n a.source.now.number n' rd rd1 rd' [] f.commands (end_met r) head
-            (subst (λ (k : ℕ). Reads a.dialect (Some a.layout) a.source.now.number k rd1 rd' (Some a.layout) f.commands (end_met r)) at_end f.read);
+        read = reads_then a.dialect _ _ _ [] f.commands (end_met r) head
+            (subst (λ (k : ℕ). Reads a.dialect (place (Some a.layout) a.source.now.number rd1) (place (Some a.layout) k rd') f.commands (end_met r)) at_end f.read);
         all = f.done.all;
         stopped = f.done.stopped;
         unopened = tt;

@@ -16,7 +16,7 @@ use Rattle.g1_replay.specs.declared.stop.Stop.TheVariants.{ReadFailed, WriteFail
 use Rattle.g1_replay.specs.Pieces.{Piece, AreSetBy, Walks, lines_of, entries_of}
 use Rattle.g1_replay.specs.Playing.{IsUndone}
 use Rattle.g1_replay.specs.Stepped.{IsSteppedText}
-use Rattle.g1_replay.specs.Reading.{Reads}
+use Rattle.g1_replay.specs.Reading.{Reads, place}
 
 -- the end of the input, or what stopped the replay
 abbrev pub end_met : Result (Unit {0}) Stop → Result Bool Stop
@@ -59,7 +59,7 @@ pub record Told (d : Dialect) (o : Options) (n n' : ℕ) (rd rd' : Option (List 
   pub done : List Command
   pub undone : List Command
   pub ends : r ≢ Err NoThread
-  pub read : Reads d None n n' rd rd' heap commands (end_met r)
+  pub read : Reads d (place None n rd) (place heap n' rd') commands (end_met r)
   pub all : commands ≡ done ++ undone
   pub stopped : IsUndone (end_met r) undone
   pub unopened : IfNone heap (commands ≡ [])

@@ -122,7 +122,7 @@ scene commands state written = record { commands = commands; at = at state writt
 pub record Follows {S : Type 0} (deeds : Deeds S) (old new : Scene S)
     (left : Option (List ℕ) × Option (List ℕ)) (r : Result Bool Stop) : Type 0 where
   pub commands : List Command
-  pub read : ReadsBehind old.commands new.commands left.0 left.1 commands r
+  pub read : ReadsBehind old.commands new.commands left commands r
   pub done : Does deeds commands old.at new.at r
 
 -- These bytes were taken from a reader, whatever it has behind them: lines that were read, and

@@ -7,7 +7,7 @@ use Rattle.g1_replay.specs.declared.stop.Stop.{Stop}
 use Rattle.g1_replay.specs.declared.stop.Stop.TheVariants.{NoMemory, NoThread}
 use Rattle.g1_replay.specs.Output.{IsReplayed, end_met}
 use Rattle.g1_replay.specs.Playing.{MayStop}
-use Rattle.g1_replay.specs.Reading.{IsReadStop, Reads}
+use Rattle.g1_replay.specs.Reading.{IsReadStop, Reads, place}
 
 -- what stops a trace that was read to its end before one of its jobs is run
 abbrev pub IsUnstarted : Stop → Type 0
@@ -25,7 +25,7 @@ pub record WasUnread (d : Dialect) (n n' : ℕ) (rd rd' : Option (List ℕ))
   pub heap : Option Shape
   pub commands : List Command
   pub ends : IsErrAnd r (λ stop. IsReadStop stop ⊎ (stop ≡ NoMemory))
-  pub read : Reads d None n n' rd rd' heap commands (end_met r)
+  pub read : Reads d (place None n rd) (place heap n' rd') commands (end_met r)
   pub silent : text ≡ []
 
 -- how the scripts of these commands over this heap end, and what they print
@@ -37,7 +37,7 @@ pub record WasRun (Ran : ScriptEnd) (d : Dialect) (n n' : ℕ) (rd rd' : Option 
     (r : Result (Unit {0}) Stop) (text : List ℕ) : Type 0 where
   pub layout : Shape
   pub commands : List Command
-  pub read : Reads d None n n' rd rd' (Some layout) commands (Ok false)
+  pub read : Reads d (place None n rd) (place (Some layout) n' rd') commands (Ok false)
   pub ran : Ran layout commands r text
 
 -- what is read and written of such a trace, but for the line of its end

@@ -1,5 +1,6 @@
 use Rattle.std.specs.Prelude.{◌≡◌}
-use Rattle.g1_replay.specs.{◌∙◌, ℕ, arith, subst, Ok, err_from_is_err_and, HasDrained, at}
+use Rattle.g1_replay.specs.{◌∙◌, ℕ, arith, subst, Ok, HasDrained, at}
+use Rattle.g1_replay.proofs.{err_is}
 use Rattle.g1_replay.proofs.DrainLemmas.{drained_more, drained_none, drained_stopped}
 use Rattle.g1_replay.proofs.drains.put_drains.Goals as goal
 
@@ -8,9 +9,8 @@ loop-number-init g c = (omega arith, c.requires, drained_none g.D.Drains.drainin
 
 pub returns-in_err-put_drain-clause-drained : goal.returns-in_err-put_drain-clause-drained
 returns-in_err-put_drain-clause-drained g c =
-    let p = err_from_is_err_and c.from_residual.result c.from_residual.ensures.1 in
     let drain = rw c.in-Some.ensures.1 at c.in_err-put_drain.ensures.played in
-    rw (p.1, p.2) (drained_stopped g.D.Drains.draining c.args.layout.regions c.loop-number.number _ _ _ _ c.loop-number.invariant.2 drain)
+    rw (err_is _ c.from_residual.ensures.1) (drained_stopped g.D.Drains.draining c.args.layout.regions c.loop-number.number _ _ _ _ c.loop-number.invariant.2 drain)
 
 pub returns-clause-drained : goal.returns-clause-drained
 returns-clause-drained g c =

@@ -1,16 +1,13 @@
-use Rattle.g1_replay.specs.{rules, err_from_is_err_and}
+use Rattle.g1_replay.specs.{rules}
+use Rattle.g1_replay.proofs.{err_is}
 use Rattle.g1_replay.proofs.ToldLemmas.{head_told, unopened_told, played_told}
 use Rattle.g1_replay.proofs.runs.engine.play_trace.Goals as goal
 
 pub returns-in_err-layout : goal.returns-in_err-layout
-returns-in_err-layout g c =
-    let p = err_from_is_err_and c.from_residual.result c.from_residual.ensures.1 in
-    rw (p.1, p.2) (head_told _ _ _ _ _ _ _ _ c.in_err-layout.ensures.stops (c.in_err-layout.ensures.read _))
+returns-in_err-layout g c = rw (err_is _ c.from_residual.ensures.1) (head_told _ _ _ _ _ _ _ _ c.in_err-layout.ensures.stops (c.in_err-layout.ensures.read _))
 
 pub returns-in_err-machinery : goal.returns-in_err-machinery
-returns-in_err-machinery g c =
-    let p = err_from_is_err_and c.from_residual-in_err-machinery.result c.from_residual-in_err-machinery.ensures.1 in
-    rw (p.1, p.2) (unopened_told _ _ _ _ c.in_ok-layout.layout _ _ _ (c.in_ok-layout.ensures.read _))
+returns-in_err-machinery g c = rw (err_is _ c.from_residual-in_err-machinery.ensures.1) (unopened_told _ _ _ _ c.in_ok-layout.layout _ _ _ (c.in_ok-layout.ensures.read _))
 
 pub returns : goal.returns
 returns g c =

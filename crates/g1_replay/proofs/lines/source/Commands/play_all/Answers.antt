@@ -1,11 +1,9 @@
-use Rattle.g1_replay.specs.{◌∙◌, err_from_is_err_and}
-use Rattle.g1_replay.proofs.{follows_then}
+use Rattle.g1_replay.specs.{◌∙◌}
+use Rattle.g1_replay.proofs.{err_is, follows_then}
 use Rattle.g1_replay.proofs.lines.source.Commands.play_all.Goals as goal
 
 pub returns-in_err-play_some-clause-followed : goal.returns-in_err-play_some-clause-followed
-returns-in_err-play_some-clause-followed g c =
-    let p = err_from_is_err_and c.from_residual.result c.from_residual.ensures.1 in
-    rw (p.1, p.2) (follows_then g.P.Player.plays.deeds _ _ _ _ _ _ _ c.lines.invariant.same c.lines.invariant.done c.in_err-play_some.ensures.followed)
+returns-in_err-play_some-clause-followed g c = rw (err_is _ c.from_residual.ensures.1) (follows_then g.P.Player.plays.deeds _ _ _ _ _ _ _ c.lines.invariant.same c.lines.invariant.done c.in_err-play_some.ensures.followed)
 
 pub lines-preserved : goal.lines-preserved
 lines-preserved g c =

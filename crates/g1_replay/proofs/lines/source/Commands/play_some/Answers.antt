@@ -1,5 +1,5 @@
-use Rattle.g1_replay.specs.{[], take, subst, sym, arith, rules, FillKeeps, Consumes, Consumes_shown, Consumes-nil, err_from_is_err_and, ReadFailed, Follows, scene, more_may_come}
-use Rattle.g1_replay.proofs.{follows_then, line_unread}
+use Rattle.g1_replay.specs.{[], take, subst, sym, arith, rules, FillKeeps, Consumes, Consumes_shown, Consumes-nil, ReadFailed, Follows, scene, more_may_come}
+use Rattle.g1_replay.proofs.{err_is, follows_then, line_unread}
 use Rattle.g1_replay.proofs.ReadingLemmas.{line_stopped}
 use Rattle.g1_replay.proofs.lines.source.Commands.play_some.Goals as goal
 use Rattle.g1_replay.proofs.lines.source.Commands.play_some.Goals.{After-consume}
@@ -26,9 +26,7 @@ shown : (g : _) (c : After-consume g) → Follows g.P.Player.plays.deeds (scene 
 shown g c = let played = c.play_shown-taken.ensures.followed _ _ (moved g c) in record { commands = played.commands; read = played.read; done = played.done }
 
 pub returns-in_err-played-clause-followed : goal.returns-in_err-played-clause-followed
-returns-in_err-played-clause-followed g c =
-    let p = err_from_is_err_and c.from_residual.result c.from_residual.ensures.1 in
-    rw (p.1, p.2) (rw c.in_err-played.was at (shown g (goal.at.returns-in_err-played-clause-followed g c).After-consume))
+returns-in_err-played-clause-followed g c = rw (err_is _ c.from_residual.ensures.1) (rw c.in_err-played.was at (shown g (goal.at.returns-in_err-played-clause-followed g c).After-consume))
 
 pub returns-then-taken-gt0-clause-followed : goal.returns-then-taken-gt0-clause-followed
 returns-then-taken-gt0-clause-followed g c =
