@@ -13,7 +13,7 @@ pub first_stepped : (Step : Taker → Taker → Type 0) (old new : Machinery) (b
 first_stepped Step old new before after own step takers line = record { before = before; after = after; there = omega (arith, old.callers.0, old.takers.ok.0); own = own; step = step; takers = takers; line = line }
 
 -- what each command comes to, by the step that it is
-pub stores : (by slot : ℕ) (target : Option ℕ) (old new : Machinery) (reply : StoreReply) → StoresAt old by slot target (Ok reply) new → Makes (command.Store by slot target) old new (Ok (store_text reply))
+pub stores : (by slot : ℕ) (target : Option ℕ) (old new : Machinery) (reply : StoreReply) → StoresAt old by (slot, target) (Ok reply) new → Makes (command.Store by slot target) old new (Ok (store_text reply))
 stores by slot target old new reply h = (reply, h, refl)
 
 pub flushes : (by : ℕ) (old new : Machinery) (reply : FlushReply) → FlushesAt old by reply new → Makes (command.Flush by) old new (Ok (flush_text reply))

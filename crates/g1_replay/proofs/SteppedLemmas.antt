@@ -68,7 +68,7 @@ either_said text P (Err why) h = (Err why, h)
 
 makes_manned : (c : Command) (old new : Machinery) (said : Result (List ℕ) Refusal) → Makes c old new said → IsManned old new
 makes_manned (command.Store by slot target) old new said m =
-    let s = either_said store_text (λ (r : Result StoreReply Refusal). StoresAt old by slot target r new) said m in
+    let s = either_said store_text (λ (r : Result StoreReply Refusal). StoresAt old by (slot, target) r new) said m in
     set_manned old new by s.1.after s.1.mutators s.1.line
 makes_manned (command.Flush by) old new said m = set_manned old new by m.1.after m.1.mutators m.1.line
 makes_manned command.Refine old new said m =

@@ -15,8 +15,15 @@ abbrev pub IsLeftToRead : Option (List ℕ) → List ℕ → Type 0
 IsLeftToRead None x = ⊥
 IsLeftToRead (Some left) x = x ≡ left
 
--- how far a trace was read: its heap, once the header was, the number of the next line, and what
--- the reader has left
+-- how far a replay has come in its input: the number of the next line, and what the reader has left
+pub record Spot : Type 0 where
+  pub number : ℕ
+  pub left : Option (List ℕ)
+
+abbrev pub spot : ℕ → Option (List ℕ) → Spot
+spot number left = record { number = number; left = left }
+
+-- the same, with the heap of the header, once it was read
 pub record Place : Type 0 where
   pub heap : Option Shape
   pub number : ℕ
@@ -24,6 +31,9 @@ pub record Place : Type 0 where
 
 abbrev pub place : Option Shape → ℕ → Option (List ℕ) → Place
 place heap number left = record { heap = heap; number = number; left = left }
+
+abbrev pub with_heap : Option Shape → Spot → Place
+with_heap heap s = place heap s.number s.left
 
 -- These bytes are whole lines without a fault, from one line to another, and these are their
 -- commands.

@@ -146,7 +146,7 @@ fn store<T: Wait>(
     requires slot { slot < slot_count (layout_in machinery.old.book) }
     requires target { IfSome target (λ place. place < slot_count (layout_in machinery.old.book)) }
     requires mutators { vec_len machinery.old.mutators ≡ machinery.old.book.mutators }
-    ensures { StoresAt machinery.old mutator slot target result machinery.new }
+    ensures { StoresAt machinery.old mutator (slot, target) result machinery.new }
 {
     let caller = &mut machinery.mutators[mutator as usize];
     let mut calls = LentBook::new(&mut machinery.book, mutator);
