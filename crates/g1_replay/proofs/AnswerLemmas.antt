@@ -1,6 +1,6 @@
 -- The calls of a command, and the line of what they answer.
 use Rattle.std.specs.Prelude.{◌||◌, if◌then◌else◌, ◌∷◌, ◌≡◌, ◌≢◌, ◌≤◌, ◌⊎◌}
-use Rattle.g1_replay.specs.{ap, sum_by, ◌∙◌, flat_map, All-head, All-tail, Kind, Logged, Fill, No, Entry, IsOwnFill, IsRefinementBy, counts_in, is_any_short, ℕ, List, [], Option, Some, None, true, false, inl, inr, refl, subst, sym, length, map, arith, Bool, Result, Ok, Err, IsSome, All, All-nil, All-cons, length-map, Full, Helped, StoreReply, RefineReply, Reply, store_entry, refine_entry, State, FlushReply, Refusal, History, CallMade, Stored, Refined, AreCalls, Grows, IsBookCall, Help, IsStored, help_calls, store_answer, flush_answer, nothing_flushed, filled, called, IsRound, Turn, round_calls, replies_of, round_size, Command, IsAnswered, IsCallPlayed, IfErr, MayStop, of_done, Piece, IsSetBy, store_text, refine_text, work_text, call_line, Stop, played_one, HasPlayed, IsBookFull, Does, flush_text, plain_piece, IsOfBuffer, IsOfNone, IsLineOf, more_may_come}
+use Rattle.g1_replay.specs.{ap, sum_by, ◌∙◌, flat_map, All-head, All-tail, Kind, Logged, Fill, No, Entry, IsOwnFill, IsRefinementBy, counts_in, is_any_short, ℕ, List, [], Option, Some, None, true, false, inl, inr, refl, subst, sym, length, map, arith, Bool, Result, Ok, Err, IsSome, All, All-nil, All-cons, length-map, Full, Helped, StoreReply, RefineReply, Reply, store_entry, refine_entry, State, FlushReply, Refusal, History, CallMade, Stored, Refined, AreCalls, Grows, IsBookCall, Help, IsStored, help_calls, store_answer, flush_answer, nothing_flushed, filled, called, IsRound, Turn, round_calls, replies_of, round_size, Command, IsAnswered, IsCallPlayed, IfErr, MayStop, At, deeds_of, book_draining, Piece, IsSetBy, store_text, refine_text, work_text, call_line, Stop, played_one, HasPlayed, IsBookFull, Does, flush_text, plain_piece, IsOfBuffer, IsOfNone, IsLineOf, more_may_come}
 use Rattle.g1_core.specs.declared.entry.Call.{Call}
 use Rattle.g1_core.specs.Refinement.{IsRefined}
 use Rattle.g1_log.specs.declared.parcel.Parcel.{Parcel}
@@ -158,13 +158,12 @@ pub nothing_played : (old new : History) → Grows old [] new → HasPlayed old 
 nothing_played old new g = record { pieces = []; walked = tt; set = tt; grows = g; said = refl }
 
 -- a call that was asked of a book
-pub asked_plays : (call : Call) (old new : History) (out out' : Option (List ℕ)) (r : Result (Unit {0}) Stop) → IsCallPlayed call old new out out' r
-    → Does (of_done HasPlayed) IsBookFull (command.Call call ∷ []) old new out out' (more_may_come r)
-asked_plays call old new out out' r p = does_said (of_done HasPlayed) IsBookFull (command.Call call) old new out out' p.0 r (came p.0 p.1) p.2
+pub asked_plays : (call : Call) (old new : At History) (r : Result (Unit {0}) Stop) → IsCallPlayed call old new r → Does (deeds_of book_draining) (command.Call call ∷ []) old new (more_may_come r)
+asked_plays call old new r p = does_said (deeds_of book_draining) (command.Call call) old new p.0 r (came p.0 p.1) p.2
   where
-    came : (said : Result (List ℕ) Refusal) → IsAnswered call old new said → CameTo (of_done HasPlayed) IsBookFull (command.Call call) old said new
-    came (Ok text) a = played_by old new (command.Call call) text (subst (IsDone old new (command.Call call)) (sym a.2) (call_says old new call a.0 a.1.made))
-    came (Err refusal) a = let refused = call_refused old new refusal a.err.1 (λ e. a.err.0.0 (ap Err e)) in (nothing_played old new refused.0, refused.1)
+    came : (said : Result (List ℕ) Refusal) → IsAnswered call old.state new.state said → CameTo (deeds_of book_draining) (command.Call call) old.state said new.state
+    came (Ok text) a = played_by old.state new.state (command.Call call) text (subst (IsDone old.state new.state (command.Call call)) (sym a.2) (call_says old.state new.state call a.0 a.1.made))
+    came (Err refusal) a = let refused = call_refused old.state new.state refusal a.err.1 (λ e. a.err.0.0 (ap Err e)) in (nothing_played old.state new.state refused.0, refused.1)
 
-pub asked_stops : (call : Call) (old new : History) (out out' : Option (List ℕ)) (r : Result (Unit {0}) Stop) → IsCallPlayed call old new out out' r → IfErr r MayStop
-asked_stops call old new out out' r p = said_stops p.0 out out' r p.2
+pub asked_stops : (call : Call) (old new : At History) (r : Result (Unit {0}) Stop) → IsCallPlayed call old new r → IfErr r MayStop
+asked_stops call old new r p = said_stops p.0 old.written new.written r p.2

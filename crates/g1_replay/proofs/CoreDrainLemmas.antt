@@ -1,6 +1,6 @@
 -- Drains of the core that a race has become.
 use Rattle.std.specs.Prelude.{◌≡◌, ◌≢◌, ◌⊎◌, ◌∷◌}
-use Rattle.g1_replay.specs.{ℕ, List, [], append-nil, ap, sym, subst, ◌∙◌, refl, inl, inr, ⊎_elim, Option, true, Contains, arith, Bool, Result, Err, true≢false, Shape, card_of, region_of, region_of_card, Drained, Cards, Short, drain_entry, drain_reply, Machine, IsStep, Table, Holds, IsCovered, IsRecorded, held, refined, Ended, refs_of, table_of, Command, Drain, Call, call_line, Stop, NoMemory, BookFull, Prints, AreDrains, CoreDrained, core_drained_none, Does, of_done, Appends-nil, AreExact, IsExactByStores, drain_text, referring, IsTableLeftBy}
+use Rattle.g1_replay.specs.{ℕ, List, [], append-nil, ap, sym, subst, ◌∙◌, refl, inl, inr, ⊎_elim, Option, true, Contains, arith, Bool, Result, Err, true≢false, Shape, card_of, region_of, region_of_card, Drained, Cards, Short, drain_entry, drain_reply, Machine, IsStep, Table, Holds, IsCovered, IsRecorded, held, refined, Ended, refs_of, table_of, Command, Drain, Call, call_line, Stop, NoMemory, BookFull, Prints, AreDrains, CoreDrained, core_drained_none, Does, At, at, deeds_of, core_draining, Appends-nil, AreExact, IsExactByStores, drain_text, referring, IsTableLeftBy}
 use Rattle.std.specs.FinSet as set
 use Rattle.std.specs.Ordering.{nat_cmp}
 use Rattle.g1_layout.specs.Sets.{CardSet}
@@ -8,8 +8,8 @@ use Rattle.g1_core.proofs.TableLemmas.{refined_covered, recorded_cases, region_o
 use Rattle.g1_replay.proofs.PlayingLemmas.{none_undone, one_done, one_undone}
 
 -- what one drain of a core does
-abbrev pub Drives : ℕ → Machine → Machine → Option (List ℕ) → Option (List ℕ) → Result Bool Stop → Type 0
-Drives region old new out out' r = Does (of_done CoreDrained) (λ (m : Machine). ⊥) (Call (Drain region) ∷ []) old new out out' r
+abbrev pub Drives : ℕ → At Machine → At Machine → Result Bool Stop → Type 0
+Drives region old new r = Does (deeds_of core_draining) (Call (Drain region) ∷ []) old new r
 
 abbrev pub Steps : ℕ → Machine → Drained → Machine → Type 0
 Steps region old answer new = (caller : ℕ) → IsStep old.state.table (drain_entry caller region answer) new.state.table
@@ -31,11 +31,11 @@ one_drain old new region answer s = record {
   heap = step_layout old.state.table new.state.table region answer (s 0);
 }
 
-pub drives_said : (old new : Machine) (region : ℕ) (answer : Drained) (out out' : Option (List ℕ)) (r : Result Bool Stop) → r ≢ Err BookFull → Steps region old answer new → Prints out out' r (call_line (Drain region) (drain_reply answer)) → Drives region old new out out' r
-drives_said old new region answer out out' r no_book s w = one_done (of_done CoreDrained) (λ m. ⊥) old new _ _ out out' r (one_drain old new region answer s) (none_undone r no_book) no_book w
+pub drives_said : (old new : At Machine) (region : ℕ) (answer : Drained) (r : Result Bool Stop) → r ≢ Err BookFull → Steps region old.state answer new.state → Prints old.written new.written r (call_line (Drain region) (drain_reply answer)) → Drives region old new r
+drives_said old new region answer r no_book s w = one_done (deeds_of core_draining) _ old new _ r (one_drain old.state new.state region answer s) (none_undone r no_book) no_book w
 
-pub drives_refused : (old new : Machine) (region : ℕ) (out : Option (List ℕ)) → new ≡ old → Drives region old new out out (Err NoMemory)
-drives_refused old new region out same = one_undone (of_done CoreDrained) (λ m. ⊥) old new _ out out (Err NoMemory) (subst (λ (m : Machine). CoreDrained old [] [] m) (sym same) (core_drained_none old)) (omega arith) (λ e. cc) (Appends-nil out)
+pub drives_refused : (old new : Machine) (region : ℕ) (out : Option (List ℕ)) → new ≡ old → Drives region (at old out) (at new out) (Err NoMemory)
+drives_refused old new region out same = one_undone (deeds_of core_draining) _ (at old out) (at new out) (Err NoMemory) (subst (λ (m : Machine). CoreDrained old [] [] m) (sym same) (core_drained_none old)) (omega arith) (λ e. cc) (Appends-nil out)
 
 -- a table to which drains of the first one led
 pub record IsFrom (first now : Table) : Type 0 where

@@ -1,6 +1,6 @@
 -- A trace has no more commands than lines, so the numbers of its lines bound how many commands it has.
 use Rattle.std.specs.Prelude.{◌≡◌, ◌≤◌, ◌+◌, ◌∷◌, ◌++◌, ◌==◌, if◌then◌else◌}
-use Rattle.g1_replay.specs.{ℕ, List, [], length, nat_lt, refl, ap, subst, arith, length-append, Option, Some, None, unwrap_or, option_to_list, Bool, true, false, Result, Ok, Err, IfOk, count_by, sum_by, count_by-le-length, Shape, Command, Dialect, TraceFault, TooLong, Cut, NoHeader, read_command, read_line, read_on, after_line, at_end, faulty, Stop, Step, AreScripts, Passes, Reads, is_store_command, stores_in}
+use Rattle.g1_replay.specs.{ℕ, List, [], length, nat_lt, refl, ap, subst, arith, length-append, Option, Some, None, unwrap_or, option_to_list, Bool, true, false, Result, Ok, Err, IfOk, count_by, sum_by, count_by-le-length, Shape, Command, Dialect, TraceFault, TooLong, Cut, NoHeader, read_command, read_line, read_on, after_line, at_end, faulty, Stop, Step, AreScripts, Passes, Reads, Place, is_store_command, stores_in}
 use Rattle.g1_trace.specs.Grammar.{read_header}
 use Rattle.g1_trace.specs.Trace.{Trace}
 use Rattle.g1_trace.specs.Words.{◌>>=◌}
@@ -54,16 +54,16 @@ all_few (b ∷ bytes) d heap n line =
     (either_few (nat_lt (length line) 64) n on long (all_few bytes d heap n (line ++ b ∷ [])) (faulty_few heap n TooLong))
 
 -- whole lines have no more commands than their numbers
-pub passed_few : (d : Dialect) (from to : Option Shape) (n n' : ℕ) (lines : List ℕ) (cs : List Command) → Passes d from n lines cs to n' → n + length cs ≤ n'
-passed_few d from to n n' lines cs passed =
-    let few : n + length (cs ++ []) ≤ n' = subst (λ (t : Trace). IsFew n t) (passed (0 ∷ [])) (all_few (lines ++ 0 ∷ []) d from n []) n' Cut refl in
+pub passed_few : (d : Dialect) (old new : Place) (lines : List ℕ) (cs : List Command) → Passes d old lines cs new → old.number + length cs ≤ new.number
+passed_few d old new lines cs passed =
+    let few : old.number + length (cs ++ []) ≤ new.number = subst (λ (t : Trace). IsFew old.number t) (passed (0 ∷ [])) (all_few (lines ++ 0 ∷ []) d old.heap old.number []) new.number Cut refl in
     let same = length-append cs [] in
     omega (arith, few, same)
 
 -- the scripts of a trace that was read have fewer stores than its lines have numbers
-pub stores_few : {E : Type 0} (steps : E → List Step) (scripts : List E) (d : Dialect) (from to : Option Shape) (n n' : ℕ) (rd rd' : Option (List ℕ)) (cs : List Command) (r : Result Bool Stop) → Reads d from n n' rd rd' to cs r → AreScripts steps scripts cs
-    → n + sum_by (λ e. stores_in (steps e)) scripts ≤ n'
-stores_few steps scripts d from to n n' rd rd' cs r read are =
-    let few : n + length cs ≤ n' = passed_few d from to n n' read.lines cs read.passed in
+pub stores_few : {E : Type 0} (steps : E → List Step) (scripts : List E) (d : Dialect) (old new : Place) (cs : List Command) (r : Result Bool Stop) → Reads d old new cs r → AreScripts steps scripts cs
+    → old.number + sum_by (λ e. stores_in (steps e)) scripts ≤ new.number
+stores_few steps scripts d old new cs r read are =
+    let few : old.number + length cs ≤ new.number = passed_few d old new read.lines cs read.passed in
     let part : count_by is_store_command cs ≤ length cs = count_by-le-length is_store_command cs in
     omega (arith, few, part, are.stored)

@@ -5,7 +5,6 @@ use Rattle.std.proofs.lemmas.List.{map-append, nil_from_length}
 use Rattle.g1_steps.specs.Ask.{ask_of}
 use Rattle.g1_steps.specs.declared.crew.desk.Step.TheVariants as step
 use Rattle.g1_trace.specs.declared.command.Command.TheVariants.{Flush}
-use Rattle.g1_replay.specs.declared.scripts.Scripts.{Scripts}
 
 -- what a command asks of the mutator that it names, and of another
 own_at : (by : ℕ) (s : Step) → (if by == by then Some s else None) ≡ Some s
@@ -148,7 +147,3 @@ module _ {E : Type 0} where
     subst (λ n. P n x) (add-zero j) (h 0 x (omega arith)),
     each_from P (suc j) xs (λ k d below. let later : j + suc k ≡ suc j + k = omega arith in subst (λ n. P n (get_or xs k d)) later (h (suc k) d (omega arith))),
   )
-
--- what scripts did with commands
-abbrev pub Kept : Scripts → List Command → List ℕ → Scripts → Type 0
-Kept s cs text t = AreKept (λ script. script.items) s.steps.items cs t.steps.items × (text ≡ [])

@@ -1,6 +1,6 @@
 -- The line of the end, and the whole output where the end says what it is.
 use Rattle.std.specs.Prelude.{◌≡◌, ◌∷◌, ◌++◌}
-use Rattle.g1_replay.specs.{ℕ, List, [], refl, ap, ◌∙◌, subst, append-nil, append_assoc, Option, Some, None, false, Result, Ok, Err, IfSome, Appends-trans, Appends, Consumes, Shape, Options, Command, Dialect, TraceFault, AppendsFront, read_trace, before, front_then, End, Whole, Refused, Stop, Fault, WriteFailed, Tale, Told, IsEndWritten, IsReplayed, ending_line, end_of, IsDoneText, IsRunText, IsUndone, IsWholeOutput, IsRefusedOutput, end_met, Prints, Reads, IsLeftToRead}
+use Rattle.g1_replay.specs.{ℕ, List, [], refl, ap, ◌∙◌, subst, append-nil, append_assoc, Option, Some, None, false, Result, Ok, Err, IfSome, Appends-trans, Appends, Consumes, Shape, Options, Command, Dialect, TraceFault, AppendsFront, read_trace, before, front_then, End, Whole, Refused, Stop, Fault, WriteFailed, Tale, Saying, Story, Spot, spot, with_heap, streams, dialect_in, Run, Told, IsEndWritten, IsReplayed, ending_line, end_of, IsDoneText, IsRunText, IsUndone, IsWholeOutput, IsRefusedOutput, end_met, Prints, Reads, place, IsLeftToRead}
 use Rattle.g1_replay.specs.declared.end.End.TheVariants.{WriteFailed as EndWriteFailed}
 use Rattle.g1_replay.proofs.ReadingLemmas.{left_none}
 
@@ -34,31 +34,29 @@ pub all_done : (cs done undone : List Command) → cs ≡ done ++ undone → und
 all_done cs done undone e none = e ∙ ap (λ w. done ++ w) none ∙ append-nil done
 
 -- A trace that ends so was read to these commands, and this is said of them.
-abbrev pub ReadsAs : Dialect → Tale → Result (Unit {0}) Stop → (Option Shape → List Command → List ℕ → Type 0) → Type 0
-ReadsAs d Tells r IsText = (n : ℕ) (rd rd' : Option (List ℕ)) (text : List ℕ) → Tells 1 n rd rd' r text
-    → (heap : Option Shape) × (cs : List Command) × Reads d None 1 n rd rd' heap cs (end_met r) × IsText heap cs text
+abbrev pub ReadsAs : Dialect → Tale → Result (Unit {0}) Stop → Saying → Type 0
+ReadsAs d Tells r IsText = (old new : Spot) (text : List ℕ) → Tells old new r text → (heap : Option Shape) × (cs : List Command) × Reads d (with_heap None old) (with_heap heap new) cs (end_met r) × IsText heap cs text
 
-module _ (d : Dialect) (Tells : Dialect → Tale) (IsWhole IsRefused : Option Shape → List Command → List ℕ → Type 0) (whole : ReadsAs d (Tells d) (Ok tt) IsWhole) (refused : (f : TraceFault) → ReadsAs d (Tells d) (Err (Fault f)) IsRefused)
-    (n : ℕ) (rd' out out' : Option (List ℕ)) (text : List ℕ) where
-  whole_read : (xs : List ℕ) (heap : Option Shape) (cs : List Command) → Reads d None 1 n (Some xs) rd' heap cs (Ok false) → IsWhole heap cs text → Appends out out' text → IsWholeOutput IsWhole d xs out out'
+module _ (s : Story) (whole : ReadsAs s.dialect s.tells (Ok tt) s.whole) (refused : (f : TraceFault) → ReadsAs s.dialect s.tells (Err (Fault f)) s.refused) (n : ℕ) (rd' out out' : Option (List ℕ)) (text : List ℕ) where
+  whole_read : (xs : List ℕ) (heap : Option Shape) (cs : List Command) → Reads s.dialect (place None 1 (Some xs)) (place heap n rd') cs (Ok false) → s.whole heap cs text → Appends out out' text → IsWholeOutput s.whole s.dialect xs out out'
   whole_read xs None cs t said w = let none = t.met.2 in cc
   whole_read xs (Some l) cs t said w =
       let all = all_consumed xs rd' (t.lines ++ t.rest) t.consumed in
       let none : all.0 ≡ [] = left_none rd' all.0 t.met.1 all.1 in
       let same : xs ≡ t.lines ++ [] = all.2 ∙ ap (λ l. (t.lines ++ t.rest) ++ l) none ∙ append-nil (t.lines ++ t.rest) ∙ ap (λ l. t.lines ++ l) t.met.0 in
-      record { layout = l; commands = cs; text = text; trace = ap (read_trace d) same ∙ t.passed [] ∙ ap (λ (w : List Command). record { heap = Some l; commands = w; fault = None }) (append-nil cs); said = said; written = w }
+      record { layout = l; commands = cs; text = text; trace = ap (read_trace s.dialect) same ∙ t.passed [] ∙ ap (λ (w : List Command). record { heap = Some l; commands = w; fault = None }) (append-nil cs); said = said; written = w }
 
-  says_whole : (rd : Option (List ℕ)) (r : Result (Unit {0}) Stop) (end : End) → Tells d 1 n rd rd' r text → IsEndWritten out out' r (text ++ ending_line n r) end → end ≡ Whole → IfSome rd (λ bytes. IsWholeOutput IsWhole d bytes out out')
+  says_whole : (rd : Option (List ℕ)) (r : Result (Unit {0}) Stop) (end : End) → s.tells (spot 1 rd) (spot n rd') r text → IsEndWritten out out' r (text ++ ending_line n r) end → end ≡ Whole → IfSome rd (λ bytes. IsWholeOutput s.whole s.dialect bytes out out')
   says_whole None r end t i e = tt
-  says_whole (Some xs) (Ok done) Whole t i e = let read = whole n (Some xs) rd' text t in whole_read xs read.0 read.1 read.2 read.3 (subst (λ (w : List ℕ). Appends out out' w) (append-nil text) i.1)
+  says_whole (Some xs) (Ok done) Whole t i e = let read = whole (spot 1 (Some xs)) (spot n rd') text t in whole_read xs read.0 read.1 read.2 read.3 (subst (λ (w : List ℕ). Appends out out' w) (append-nil text) i.1)
   says_whole (Some xs) (Err (Fault f)) Whole t i e = cc
   says_whole (Some xs) (Err stop) Whole t i e = cc
   says_whole (Some xs) r end t i e = cc
 
-  says_refused : (rd : Option (List ℕ)) (r : Result (Unit {0}) Stop) (end : End) → Tells d 1 n rd rd' r text → IsEndWritten out out' r (text ++ ending_line n r) end → end ≡ Refused → IfSome rd (λ bytes. IsRefusedOutput IsRefused d bytes out out')
+  says_refused : (rd : Option (List ℕ)) (r : Result (Unit {0}) Stop) (end : End) → s.tells (spot 1 rd) (spot n rd') r text → IsEndWritten out out' r (text ++ ending_line n r) end → end ≡ Refused → IfSome rd (λ bytes. IsRefusedOutput s.refused s.dialect bytes out out')
   says_refused None r end t i e = tt
   says_refused (Some xs) (Err (Fault f)) Refused t i e =
-      let read = refused f n (Some xs) rd' text t in
+      let read = refused f (spot 1 (Some xs)) (spot n rd') text t in
       let lines = read.2.lines in
       let all = all_consumed xs rd' (lines ++ read.2.rest) read.2.consumed in
       record {
@@ -67,7 +65,7 @@ module _ (d : Dialect) (Tells : Dialect → Tale) (IsWhole IsRefused : Option Sh
         number = n;
         fault = f;
         text = text;
-        trace = ap (read_trace d) (all.2 ∙ append_assoc lines read.2.rest all.0) ∙ read.2.passed (read.2.rest ++ all.0) ∙ ap (before read.1) (read.2.met all.0 all.1)
+        trace = ap (read_trace s.dialect) (all.2 ∙ append_assoc lines read.2.rest all.0) ∙ read.2.passed (read.2.rest ++ all.0) ∙ ap (before read.1) (read.2.met all.0 all.1)
             ∙ ap (λ (w : List Command). record { heap = read.0; commands = w; fault = Some (n, f) }) (append-nil read.1);
         said = read.3;
         written = i.1;
@@ -76,14 +74,14 @@ module _ (d : Dialect) (Tells : Dialect → Tale) (IsWhole IsRefused : Option Sh
   says_refused (Some xs) (Err stop) Refused t i e = cc
   says_refused (Some xs) r end t i e = cc
 
-  pub replayed : (first : ℕ) (rd out1 : Option (List ℕ)) (r : Result (Unit {0}) Stop) (end : End) → first ≡ 1 → Tells d first n rd rd' r text → Prints out out1 r text → IsEndWritten out1 out' r (ending_line n r) end → IsReplayed d Tells IsWhole IsRefused rd rd' out out' end
+  pub replayed : (first : ℕ) (rd out1 : Option (List ℕ)) (r : Result (Unit {0}) Stop) (end : End) → first ≡ 1 → s.tells (spot first rd) (spot n rd') r text → Prints out out1 r text → IsEndWritten out1 out' r (ending_line n r) end → IsReplayed s (streams rd out) (streams rd' out') end
   replayed first rd out1 r end one t w e =
       let i = ended_then out out1 out' r n text end w e in
-      let told = subst (λ m. Tells d m n rd rd' r text) one t in
+      let told = subst (λ m. s.tells (spot m rd) (spot n rd') r text) one t in
       record { told = (n, r, text, told, i); whole = says_whole rd r end told i; refused = says_refused rd r end told i }
 
 -- what was told of a run has the text of the commands that were done
-pub run_read : (d : Dialect) (o : Options) (r : Result (Unit {0}) Stop) → ((undone : List Command) → IsUndone (end_met r) undone → undone ≡ []) → ReadsAs d (Told d o) r (IsDoneText o)
-run_read d o r none n rd rd' text t =
+pub run_read : (o : Options) (r : Result (Unit {0}) Stop) → ((undone : List Command) → IsUndone (end_met r) undone → undone ≡ []) → ReadsAs (dialect_in Run o) (Told o) r (IsDoneText o)
+run_read o r none old new text t =
     let no_more = none t.undone t.stopped in
-    (t.heap, t.done, subst (λ (cs : List Command). Reads d None 1 n rd rd' t.heap cs (end_met r)) (all_done t.commands t.done t.undone t.all no_more) t.read, subst (λ (cs : List Command). IsRunText o t.heap t.done cs text) no_more t.run)
+    (t.heap, t.done, subst (λ (cs : List Command). Reads (dialect_in Run o) (with_heap None old) (with_heap t.heap new) cs (end_met r)) (all_done t.commands t.done t.undone t.all no_more) t.read, subst (λ (cs : List Command). IsRunText o t.heap t.done cs text) no_more t.run)

@@ -6,7 +6,9 @@ use Rattle.std.proofs.lemmas.List.{nil_from_length}
 use Rattle.g1_shared.specs.Callers.{CallerMark, HasOwn}
 use Rattle.g1_shared.specs.Prelude.{entries_by}
 use Rattle.g1_shared.specs.Did.{DeskDid, CallerDid}
-use Rattle.std.proofs.lemmas.List.Elements.{All-head, All-tail}
+use Rattle.std.proofs.lemmas.List.Elements.{AllZip-get_or}
+use Rattle.std.proofs.lemmas.Simd.{map-map}
+use Rattle.g1_log.proofs.Settles.{sum_by-map}
 use Rattle.g1_steps.specs.Ask.{AskWork}
 
 -- calls at a desk of a shared book
@@ -48,25 +50,19 @@ none_stored (c ∷ callers) none =
     let rest : sum_by (λ (c : CallerState). stored_by c.counts) callers ≡ 0 = none_stored callers (λ k d lt. none (suc k) d (omega (arith, lt))) in
     omega (arith, first, rest, sum_by-cons (λ (c : CallerState). stored_by c.counts) c callers)
 
--- what holds of each job that came back, by what held when it began
-each_end : {X : Type 0} (stood : X → CallerState) (R : Job X → Job X → Type 0) (Q : ℕ → Job X → Type 0) (P : ℕ → JobEnd → Type 0) → ((k : ℕ) (b e : Job X) → Q k b → R b e → P k (end_of stood e))
-    → (begun done : List (Job X)) → AllZip R begun done → ((k : ℕ) (d : Job X) → k < length begun → Q k (get_or begun k d))
-    → (k : ℕ) (d : JobEnd) → k < length (map (end_of stood) done) → P k (get_or (map (end_of stood) done) k d)
-each_end stood R Q P one [] [] h all k d lt = absurd (omega (arith, lt))
-each_end stood R Q P one [] (b ∷ done) h all k d lt = absurd h
-each_end stood R Q P one (a ∷ begun) [] h all k d lt = absurd h
-each_end stood R Q P one (a ∷ begun) (b ∷ done) h all zero d lt = one 0 a b (all 0 a (omega arith)) h.0
-each_end stood R Q P one (a ∷ begun) (b ∷ done) h all (suc k) d lt =
-    each_end stood R (λ i. Q (suc i)) (λ i. P (suc i)) (λ i. one (suc i)) begun done h.1 (λ i e less. all (suc i) e (omega (arith, less))) k d (omega (arith, lt))
+-- an item of a list that has this place
+item_at : {A : Type 0} (xs : List A) (k : ℕ) → k < length xs → A
+item_at [] k lt = absurd (omega (arith, lt))
+item_at (x ∷ xs) k lt = x
 
--- jobs that came back, with what holds of their callers
-zip_with : {X : Type 0} (stood : X → CallerState) (R : Job X → Job X → Type 0) (P : CallerState → Type 0) (begun done : List (Job X)) → AllZip R begun done → All P (map (λ (j : Job X). stood j.desk) done) → AllZip (λ b e. R b e × P (stood e.desk)) begun done
-zip_with stood R P [] [] h all = tt
-zip_with stood R P [] (b ∷ done) h all = absurd h
-zip_with stood R P (a ∷ begun) [] h all = absurd h
-zip_with {X} stood R P (a ∷ begun) (b ∷ done) h all =
-    let rest = map (λ (j : Job X). stood j.desk) done in
-    ((h.0, All-head P (stood b.desk) rest all), zip_with stood R P begun done h.1 (All-tail P (stood b.desk) rest all))
+-- what holds of each job that came back, by what held when it began
+each_end : {X : Type 0} (stood : X → CallerState) (R : Job X → Job X → Type 0) (P : ℕ → JobEnd → Type 0) (begun done : List (Job X)) → AllZip R begun done
+    → ((k : ℕ) (x : Job X) → k < length begun → R (get_or begun k x) (get_or done k x) → P k (end_of stood (get_or done k x))) → (k : ℕ) (d : JobEnd) → k < length (map (end_of stood) done) → P k (get_or (map (end_of stood) done) k d)
+each_end stood R P begun done h one k d lt =
+    let there : k < length done = omega (arith, lt, length-map done (end_of stood)) in
+    let x = item_at done k there in
+    let began : k < length begun = omega (arith, there, length_all_zip R begun done h) in
+    subst (P k) (sym (get_or-map (end_of stood) done k x d there)) (one k x began (AllZip-get_or R begun done k x x h began))
 
 ran_by : {X : Type 0} (layout : Shape) (limit : X → ℕ) (stood : X → CallerState) (b e : Job X) → JobRan (DidAt layout limit stood) b e → CallerDid layout (limit b.desk) (stood b.desk) (asked_by e.script e.outcome) (stood e.desk)
 ran_by layout limit stood b e ran =
@@ -93,16 +89,6 @@ one_own layout limit stood entries k b e begun ran =
     let did = ran_by layout limit stood b e ran.0 in
     ran.1 ∙ ap (λ n. entries_by n entries) (ap (λ (m : CallerMark). m.number) did.mark ∙ ap (λ (t : CallerCounts). t.number) begun)
 
-sum_made : {X : Type 0} (stood : X → CallerState) (done : List (Job X)) → sum_by (λ (c : CallerState). made_by c.counts) (map (λ (j : Job X). stood j.desk) done) ≡ sum_by (λ (e : JobEnd). length e.did) (map (end_of stood) done)
-sum_made stood [] = refl
-sum_made {X} stood (b ∷ done) =
-    let rest = sum_made stood done in
-    omega (arith, rest, sum_by-cons (λ (c : CallerState). made_by c.counts) (stood b.desk) (map (λ (j : Job X). stood j.desk) done), sum_by-cons (λ (e : JobEnd). length e.did) (end_of stood b) (map (end_of stood) done))
-
-outcomes_of : {X : Type 0} (stood : X → CallerState) (done : List (Job X)) → map (λ (e : JobEnd). e.outcome) (map (end_of stood) done) ≡ map (λ (j : Job X). j.outcome) done
-outcomes_of stood [] = refl
-outcomes_of stood (b ∷ done) = ap (λ os. b.outcome ∷ os) (outcomes_of stood done)
-
 -- The jobs of callers that have made no call came back.
 pub has_come : {X : Type 0} (layout : Shape) (limit : X → ℕ) (stood : X → CallerState) (At : ℕ → Script → Type 0) (count most : ℕ) (refused : Option Refusal) (entries : List Entry) (callers after : List CallerState) (begun done : List (Job X))
     → AllZip (JobRan (DidAt layout limit stood)) begun done → All (λ (j : Job X). At (stood j.desk).counts.number j.script) begun → All (λ (j : Job X). limit j.desk ≡ most) begun
@@ -123,15 +109,14 @@ has_come {X} layout limit stood At count most refused entries callers after begu
     record {
       jobs = map (end_of stood) done;
       many = omega (arith, length-map done (end_of stood), zip, n, called, many);
-      scripts = each_end stood R (λ k j. At k j.script) (λ k e. At k e.script) (λ k b e is go. subst (At k) (sym go.0) is) begun done ran
-          (λ k d lt. subst (λ i. At i (get_or begun k d).script) (ap (λ (t : CallerCounts). t.number) (counts k d lt)) (scripts k d lt));
-      entered = each_end stood R (λ k j. (limit j.desk ≡ most) × ((stood j.desk).counts ≡ record { number = k; did = [] })) (λ k e. HasEntered k most e) (λ k b e is go. one_entered layout limit stood k most b e is go) begun done ran
-          (λ k d lt. (room k d lt, counts k d lt));
-      own = each_end stood (λ b e. R b e × HasOwn entries (stood e.desk)) (λ k j. (stood j.desk).counts ≡ record { number = k; did = [] }) (λ k e. e.did ≡ entries_by k entries)
-          (λ k b e is go. one_own layout limit stood entries k b e is go) begun done (zip_with stood R (HasOwn entries) begun done ran has) counts;
-      first = first ∙ ap first_refusal (sym (outcomes_of stood done));
+      scripts = each_end stood R (λ k e. At k e.script) begun done ran (λ k x lt go. subst (At k) (sym go.0) (subst (λ i. At i (get_or begun k x).script) (ap (λ (t : CallerCounts). t.number) (counts k x lt)) (scripts k x lt)));
+      entered = each_end stood R (λ k e. HasEntered k most e) begun done ran (λ k x lt go. one_entered layout limit stood k most (get_or begun k x) (get_or done k x) (room k x lt, counts k x lt) go);
+      own = each_end stood R (λ k e. e.did ≡ entries_by k entries) begun done ran
+          (λ k x lt go. let there : k < length done = omega (arith, lt, zip) in
+          one_own layout limit stood entries k (get_or begun k x) (get_or done k x) (counts k x lt) (go, subst (HasOwn entries) (get_or-map stand done k x (stand x) there) (has k (stand x) (omega (arith, there, length-map done stand)))));
+      first = first ∙ ap first_refusal (sym (map-map (λ (e : JobEnd). e.outcome) (end_of stood) done));
       stored = omega (arith, made.stores, ap (sum_by (λ (c : CallerState). stored_by c.counts)) left, all_store layout limit stood begun done ran, ap (sum_by (λ (c : CallerState). stored_by c.counts)) at, none);
-      all = made.all ∙ ap (sum_by (λ (c : CallerState). made_by c.counts)) left ∙ sum_made stood done;
+      all = made.all ∙ ap (sum_by (λ (c : CallerState). made_by c.counts)) left ∙ sum_by-map (λ (c : CallerState). made_by c.counts) stand done ∙ sym (sum_by-map (λ (e : JobEnd). length e.did) (end_of stood) done);
     }
 
 pub none_first : (a b : Option Refusal) → option_or a b ≡ None → (a ≡ None) × (b ≡ None)

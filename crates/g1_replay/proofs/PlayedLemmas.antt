@@ -1,6 +1,6 @@
 -- What a command comes to, by the steps of the callers.
 use Rattle.std.specs.Prelude.{◌≡◌, ◌<◌}
-use Rattle.g1_replay.specs.{ℕ, List, Bool, true, false, arith, length, set, vec_len, slice_index_or, refl, sym, ap, subst, ◌∙◌, inl, inr, Option, Result, Ok, Err, IsErrAnd, err_from_is_err_and, Appends, AppendsFront, Appends-nil, History, StoreReply, RefineReply, FlushReply, Reply, Refusal, Mutator, Taker, MutatorSteps, FirstSteps, IsStopped, MakesAsked, Machinery, Makes, StoresAt, FlushesAt, RefinesAt, WorksAt, AnswersAt, Says, IsPlayed, IsDoneAndSaid, StandIf, StandStill, store_text, flush_text, refine_text, work_text, call_line, is_pause, Stop, WriteFailed, stop_of, IsCallPlayed}
+use Rattle.g1_replay.specs.{ℕ, List, Bool, true, false, arith, length, set, vec_len, slice_index_or, refl, sym, ap, subst, ◌∙◌, inl, inr, Option, Result, Ok, Err, IsErrAnd, err_from_is_err_and, Appends, AppendsFront, Appends-nil, History, StoreReply, RefineReply, FlushReply, Reply, Refusal, Mutator, Taker, MutatorSteps, FirstSteps, IsStopped, MakesAsked, Machinery, Makes, StoresAt, FlushesAt, RefinesAt, WorksAt, AnswersAt, Says, IsPlayed, IsDoneAndSaid, StandIf, StandStill, store_text, flush_text, refine_text, work_text, call_line, is_pause, Stop, WriteFailed, stop_of, At, at, IsCallPlayed}
 use Rattle.g1_core.specs.declared.entry.Call.{Call}
 use Rattle.g1_trace.specs.declared.command.Command.TheVariants as command
 
@@ -13,7 +13,7 @@ pub first_stepped : (Step : Taker → Taker → Type 0) (old new : Machinery) (b
 first_stepped Step old new before after own step takers line = record { before = before; after = after; there = omega (arith, old.callers.0, old.takers.ok.0); own = own; step = step; takers = takers; line = line }
 
 -- what each command comes to, by the step that it is
-pub stores : (by slot : ℕ) (target : Option ℕ) (old new : Machinery) (reply : StoreReply) → StoresAt old by slot target (Ok reply) new → Makes (command.Store by slot target) old new (Ok (store_text reply))
+pub stores : (by slot : ℕ) (target : Option ℕ) (old new : Machinery) (reply : StoreReply) → StoresAt old by (slot, target) (Ok reply) new → Makes (command.Store by slot target) old new (Ok (store_text reply))
 stores by slot target old new reply h = (reply, h, refl)
 
 pub flushes : (by : ℕ) (old new : Machinery) (reply : FlushReply) → FlushesAt old by reply new → Makes (command.Flush by) old new (Ok (flush_text reply))
@@ -65,11 +65,11 @@ says_as : {V : Type 0} (text : V → List ℕ) (P Q : Result V Refusal → Type 
 says_as text P Q (Ok said) f h = (h.0, f (Ok h.0) h.1, h.2)
 says_as text P Q (Err why) f h = f (Err why) h
 
-pub call_played : (call : Call) (old mid new : Machinery) (out out' : Option (List ℕ)) (r : Result (Unit {0}) Stop) → StandIf (is_pause call) old mid → mid.book ≡ old.book → new.mutators ≡ mid.mutators → new.takers ≡ mid.takers → new.line ≡ mid.line → IsCallPlayed call mid.book new.book out out' r
-    → IsPlayed (command.Call call) old new out out' r
-call_played call old mid new out out' r stand same m t l asked = (
+pub call_played : (call : Call) (old new : At Machinery) (mid : Machinery) (r : Result (Unit {0}) Stop) → StandIf (is_pause call) old.state mid → mid.book ≡ old.state.book → new.state.mutators ≡ mid.mutators → new.state.takers ≡ mid.takers → new.state.line ≡ mid.line
+    → IsCallPlayed call (at mid.book old.written) (at new.state.book new.written) r → IsPlayed (command.Call call) old new r
+call_played call old new mid r stand same m t l asked = (
   asked.0,
-  says_as (call_line call) (λ (r : Result Reply Refusal). MakesAsked true mid.book 0 call r new.book) (λ (r : Result Reply Refusal). AnswersAt call old r new) asked.0
-      (λ r made. record { stand = stand_on (is_pause call) old mid new m t l stand; asked = subst (λ (b : History). MakesAsked true b 0 call r new.book) same made }) asked.1,
+  says_as (call_line call) (λ (r : Result Reply Refusal). MakesAsked true mid.book 0 call r new.state.book) (λ (r : Result Reply Refusal). AnswersAt call old.state r new.state) asked.0
+      (λ r made. record { stand = stand_on (is_pause call) old.state mid new.state m t l stand; asked = subst (λ (b : History). MakesAsked true b 0 call r new.state.book) same made }) asked.1,
   asked.2,
 )

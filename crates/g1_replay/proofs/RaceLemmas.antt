@@ -1,6 +1,6 @@
 -- What a race writes.
 use Rattle.std.specs.Prelude.{◌≡◌, ◌++◌}
-use Rattle.g1_replay.specs.{ℕ, List, [], refl, subst, ap, Option, inl, inr, Result, Err, IfErr, count_by, Appends, Shape, Machine, Table, Ended, refs_of, table_of, Command, AppendsFront, stores_text, front_more, puts_none, puts_then, Stop, BookFull, WriteFailed, AreDrains, CoreDrained, drains, HasDrained, MayStop, Prints, written_by, HasRaced, RaceRan, is_store_command, IsTableLeftBy, IsUnstarted}
+use Rattle.g1_replay.specs.{ℕ, List, [], refl, subst, ap, Option, inl, inr, Result, Err, IfErr, count_by, Appends, Shape, Machine, Table, Ended, refs_of, table_of, Command, AppendsFront, stores_text, front_more, puts_none, puts_then, Stop, BookFull, WriteFailed, AreDrains, CoreDrained, drains, core_draining, at, HasDrained, MayStop, Prints, written_by, HasRaced, RaceRan, is_store_command, IsTableLeftBy, IsUnstarted}
 use Rattle.g1_replay.proofs.CoreDrainLemmas.{are_exact, from_itself}
 use Rattle.g1_replay.proofs.RanLemmas.{drains_alone, may_end}
 
@@ -27,7 +27,7 @@ module _ (e : Ended) (mutators : ℕ) (commands : List Command) (old : Machine) 
 
   -- the count was written, and drains behind it
   pub race_written : (new : Machine) (out mid_out out' : Option (List ℕ)) (r : Result (Unit {0}) Stop) → IfErr r MayStop → Appends out mid_out (stores_text (count_by is_store_command commands))
-      → HasDrained CoreDrained (λ m. ⊥) e.layout.regions old new mid_out out' r → (text : List ℕ) × RaceRan mutators e.layout commands r text × Prints out out' r text
+      → HasDrained core_draining e.layout.regions (at old mid_out) (at new out') r → (text : List ℕ) × RaceRan mutators e.layout commands r text × Prints out out' r text
   race_written new out mid_out out' r stops w d = (
     stores_text (count_by is_store_command commands) ++ d.text,
     (may_end r stops, d.filled, inr (d.drained, d.played.answers, raced new d.drained d.text d.played, drains_alone r stops, d.all, ap (λ t. stores_text (count_by is_store_command commands) ++ t) d.played.said)),

@@ -1,11 +1,11 @@
 -- What the jobs of a crew come to, by its book.
 use Rattle.std.specs.Prelude.{◌≡◌, ◌≢◌, ◌≤◌, ◌==◌, ◌++◌}
-use Rattle.g1_replay.specs.{ℕ, List, [], length, refl, sym, subst, ap, ◌∙◌, append-nil, Option, inl, inr, arith, Result, Ok, Err, IfErr, IfSome, cases_Bool, eqb-true, count_by, Shape, opening, Entry, IsPermitted, is_store, History, IsHistory, BookTerms, Refusal, Command, is_store_command, layout_in, AppendsFront, stores_text, front_more, puts_none, puts_then, Stop, BookFull, NoThread, WriteFailed, CrewRan, CrewDrained, AreOfCallers, Options, Some, None, crew_stop, drains, HasDrained, played_none, entries_of, HasPlayed, IsBookFull, MayStop, Prints, written_by, IsRunEnd, IsUnstarted, Appends}
+use Rattle.g1_replay.specs.{ℕ, List, [], length, refl, sym, subst, ap, ◌∙◌, append-nil, Option, inl, inr, arith, Result, Ok, Err, IfErr, IfSome, cases_Bool, eqb-true, count_by, Shape, opening, Entry, IsPermitted, is_store, History, IsHistory, BookTerms, Refusal, Command, is_store_command, layout_in, AppendsFront, stores_text, front_more, puts_none, puts_then, Stop, BookFull, NoThread, WriteFailed, CrewRan, CrewDrained, crew_book, AreOfCallers, Options, Some, None, crew_stop, drains, book_draining, at, HasDrained, played_none, entries_of, HasPlayed, IsBookFull, MayStop, Prints, written_by, IsRunEnd, IsUnstarted, Appends}
 use Rattle.g1_history.specs.declared.refusal.Refusal.TheVariants as refusal
 
 -- a book with drains behind it is a run, and its text counts the stores in front of them
 ran_book : (asked : List Command) (old new : History) (k : ℕ) (r : Result (Unit {0}) Stop) (text : List ℕ) → count_by is_store old.entries ≡ count_by is_store_command asked → HasPlayed old (drains k) text new → IsHistory new → IsRunEnd r → r ≢ Err NoThread → (r ≡ Err BookFull → IsBookFull new) → (r ≡ Ok tt → k ≡ (layout_in old).regions)
-    → CrewDrained old.limit (layout_in old) None old.entries asked r (stores_text (count_by is_store old.entries) ++ text)
+    → CrewDrained (crew_book old.limit (layout_in old) None old.entries) asked r (stores_text (count_by is_store old.entries) ++ text)
 ran_book asked old new k r text many p h ends alone full all =
     let es : new.entries ≡ old.entries ++ entries_of p.pieces = p.grows.entries in
     let most : new.limit ≡ old.limit = ap (λ (t : BookTerms). t.limit) p.grows.terms in
@@ -33,13 +33,13 @@ drains_alone r h e = subst (λ r. IfErr r MayStop) e h
 
 -- the count could not be written
 pub stores_failed : (asked : List Command) (h : History) (out out' : Option (List ℕ)) → IsHistory h → count_by is_store h.entries ≡ count_by is_store_command asked → AppendsFront out out' (stores_text (count_by is_store h.entries))
-    → (text : List ℕ) × CrewDrained h.limit (layout_in h) None h.entries asked (Err WriteFailed) text × Prints {V = Unit {0}} out out' (Err WriteFailed) text
+    → (text : List ℕ) × CrewDrained (crew_book h.limit (layout_in h) None h.entries) asked (Err WriteFailed) text × Prints {V = Unit {0}} out out' (Err WriteFailed) text
 stores_failed asked h out out' history many w =
     (stores_text (count_by is_store h.entries) ++ [], ran_book asked h h 0 (Err WriteFailed) [] many (played_none h) history (inr tt) (λ e. cc) (λ e. cc) (λ e. cc), front_more out out' (stores_text (count_by is_store h.entries)) [] w)
 
 -- the count was written, and drains behind it
 pub book_written : (asked : List Command) (old new : History) (out mid_out out' : Option (List ℕ)) (r : Result (Unit {0}) Stop) → IfErr r MayStop → IsHistory new → count_by is_store old.entries ≡ count_by is_store_command asked → Appends out mid_out (stores_text (count_by is_store old.entries))
-    → HasDrained HasPlayed IsBookFull (layout_in old).regions old new mid_out out' r → (text : List ℕ) × CrewDrained old.limit (layout_in old) None old.entries asked r text × Prints out out' r text
+    → HasDrained book_draining (layout_in old).regions (at old mid_out) (at new out') r → (text : List ℕ) × CrewDrained (crew_book old.limit (layout_in old) None old.entries) asked r text × Prints out out' r text
 book_written asked old new out mid_out out' r stops history many w d =
     (stores_text (count_by is_store old.entries) ++ d.text, ran_book asked old new d.drained r d.text many d.played history (may_end r stops) (drains_alone r stops) d.filled d.all, puts_then out mid_out out' (written_by r) (stores_text (count_by is_store old.entries)) d.text w d.written)
 
@@ -53,7 +53,7 @@ stopped_by (Some why) made history stop text none h = (ap (λ (s : Stop). ends_w
 
 -- nothing was drained
 stopped_with : (asked : List Command) (l : Shape) (history : ℕ) (refused : Option Refusal) (entries : List Entry) (stop : Stop) → IsRunEnd (Err stop) → IsPermitted (opening l) entries → length entries ≤ history → (stop ≡ BookFull → length entries ≡ history)
-    → IfSome refused (λ why. stop ≡ crew_stop (length entries) history why) → CrewDrained history l refused entries asked (Err stop) []
+    → IfSome refused (λ why. stop ≡ crew_stop (length entries) history why) → CrewDrained (crew_book history l refused entries) asked (Err stop) []
 stopped_with asked l history refused entries stop ends permitted within full why = record {
   drained = 0;
   pieces = [];
@@ -77,7 +77,7 @@ crew_may made history refusal.BookFull = elim (cases_Bool (made == history)) [
 
 -- a job was refused
 pub job_refused : (asked : List Command) (h : History) (refused : Refusal) (out : Option (List ℕ)) → IsHistory h
-    → (text : List ℕ) × CrewDrained h.limit (layout_in h) (Some refused) h.entries asked (Err (crew_stop (length h.entries) h.limit refused)) text × Prints {V = Unit {0}} out out (Err (crew_stop (length h.entries) h.limit refused)) text
+    → (text : List ℕ) × CrewDrained (crew_book h.limit (layout_in h) (Some refused) h.entries) asked (Err (crew_stop (length h.entries) h.limit refused)) text × Prints {V = Unit {0}} out out (Err (crew_stop (length h.entries) h.limit refused)) text
 job_refused asked h refused out history =
     let may = crew_may (length h.entries) h.limit refused in
     let stop = crew_stop (length h.entries) h.limit refused in
@@ -98,5 +98,5 @@ not_started asked o l stop out h = (
 
 -- the jobs came back, and what they left was drained
 pub crew_ran : (asked : List Command) (o : Options) (l : Shape) (refused : Option Refusal) (entries : List Entry) (out out' : Option (List ℕ)) (r : Result (Unit {0}) Stop) → AreOfCallers o asked refused entries
-    → (text : List ℕ) × CrewDrained o.history l refused entries asked r text × Prints out out' r text → (text : List ℕ) × CrewRan o l asked r text × Prints out out' r text
+    → (text : List ℕ) × CrewDrained (crew_book o.history l refused entries) asked r text × Prints out out' r text → (text : List ℕ) × CrewRan o l asked r text × Prints out out' r text
 crew_ran asked o l refused entries out out' r made d = (d.0, record { refused = refused; entries = entries; made = inr made; ended = d.1 }, d.2)

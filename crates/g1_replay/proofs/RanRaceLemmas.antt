@@ -1,6 +1,6 @@
 -- What the members of a race have stored once its jobs were run.
 use Rattle.std.specs.Prelude.{◌≡◌, ◌<◌, ◌≤◌, ◌+◌, ◌∷◌}
-use Rattle.g1_replay.specs.{ℕ, get_or-map, suc, List, [], length, map, ap, sym, subst, ◌∙◌, refl, arith, true, false, append-nil, Option, Some, None, inl, inr, Result, Ok, Err, All, sum_by, filter_map, AllZip, option_or, true≢false, false≢true, le-ltb, lt-ltb, All-nil, All-cons, sum_by-cons, Line, View, StoreHistory, In, histories_of, Among, racer_view, Job, Script, Mutate, Refine, Refusal, Step, Ask, asks_in, asks_of, JobRan, Ran, Member, Racing, Sweeping, IsMemberOf, MemberDid, histories_after, member_rights, AllFrom, IsRaceJob, racer_in, first_refusal, refusal_in}
+use Rattle.g1_replay.specs.{ℕ, get_or-map, suc, List, [], length, map, ap, sym, subst, ◌∙◌, refl, arith, true, false, append-nil, Option, Some, None, inl, inr, Result, Ok, Err, All, sum_by, filter_map, AllZip, option_or, true≢false, false≢true, le-ltb, lt-ltb, All-nil, All-cons, sum_by-cons, Line, View, StoreHistory, In, histories_of, Among, racer_view, Job, Script, Mutate, Refine, Refusal, Step, Ask, asks_in, asks_of, JobRan, Ran, Member, Racing, Sweeping, IsMemberOf, MemberDid, histories_after, member_rights, AllFrom, IsNewMember, with_flush, IsScriptAt, racer_in, first_refusal, refusal_in}
 use native.Mathlib.Decide.{ℕ_discrete}
 use Rattle.std.proofs.lemmas.List.{nil_from_length}
 use Rattle.g1_race.specs.declared.race.Race.{Race}
@@ -13,22 +13,22 @@ HasRun mutators own k (Racing r s) = (k < mutators) × ((number : ℕ) × ((race
 HasRun mutators own k (Sweeping w t) = mutators ≤ k
 
 module _ {E : Type 0} (steps : E → List Step) (race : Race) (line : Line) (mutators rounds : ℕ) (scripts : List E) (len : length scripts ≡ mutators) where
-  run_of : (k : ℕ) (m n : Member) (script : Script) → IsRaceJob steps race line mutators rounds scripts k m script → MemberDid m (asks_in script) n → HasRun mutators (stored_at steps scripts) k n
+  run_of : (k : ℕ) (m n : Member) (script : Script) → IsNewMember race line mutators k m × IsScriptAt (with_flush steps) rounds scripts k script → MemberDid m (asks_in script) n → HasRun mutators (stored_at steps scripts) k n
   run_of k (Racing r s) (Racing r' s') (Mutate made) j d =
-      let number = j.new.fresh.0 in
-      let own = j.script.0 in
-      let here : steps_at steps scripts k ≡ steps own = get_or-map steps scripts k own [] j.script.1 ∙ ap steps (j.script.2 own) in (
-        subst (λ n. k < n) len j.script.1,
+      let number = j.0.fresh.0 in
+      let own = j.1.0 in
+      let here : steps_at steps scripts k ≡ steps own = get_or-map steps scripts k own [] j.1.1 ∙ ap steps (j.1.2 own) in (
+        subst (λ n. k < n) len j.1.1,
         (
           number,
-          d.stored ∙ ap (λ hs. histories_after (asks_of made.items) hs) j.new.fresh.1 ∙ one_history (asks_of made.items) number []
+          d.stored ∙ ap (λ hs. histories_after (asks_of made.items) hs) j.0.fresh.1 ∙ one_history (asks_of made.items) number []
               ∙ ap (λ (l : List (ℕ × ℕ)). (number, l) ∷ [])
-              (append-nil (stored_by (asks_of made.items)) ∙ ap (λ (ss : List Step). stored_by (asks_of ss)) j.script.3 ∙ flush_stores_none (steps own) ∙ ap (λ (ss : List Step). stored_by (asks_of ss)) (sym here)),
+              (append-nil (stored_by (asks_of made.items)) ∙ ap (λ (ss : List Step). stored_by (asks_of ss)) j.1.3 ∙ flush_stores_none (steps own) ∙ ap (λ (ss : List Step). stored_by (asks_of ss)) (sym here)),
         ),
       )
-  run_of k (Sweeping w t) (Sweeping w' t') (Refine made) j d = subst (λ n. n ≤ k) len j.script.0
-  run_of k (Racing r s) (Racing r' s') (Refine made) j d = absurd (true≢false (j.new.kind ∙ le-ltb k mutators (subst (λ n. n ≤ k) len j.script.0)))
-  run_of k (Sweeping w t) (Sweeping w' t') (Mutate made) j d = absurd (false≢true (j.new.kind ∙ lt-ltb k mutators (subst (λ n. k < n) len j.script.1)))
+  run_of k (Sweeping w t) (Sweeping w' t') (Refine made) j d = subst (λ n. n ≤ k) len j.1.0
+  run_of k (Racing r s) (Racing r' s') (Refine made) j d = absurd (true≢false (j.0.kind ∙ le-ltb k mutators (subst (λ n. n ≤ k) len j.1.0)))
+  run_of k (Sweeping w t) (Sweeping w' t') (Mutate made) j d = absurd (false≢true (j.0.kind ∙ lt-ltb k mutators (subst (λ n. k < n) len j.1.1)))
   run_of k (Racing r s) (Sweeping w' t') script j d = let bad : false ≡ true = d.kind in cc
   run_of k (Sweeping w t) (Racing r' s') script j d = let bad : true ≡ false = d.kind in cc
 
@@ -58,7 +58,7 @@ module _ {D : Type 0} (member : D → Member) where
     pub len : length (map (λ job. member job.desk) ds) ≡ length (map (λ job. member job.desk) js)
 
   module _ {E : Type 0} (steps : E → List Step) (race : Race) (line : Line) (mutators rounds : ℕ) (scripts : List E) (many : length scripts ≡ mutators) where
-    pub are_run : (k : ℕ) (js ds : List (Job D)) → AllFrom (λ i job. IsRaceJob steps race line mutators rounds scripts i (member job.desk) job.script) k js → AllZip (JobRan Did) js ds → first_refusal (map (λ job. job.outcome) ds) ≡ None → AreRun race line mutators (stored_at steps scripts) k js ds
+    pub are_run : (k : ℕ) (js ds : List (Job D)) → AllFrom (λ i job. IsNewMember race line mutators i (member job.desk) × IsScriptAt (with_flush steps) rounds scripts i job.script) k js → AllZip (JobRan Did) js ds → first_refusal (map (λ job. job.outcome) ds) ≡ None → AreRun race line mutators (stored_at steps scripts) k js ds
     are_run k [] [] all r none = record { run = tt; of = All-nil (IsMemberOf race line); rights = refl; len = refl }
     are_run k (x ∷ xs) (y ∷ ys) all r none =
         let first = none_first (refusal_in y.outcome) (first_refusal (map (λ job. job.outcome) ys)) none in
@@ -68,7 +68,7 @@ module _ {D : Type 0} (member : D → Member) where
         let ns = map (λ (job : Job D). member job.desk) ys in
         record {
           run = (run_of steps race line mutators rounds scripts many k (member x.desk) (member y.desk) x.script all.0 did, rest.run);
-          of = All-cons (IsMemberOf race line) (member y.desk) ns (did.race ∙ all.0.new.of.0, did.home ∙ all.0.new.of.1, did.start ∙ all.0.new.of.2) rest.of;
+          of = All-cons (IsMemberOf race line) (member y.desk) ns (did.race ∙ all.0.0.of.0, did.home ∙ all.0.0.of.1, did.start ∙ all.0.0.of.2) rest.of;
           rights = omega (arith, did.rights, rest.rights, sum_by-cons member_rights (member x.desk) ms, sum_by-cons member_rights (member y.desk) ns);
           len = ap suc rest.len;
         }

@@ -1,6 +1,6 @@
 -- Lines that were read: one, and one after another.
 use Rattle.std.specs.Prelude.{◌≡◌, ◌≢◌, ◌+◌, ◌<◌, ◌≤◌, ◌∷◌, ◌++◌}
-use Rattle.g1_replay.specs.{ℕ, List, [], refl, length, take, sym, ap, ◌∙◌, subst, arith, append_assoc, append-nil, Option, Some, None, true, false, rules, Bool, Result, Ok, Err, nat_lt, option_to_list, zero, suc, Consumes-nil, Consumes-trans, ne_eqb, length-append, Consumes, IsAtEnd, Shape, Command, Dialect, TraceFault, TooLong, Cut, NoHeader, read_command, read_on, read_line, after_line, at_end, before, faulty, IsPart, Stop, Fault, ReadFailed, ReadsLine, IsLeftToRead, Reads}
+use Rattle.g1_replay.specs.{ℕ, List, [], refl, length, take, sym, ap, ◌∙◌, subst, arith, append_assoc, append-nil, Option, Some, None, true, false, rules, Bool, Result, Ok, Err, nat_lt, option_to_list, zero, suc, Consumes-nil, Consumes-trans, ne_eqb, length-append, Consumes, IsAtEnd, Shape, Command, Dialect, TraceFault, TooLong, Cut, NoHeader, read_command, read_on, read_line, after_line, at_end, before, faulty, IsPart, Stop, Fault, ReadFailed, ReadsLine, IsLeftToRead, Reads, Place, place}
 use Rattle.g1_trace.specs.Plain.{IsLineBefore}
 
 -- bytes of one line
@@ -37,7 +37,7 @@ left_none None x e h = absurd h
 left_none (Some left) x e h = h ∙ e
 
 -- a line that was not read to its end, or is too long
-pub line_stopped : (d : Dialect) (heap : Option Shape) (n : ℕ) (rd rd' : Option (List ℕ)) (stop : Stop) (line : List ℕ) → ReadsLine rd rd' (Err stop) line → Reads d heap n n rd rd' heap [] (Err stop)
+pub line_stopped : (d : Dialect) (heap : Option Shape) (n : ℕ) (rd rd' : Option (List ℕ)) (stop : Stop) (line : List ℕ) → ReadsLine rd rd' (Err stop) line → Reads d (place heap n rd) (place heap n rd') [] (Err stop)
 line_stopped d heap n rd rd' (Fault TooLong) line h =
     record { lines = []; rest = line ++ h.0 ∷ []; consumed = h.1; passed = λ x. refl; met = λ x _. line_too_long line d heap n h.0 h.3 h.4 h.2 x }
 line_stopped d heap n rd rd' (Fault Cut) line h =
@@ -47,15 +47,15 @@ line_stopped d heap n rd rd' ReadFailed line h = record { lines = []; rest = lin
 line_stopped d heap n rd rd' stop line h = absurd h
 
 -- no line, before the header and behind it
-pub no_header : (d : Dialect) (n : ℕ) (rd rd' : Option (List ℕ)) (line : List ℕ) → ReadsLine rd rd' (Ok false) line → Reads d None n n rd rd' None [] (Err (Fault NoHeader))
+pub no_header : (d : Dialect) (n : ℕ) (rd rd' : Option (List ℕ)) (line : List ℕ) → ReadsLine rd rd' (Ok false) line → Reads d (place None n rd) (place None n rd') [] (Err (Fault NoHeader))
 no_header d n rd rd' line h = record { lines = []; rest = []; consumed = h.0; passed = λ x. refl; met = λ x e. ap (λ w. read_on d None n [] w) (left_none rd' x h.1 e) }
 
-pub no_line : (d : Dialect) (l : Shape) (n : ℕ) (rd rd' : Option (List ℕ)) (line : List ℕ) → ReadsLine rd rd' (Ok false) line → Reads d (Some l) n n rd rd' (Some l) [] (Ok false)
+pub no_line : (d : Dialect) (l : Shape) (n : ℕ) (rd rd' : Option (List ℕ)) (line : List ℕ) → ReadsLine rd rd' (Ok false) line → Reads d (place (Some l) n rd) (place (Some l) n rd') [] (Ok false)
 no_line d l n rd rd' line h = record { lines = []; rest = []; consumed = h.0; passed = λ x. refl; met = (refl, h.1, refl) }
 
 -- a whole line without a fault
 pub line_read : (d : Dialect) (heap opened : Option Shape) (n : ℕ) (rd rd' : Option (List ℕ)) (line : List ℕ) (cs : List Command)
-    → ReadsLine rd rd' (Ok true) line → Ok (opened, cs) ≡ read_line d heap line → Reads d heap n (n + 1) rd rd' opened cs (Ok true)
+    → ReadsLine rd rd' (Ok true) line → Ok (opened, cs) ≡ read_line d heap line → Reads d (place heap n rd) (place opened (n + 1) rd') cs (Ok true)
 line_read d heap opened n rd rd' line cs h e = record {
   lines = line ++ 10 ∷ [];
   rest = [];
@@ -65,7 +65,7 @@ line_read d heap opened n rd rd' line cs h e = record {
 }
 
 pub command_read : (d : Dialect) (l : Shape) (n : ℕ) (rd rd' : Option (List ℕ)) (line : List ℕ) (o : Option Command) → ReadsLine rd rd' (Ok true) line → Ok o ≡ read_command l d line
-    → Reads d (Some l) n (n + 1) rd rd' (Some l) (option_to_list o) (Ok true)
+    → Reads d (place (Some l) n rd) (place (Some l) (n + 1) rd') (option_to_list o) (Ok true)
 command_read d l n rd rd' line o h e = line_read d (Some l) (Some l) n rd rd' line (option_to_list o) h (rw (← e) refl)
 
 -- a line has a byte at least, its line feed
@@ -75,12 +75,12 @@ takes_some (suc n) bytes line e = omega arith
 
 -- a line at the front of what a reader shows
 pub shown_read : (d : Dialect) (l : Shape) (n : ℕ) (rd rd' : Option (List ℕ)) (shown : List ℕ) (c : Command) (count : ℕ) → IsLineBefore l d shown c count → Consumes rd rd' (take count shown)
-    → Reads d (Some l) n (n + 1) rd rd' (Some l) (c ∷ []) (Ok true)
+    → Reads d (place (Some l) n rd) (place (Some l) (n + 1) rd') (c ∷ []) (Ok true)
 shown_read d l n rd rd' shown c count p moved = command_read d l n rd rd' p.line (Some c) (subst (Consumes rd rd') p.front moved, p.part, p.short) p.asks
 
 -- a whole line with a fault
 pub line_faulty : (d : Dialect) (heap : Option Shape) (n : ℕ) (rd rd' : Option (List ℕ)) (line : List ℕ) (f : TraceFault) → ReadsLine rd rd' (Ok true) line → Err f ≡ read_line d heap line
-    → Reads d heap n n rd rd' heap [] (Err (Fault f))
+    → Reads d (place heap n rd) (place heap n rd') [] (Err (Fault f))
 line_faulty d heap n rd rd' line f h e = record {
   lines = [];
   rest = line ++ 10 ∷ [];
@@ -90,21 +90,20 @@ line_faulty d heap n rd rd' line f h e = record {
 }
 
 pub command_faulty : (d : Dialect) (l : Shape) (n : ℕ) (rd rd' : Option (List ℕ)) (line : List ℕ) (f : TraceFault) → ReadsLine rd rd' (Ok true) line → Err f ≡ read_command l d line
-    → Reads d (Some l) n n rd rd' (Some l) [] (Err (Fault f))
+    → Reads d (place (Some l) n rd) (place (Some l) n rd') [] (Err (Fault f))
 command_faulty d l n rd rd' line f h e = line_faulty d (Some l) n rd rd' line f h (rw (← e) refl)
 
 -- lines, and then more
-pub reads_none : (d : Dialect) (heap : Option Shape) (n : ℕ) (rd : Option (List ℕ)) → Reads d heap n n rd rd heap [] (Ok true)
-reads_none d heap n rd = record { lines = []; rest = []; consumed = Consumes-nil rd; passed = λ x. refl; met = refl }
+pub reads_none : (d : Dialect) (p : Place) → Reads d p p [] (Ok true)
+reads_none d p = record { lines = []; rest = []; consumed = Consumes-nil p.left; passed = λ x. refl; met = refl }
 
-pub reads_then : (d : Dialect) (a b c : Option Shape) (n n' n2 : ℕ) (rd rd' rd2 : Option (List ℕ)) (cs ds : List Command) (r : Result Bool Stop)
-    → Reads d a n n' rd rd' b cs (Ok true) → Reads d b n' n2 rd' rd2 c ds r → Reads d a n n2 rd rd2 c (cs ++ ds) r
-reads_then d a b c n n' n2 rd rd' rd2 cs ds r p q = record {
+pub reads_then : (d : Dialect) (a b c : Place) (cs ds : List Command) (r : Result Bool Stop) → Reads d a b cs (Ok true) → Reads d b c ds r → Reads d a c (cs ++ ds) r
+reads_then d a b c cs ds r p q = record {
   lines = p.lines ++ q.lines;
   rest = q.rest;
-  consumed = subst (λ (w : List ℕ). Consumes rd rd2 w) (ap (λ w. (p.lines ++ w) ++ (q.lines ++ q.rest)) p.met ∙ ap (λ w. w ++ (q.lines ++ q.rest)) (append-nil p.lines) ∙ sym (append_assoc p.lines q.lines q.rest))
-      (Consumes-trans rd rd' rd2 (p.lines ++ p.rest) (q.lines ++ q.rest) p.consumed q.consumed);
-  passed = λ x. ap (λ w. read_on d a n [] w) (append_assoc p.lines q.lines x) ∙ p.passed (q.lines ++ x) ∙ ap (before cs) (q.passed x)
-      ∙ ap (λ (w : List Command). record { heap = (read_on d c n2 [] x).heap; commands = w; fault = (read_on d c n2 [] x).fault }) (sym (append_assoc cs ds _));
+  consumed = subst (λ (w : List ℕ). Consumes a.left c.left w) (ap (λ w. (p.lines ++ w) ++ (q.lines ++ q.rest)) p.met ∙ ap (λ w. w ++ (q.lines ++ q.rest)) (append-nil p.lines) ∙ sym (append_assoc p.lines q.lines q.rest))
+      (Consumes-trans a.left b.left c.left (p.lines ++ p.rest) (q.lines ++ q.rest) p.consumed q.consumed);
+  passed = λ x. ap (λ w. read_on d a.heap a.number [] w) (append_assoc p.lines q.lines x) ∙ p.passed (q.lines ++ x) ∙ ap (before cs) (q.passed x)
+      ∙ ap (λ (w : List Command). record { heap = (read_on d c.heap c.number [] x).heap; commands = w; fault = (read_on d c.heap c.number [] x).fault }) (sym (append_assoc cs ds _));
   met = q.met;
 }

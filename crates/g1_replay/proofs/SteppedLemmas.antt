@@ -1,13 +1,11 @@
 -- What the steps of commands come to: the calls that were entered, their line, and what may be played next.
 use Rattle.std.specs.Prelude.{◌≡◌, ◌≤◌, ◌∷◌, ◌++◌}
-use Rattle.g1_replay.specs.{ℕ, List, [], Bool, true, false, refl, sym, ap, subst, ◌∙◌, append-nil, arith, length, length-set, set, inl, inr, IfErr, MayStop, IsSaid, stop_of, Grows, grows_none, Mutator, Options, IsNewMachinery, dialect_in, Option, Result, Ok, Err, OnOk, vec_len, capacity_of, History, BookTerms, layout_in, Shape, Dialect, Command, Machinery, StoreReply, RefineReply, FlushReply, Reply, Refusal, CallsBy, StoresAt, RefinesAt, WorksAt, StandIf, Makes, Says, AnswersAt, store_text, flush_text, refine_text, work_text, call_line, is_pause, AreMade, WasRefused, StepsThrough, IsPlayed, IsReady, IsBookFull, HasPlayed, Does, Stop, played_none, played_then, more_may_come}
-use Rattle.g1_core.specs.declared.entry.Call.{Call}
+use Rattle.g1_replay.specs.{ℕ, List, [], Bool, true, false, refl, sym, ap, subst, ◌∙◌, append-nil, arith, length, length-set, set, inl, inr, IfErr, MayStop, IsSaid, stop_of, Grows, grows_none, Mutator, Result, Ok, Err, OnOk, vec_len, capacity_of, BookTerms, Shape, Dialect, Command, Machinery, StoreReply, RefineReply, FlushReply, Reply, Refusal, CallsBy, StoresAt, RefinesAt, WorksAt, StandIf, Makes, Says, AnswersAt, store_text, flush_text, refine_text, work_text, call_line, is_pause, AreMade, WasRefused, StepsThrough, IsPlayed, stepping, At, HasPlayed, Does, Stop, played_none, played_then, more_may_come}
 use Rattle.g1_history.specs.declared.refusal.Refusal.TheVariants.{NoMemory, BookFull}
 use Rattle.g1_trace.specs.declared.command.Command.TheVariants as command
 use Rattle.g1_steps.specs.Steps.{IsFlushed}
 use Rattle.g1_steps.specs.Rounds.{IsRefused}
 use Rattle.g1_log.specs.declared.parcel.Parcel.{Parcel}
-use Rattle.g1_trace.specs.declared.mode.Mode.{Mode}
 use Rattle.g1_replay.proofs.AnswerLemmas.{IsDone, IsPlayRefused, call_says, call_refused, flush_made, flush_nothing, nothing_played, played_by, refine_made, store_made, work_made}
 use Rattle.g1_replay.proofs.PlayingLemmas.{CameTo, does_said, said_stops}
 
@@ -70,7 +68,7 @@ either_said text P (Err why) h = (Err why, h)
 
 makes_manned : (c : Command) (old new : Machinery) (said : Result (List ℕ) Refusal) → Makes c old new said → IsManned old new
 makes_manned (command.Store by slot target) old new said m =
-    let s = either_said store_text (λ (r : Result StoreReply Refusal). StoresAt old by slot target r new) said m in
+    let s = either_said store_text (λ (r : Result StoreReply Refusal). StoresAt old by (slot, target) r new) said m in
     set_manned old new by s.1.after s.1.mutators s.1.line
 makes_manned (command.Flush by) old new said m = set_manned old new by m.1.after m.1.mutators m.1.line
 makes_manned command.Refine old new said m =
@@ -110,33 +108,28 @@ stepped_played old new done undone text room s =
     subst (λ (cs : List Command). HasPlayed old.book cs text new.book) (append-nil done) (subst (λ (l : List ℕ). HasPlayed old.book (done ++ []) l new.book) (append-nil text) both)
 
 -- what one command comes to
-came : (c : Command) (old new : Machinery) (said : Result (List ℕ) Refusal) → Makes c old new said → CameTo StepsThrough (λ m. IsBookFull m.book) c old said new
+came : (c : Command) (old new : Machinery) (said : Result (List ℕ) Refusal) → Makes c old new said → CameTo stepping.deeds c old said new
 came c old new (Ok text) m = record { reached = new; made = (new, text, [], m, (refl, refl), sym (append-nil text)); refused = refl }
 came c old new (Err why) m = (record { reached = old; made = (refl, refl); refused = (why, m) }, (makes_refused c old new why m).1)
 
-pub played_does : (c : Command) (old new : Machinery) (out out' : Option (List ℕ)) (r : Result (Unit {0}) Stop) → IsPlayed c old new out out' r → Does StepsThrough (λ m. IsBookFull m.book) (c ∷ []) old new out out' (more_may_come r)
-played_does c old new out out' r p = does_said StepsThrough (λ m. IsBookFull m.book) c old new out out' p.0 r (came c old new p.0 p.1) p.2
+pub played_does : (c : Command) (old new : At Machinery) (r : Result (Unit {0}) Stop) → IsPlayed c old new r → Does stepping.deeds (c ∷ []) old new (more_may_come r)
+played_does c old new r p = does_said stepping.deeds c old new p.0 r (came c old.state new.state p.0 p.1) p.2
 
-pub played_stops : (c : Command) (old new : Machinery) (out out' : Option (List ℕ)) (r : Result (Unit {0}) Stop) → IsPlayed c old new out out' r → IfErr r MayStop
-played_stops c old new out out' r p = said_stops p.0 out out' r p.2
+pub played_stops : (c : Command) (old new : At Machinery) (r : Result (Unit {0}) Stop) → IsPlayed c old new r → IfErr r MayStop
+played_stops c old new r p = said_stops p.0 old.written new.written r p.2
 
 -- after a command that was answered comes the next
-ready_next : (c : Command) (old new : Machinery) (text : List ℕ) (l : Shape) (d : Dialect) → Makes c old new (Ok text) → IsReady old.book (vec_len old.mutators) old.line l d → IsReady new.book (vec_len new.mutators) new.line l d
+ready_next : (c : Command) (old new : Machinery) (text : List ℕ) (l : Shape) (d : Dialect) → Makes c old new (Ok text) → stepping.takes old l d → stepping.takes new l d
 ready_next c old new text l d m ready =
     let one = makes_done c old new text ready.4 m in
     let manned = makes_manned c old new (Ok text) m in
     let terms = one.1.terms in
     (ap (λ (t : BookTerms). t.layout) terms ∙ ready.0, ap (λ (t : BookTerms). t.mutators) terms ∙ ready.1, manned.0 ∙ ready.2, ready.3, same_room old new c text manned one ready.4)
 
-pub played_ready : (c : Command) (old new : Machinery) (out out' : Option (List ℕ)) (r : Result (Unit {0}) Stop) (l : Shape) (d : Dialect) → IsPlayed c old new out out' r → IsReady old.book (vec_len old.mutators) old.line l d → OnOk r (IsReady new.book (vec_len new.mutators) new.line l d)
-played_ready c old new out out' (Err stop) l d p ready = tt
-played_ready c old new out out' (Ok done) l d p ready = by_said p.0 p.1 p.2
+pub played_ready : (c : Command) (old new : At Machinery) (r : Result (Unit {0}) Stop) (l : Shape) (d : Dialect) → IsPlayed c old new r → stepping.takes old.state l d → OnOk r (stepping.takes new.state l d)
+played_ready c old new (Err stop) l d p ready = tt
+played_ready c old new (Ok done) l d p ready = by_said p.0 p.1 p.2
   where
-    by_said : (said : Result (List ℕ) Refusal) → Makes c old new said → IsSaid said out out' (Ok done) → IsReady new.book (vec_len new.mutators) new.line l d
-    by_said (Ok text) m s = ready_next c old new text l d m ready
+    by_said : (said : Result (List ℕ) Refusal) → Makes c old.state new.state said → IsSaid said old.written new.written (Ok done) → stepping.takes new.state l d
+    by_said (Ok text) m s = ready_next c old.state new.state text l d m ready
     by_said (Err why) m s = let never : Ok done ≡ Err (stop_of why) = s.0 in cc
-
--- a machinery as it is opened is ready
-pub new_ready : (l : Shape) (o : Options) (mode : Mode) (m : Machinery) → 1 ≤ o.mutators → IsNewMachinery l o m → IsReady m.book (vec_len m.mutators) m.line l (dialect_in mode o)
-new_ready l o mode m some new =
-    (ap layout_in new.book, ap (λ (b : History). b.mutators) new.book, new.many, some, new.capacity ∙ sym (ap (λ (b : History). b.machine.settings.limit) new.book))

@@ -1,6 +1,6 @@
 -- From what was read and played to the text of a permitted run.
 use Rattle.std.specs.Prelude.{◌≡◌, ◌≢◌, ◌≤◌, ◌++◌, ◌⊎◌}
-use Rattle.g1_replay.specs.{Bool, ℕ, List, [], refl, length, sym, ap, ◌∙◌, subst, arith, Option, Some, None, true, Result, Ok, Err, IfErr, IfSome, IfNone, Shape, opening, Entry, IsPermitted, History, IsHistory, BookTerms, layout_in, Command, Dialect, Options, Stop, Fault, NoMemory, BookFull, NoThread, Told, PrintsSome, written_by, puts_none, ⊎_elim, end_met, AreSetBy, entries_of, IsNewMachinery, Machinery, StepsThrough, IsBookFull, Follows, inl, inr, MayStop, Prints, IsReadStop, Reads, Commands}
+use Rattle.g1_replay.specs.{Bool, ℕ, List, [], refl, length, sym, ap, ◌∙◌, subst, arith, Option, Some, None, true, Result, Ok, Err, IfErr, IfSome, IfNone, Shape, opening, Entry, IsPermitted, History, IsHistory, BookTerms, layout_in, Command, Dialect, Options, Stop, Fault, NoMemory, BookFull, NoThread, Told, PrintsSome, written_by, puts_none, ⊎_elim, end_met, AreSetBy, entries_of, IsNewMachinery, Machinery, stepping, Scene, Follows, inl, inr, MayStop, Prints, IsReadStop, Reads, place, Spot, spot, with_heap, dialect_in, Run}
 use Rattle.g1_replay.proofs.PlayingLemmas.{none_undone}
 use Rattle.g1_replay.proofs.ReadingLemmas.{reads_then}
 use Rattle.g1_replay.proofs.SteppedLemmas.{stepped_played}
@@ -17,8 +17,8 @@ nothing_permitted None = tt
 nothing_permitted (Some l) = tt
 
 -- nothing was done
-pub told_nothing : (d : Dialect) (o : Options) (n n' : ℕ) (rd rd' out : Option (List ℕ)) (heap : Option Shape) (stop : Stop) → stop ≢ NoThread → stop ≢ BookFull → Reads d None n n' rd rd' heap [] (Err stop) → PrintsSome (Told d o n n' rd rd') out out (Err stop)
-told_nothing d o n n' rd rd' out heap stop no_thread no_book read = (
+pub told_nothing : (o : Options) (old new : Spot) (out : Option (List ℕ)) (heap : Option Shape) (stop : Stop) → stop ≢ NoThread → stop ≢ BookFull → Reads (dialect_in Run o) (with_heap None old) (with_heap heap new) [] (Err stop) → PrintsSome (Told o old new) out out (Err stop)
+told_nothing o old new out heap stop no_thread no_book read = (
   [],
   record {
     heap = heap;
@@ -38,13 +38,13 @@ told_nothing d o n n' rd rd' out heap stop no_thread no_book read = (
 )
 
 -- a trace without a header
-pub head_told : (d : Dialect) (o : Options) (n n' : ℕ) (rd rd' out : Option (List ℕ)) (stop : Stop) → IsReadStop stop → Reads d None n n' rd rd' None [] (Err stop) → PrintsSome (Told d o n n' rd rd') out out (Err stop)
-head_told d o n n' rd rd' out stop h read = told_nothing d o n n' rd rd' out None stop (λ e. subst IsReadStop e h) (λ e. subst IsReadStop e h) read
+pub head_told : (o : Options) (old new : Spot) (out : Option (List ℕ)) (stop : Stop) → IsReadStop stop → Reads (dialect_in Run o) (with_heap None old) (with_heap None new) [] (Err stop) → PrintsSome (Told o old new) out out (Err stop)
+head_told o old new out stop h read = told_nothing o old new out None stop (λ e. subst IsReadStop e h) (λ e. subst IsReadStop e h) read
 
 -- a header, and no memory for what it asks for
-pub unopened_told : (d : Dialect) (o : Options) (n n' : ℕ) (l : Shape) (rd rd' out : Option (List ℕ)) → Reads d None n n' rd rd' (Some l) [] (Ok true) → PrintsSome (Told d o n n' rd rd') out out (Err NoMemory)
-unopened_told d o n n' l rd rd' out read =
-    told_nothing d o n n' rd rd' out (Some l) NoMemory (λ e. cc) (λ e. cc) (record { lines = read.lines; rest = read.rest; consumed = read.consumed; passed = read.passed; met = read.met })
+pub unopened_told : (o : Options) (old new : Spot) (l : Shape) (out : Option (List ℕ)) → Reads (dialect_in Run o) (with_heap None old) (with_heap (Some l) new) [] (Ok true) → PrintsSome (Told o old new) out out (Err NoMemory)
+unopened_told o old new l out read =
+    told_nothing o old new out (Some l) NoMemory (λ e. cc) (λ e. cc) (record { lines = read.lines; rest = read.rest; consumed = read.consumed; passed = read.passed; met = read.met })
 
 pub written_as : (out out' : Option (List ℕ)) (r : Result (Unit {0}) Stop) (text : List ℕ) → Prints out out' (end_met r) text → Prints out out' r text
 written_as out out' (Ok done) text w = w
@@ -56,11 +56,14 @@ starts_none : (r : Result (Unit {0}) Stop) → IfErr r (λ stop. IsReadStop stop
 starts_none r h e = ⊎_elim (λ x. x) (λ x. x) (subst (λ r. IfErr r (λ stop. IsReadStop stop ⊎ MayStop stop)) e h)
 
 -- what was read and played behind the header is the text of a permitted run, by the steps of a new machinery
-pub played_told : (o : Options) (n n' : ℕ) (a a' : Commands) (old new : Machinery) (rd rd1 rd' out out' : Option (List ℕ)) (r : Result (Unit {0}) Stop)
-    → a'.source.now.number ≡ n' → IsNewMachinery a.layout o old → Reads a.dialect None n a.source.now.number rd rd1 (Some a.layout) [] (Ok true)
-    → Follows StepsThrough (λ m. IsBookFull m.book) a a' old new rd1 rd' out out' (end_met r) → IfErr r (λ stop. IsReadStop stop ⊎ MayStop stop) → IsHistory new.book
-    → PrintsSome (Told a.dialect o n n' rd rd') out out' r
-played_told o n n' a a' old new rd rd1 rd' out out' r at_end opened head f stops h =
+pub played_told : (o : Options) (n n' : ℕ) (from to : Scene Machinery) (rd rd1 rd' : Option (List ℕ)) (r : Result (Unit {0}) Stop)
+    → from.commands.dialect ≡ dialect_in Run o → to.commands.source.now.number ≡ n' → IsNewMachinery from.commands.layout o from.at.state → Reads (dialect_in Run o) (place None n rd) (place (Some from.commands.layout) from.commands.source.now.number rd1) [] (Ok true)
+    → Follows stepping.deeds from to (rd1, rd') (end_met r) → IfErr r (λ stop. IsReadStop stop ⊎ MayStop stop) → IsHistory to.at.state.book
+    → PrintsSome (Told o (spot n rd) (spot n' rd')) from.at.written to.at.written r
+played_told o n n' from to rd rd1 rd' r is_run at_end opened head f stops h =
+    let a = from.commands in
+    let old = from.at.state in
+    let new = to.at.state in
     let is = opened.book in
     let p = stepped_played old new f.done.done f.done.undone f.done.text (opened.capacity ∙ sym (ap (λ (h : History). h.machine.settings.limit) is)) f.done.made in
     let es : new.book.entries ≡ entries_of p.pieces = p.grows.entries ∙ ap (λ (h : History). h.entries ++ entries_of p.pieces) is in
@@ -73,8 +76,9 @@ played_told o n n' a a' old new rd rd1 rd' out out' r at_end opened head f stops
         done = f.done.done;
         undone = f.done.undone;
         ends = starts_none r stops;
-        read = reads_then a.dialect None (Some a.layout) (Some a.layout) n a.source.now.number n' rd rd1 rd' [] f.commands (end_met r) head
-            (subst (λ (k : ℕ). Reads a.dialect (Some a.layout) a.source.now.number k rd1 rd' (Some a.layout) f.commands (end_met r)) at_end f.read);
+        read = reads_then (dialect_in Run o) _ _ _ [] f.commands (end_met r) head
+            (subst (λ (k : ℕ). Reads (dialect_in Run o) (place (Some a.layout) a.source.now.number rd1) (place (Some a.layout) k rd') f.commands (end_met r)) at_end
+            (subst (λ (d : Dialect). Reads d (place (Some a.layout) a.source.now.number rd1) (place (Some a.layout) to.commands.source.now.number rd') f.commands (end_met r)) is_run f.read));
         all = f.done.all;
         stopped = f.done.stopped;
         unopened = tt;
@@ -85,10 +89,10 @@ played_told o n n' a a' old new rd rd1 rd' out out' r at_end opened head f stops
           unopened = tt;
           permitted = subst (λ (xs : List Entry). IsPermitted (opening a.layout) xs) es (subst (λ (s : Shape). IsPermitted (opening s) new.book.entries) shape h.run);
           said = p.said;
-          stepped = inr (record { layout = a.layout; first = old; last = new; of = refl; opened = opened; steps = f.done.made; history = es });
+          stepped = inr (record { layout = a.layout; first = old; last = new; of = refl; opened = opened; steps = f.done.made }, es);
         };
         within = subst (λ (xs : List Entry). length xs ≤ o.history) es (subst (λ (k : ℕ). length new.book.entries ≤ k) most h.within);
         full = λ e. ap (λ (xs : List Entry). length xs) (sym es) ∙ f.done.filled (ap end_met e) ∙ most;
       },
-      written_as out out' r f.done.text f.done.written,
+      written_as from.at.written to.at.written r f.done.text f.done.written,
     )

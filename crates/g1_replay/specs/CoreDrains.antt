@@ -3,6 +3,7 @@ use Rattle.std.specs.Prelude.{◌≡◌, ◌∷◌, ◌++◌}
 use Rattle.g1_replay.specs.Prelude.{ℕ, List, [], refl, sym, ap, ◌∙◌, subst, flat_map-append}
 use Rattle.g1_replay.specs.Prelude.{Drained, drain_entry, Machine, IsStep, Table, Command, Drain}
 use Rattle.g1_replay.specs.Prelude.{Call}
+use Rattle.g1_replay.specs.Drains.{Draining}
 use Rattle.g1_replay.specs.Race.{drain_text, drained_text}
 
 -- from one table to another just these drains were made, and they answered so
@@ -40,4 +41,15 @@ core_drained_then a b c cs ds xs ys p q = record {
   said = ap (λ l. l ++ ys) p.said ∙ ap (λ l. drained_text p.answers ++ l) q.said
       ∙ sym (flat_map-append drain_text p.answers q.answers);
   heap = q.heap ∙ p.heap;
+}
+
+-- a core, which has no book
+abbrev pub core_draining : Draining Machine
+core_draining = record {
+  layout = λ m. m.state.table.layout;
+  did = CoreDrained;
+  full = λ m. ⊥;
+  none = core_drained_none;
+  then = core_drained_then;
+  stays = λ s t cs xs d. d.heap;
 }

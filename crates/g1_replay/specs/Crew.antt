@@ -4,45 +4,55 @@ use Rattle.g1_replay.specs.Prelude.{ℕ, List, [], Result, Ok, Err, length, coun
 use Rattle.g1_replay.specs.Prelude.{Entry, IsPermitted, is_store, Refusal, Command, stores_text}
 use Rattle.g1_replay.specs.Prelude.{Option, None, IfSome, IsErrAnd, Options}
 use Rattle.g1_history.specs.declared.refusal.Refusal.TheVariants as refusal
+use Rattle.g1_trace.specs.declared.mode.Mode.TheVariants as mode
 use Rattle.g1_replay.specs.declared.stop.Stop.{Stop}
 use Rattle.g1_replay.specs.declared.stop.Stop.TheVariants.{BookFull, NoMemory, NoThread}
 use Rattle.g1_replay.specs.Drains.{drains}
 use Rattle.g1_replay.specs.Pieces.{Piece, Walks, lines_of, entries_of}
-use Rattle.g1_replay.specs.Scripted.{IsRunEnd, IsUnstarted}
+use Rattle.g1_replay.specs.Output.{dialect_in}
+use Rattle.g1_replay.specs.Scripted.{IsRunEnd, IsUnstarted, Scripting}
 use Rattle.g1_replay.specs.Scripts.{is_store_command, HasCome, IsScriptFor}
-
--- Nothing was drained or written, since something stopped the crew; or no job was refused, and how
--- many stores a run has was, which is how many the commands have, and the lines of the drains
--- behind it.
-abbrev pub IsCrewText : List Command → Option Refusal → List Entry → List Command → List Piece
-    → Result (Unit {0}) Stop → List ℕ → Type 0
-IsCrewText commands refused entries ds pieces r text =
-    ((stop : Stop) × (r ≡ Err stop) × (ds ≡ []) × (text ≡ []))
-    ⊎ ((r ≢ Err NoThread) × (refused ≡ None)
-    × (count_by is_store entries ≡ count_by is_store_command commands)
-    × (text ≡ stores_text (count_by is_store entries) ++ lines_of ds pieces))
 
 -- why a crew ends one of whose calls was refused, by a book of this many entries
 abbrev pub crew_stop : (made history : ℕ) → Refusal → Stop
 crew_stop made history refusal.BookFull = if made == history then BookFull else NoMemory
 crew_stop made history refusal.NoMemory = NoMemory
 
+-- the book that the jobs of a crew left: how many entries it may have, its heap, why the first of
+-- the jobs that were refused was, and its entries
+pub record CrewBook : Type 0 where
+  pub history : ℕ
+  pub layout : Shape
+  pub refused : Option Refusal
+  pub entries : List Entry
+
+abbrev pub crew_book : ℕ → Shape → Option Refusal → List Entry → CrewBook
+crew_book history layout refused entries =
+    record { history = history; layout = layout; refused = refused; entries = entries }
+
 -- A permitted run has these entries and then drains of the first regions, with none between; at the
 -- whole end those of all regions. The run has at most `history` entries, and just as many where the
 -- book is full. A job that was refused ends the crew, with nothing written.
-pub record CrewDrained (history : ℕ) (l : Shape) (refused : Option Refusal) (entries : List Entry)
-    (commands : List Command) (r : Result (Unit {0}) Stop) (text : List ℕ) : Type 0 where
+--
+-- Nothing was drained or written, since something stopped the crew; or no job was refused, and how
+-- many stores the run has was, which is how many the commands have, and the lines of the drains
+-- behind it.
+pub record CrewDrained (b : CrewBook) (commands : List Command) (r : Result (Unit {0}) Stop)
+    (text : List ℕ) : Type 0 where
   pub drained : ℕ
   pub pieces : List Piece
   pub ends : IsRunEnd r
   pub walked : Walks (drains drained) pieces
-  pub permitted : IsPermitted (opening l) (entries ++ entries_of pieces)
-  pub within : length (entries ++ entries_of pieces) ≤ history
-  pub full : r ≡ Err BookFull → length (entries ++ entries_of pieces) ≡ history
-  pub all : r ≡ Ok tt → drained ≡ l.regions
-  pub stopped : IfSome refused (λ why. (r ≡ Err (crew_stop (length entries) history why))
-      × (text ≡ []))
-  pub said : IsCrewText commands refused entries (drains drained) pieces r text
+  pub permitted : IsPermitted (opening b.layout) (b.entries ++ entries_of pieces)
+  pub within : length (b.entries ++ entries_of pieces) ≤ b.history
+  pub full : r ≡ Err BookFull → length (b.entries ++ entries_of pieces) ≡ b.history
+  pub all : r ≡ Ok tt → drained ≡ b.layout.regions
+  pub stopped : IfSome b.refused (λ why.
+      (r ≡ Err (crew_stop (length b.entries) b.history why)) × (text ≡ []))
+  pub said : ((stop : Stop) × (r ≡ Err stop) × (drains drained ≡ []) × (text ≡ []))
+      ⊎ ((r ≢ Err NoThread) × (b.refused ≡ None)
+      × (count_by is_store b.entries ≡ count_by is_store_command commands)
+      × (text ≡ stores_text (count_by is_store b.entries) ++ lines_of (drains drained) pieces))
 
 -- No job was run, and nothing written.
 abbrev pub IsUnrun : Result (Unit {0}) Stop → List Entry → List ℕ → Type 0
@@ -62,4 +72,8 @@ pub record CrewRan (o : Options) (l : Shape) (commands : List Command)
   pub refused : Option Refusal
   pub entries : List Entry
   pub made : IsUnrun r entries text ⊎ AreOfCallers o commands refused entries
-  pub ended : CrewDrained o.history l refused entries commands r text
+  pub ended : CrewDrained (crew_book o.history l refused entries) commands r text
+
+-- the scripts of a crew
+abbrev pub crewing : Options → Scripting
+crewing o = record { dialect = dialect_in mode.Crew o; ran = CrewRan o }

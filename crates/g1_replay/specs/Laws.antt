@@ -1,10 +1,11 @@
 -- Pieces behind pieces, and plays that follow each other.
 use Rattle.std.specs.Prelude.{◌≡◌, ◌∷◌, ◌++◌}
 use Rattle.g1_replay.specs.Prelude.{ℕ, List, [], refl, sym, ◌∙◌, ap, subst, append_assoc}
-use Rattle.g1_replay.specs.Prelude.{append-nil, flat_map-append, Settings, Entry, History}
+use Rattle.g1_replay.specs.Prelude.{vec_len, append-nil, flat_map-append, Settings, Entry, History}
 use Rattle.g1_replay.specs.Prelude.{BookTerms, layout_in, Grows, grows_none, grows_then, Command}
 use Rattle.g1_replay.specs.declared.runs.machinery.Machinery.{Machinery}
-use Rattle.g1_replay.specs.Playing.{HasPlayed}
+use Rattle.g1_replay.specs.Drains.{Draining}
+use Rattle.g1_replay.specs.Playing.{HasPlayed, IsBookFull, IsReady, MayStop, Plays}
 use Rattle.g1_replay.specs.Stepped.{AreMade, StepsThrough}
 use Rattle.g1_replay.specs.Pieces.{Piece, IsPieceOf, IsSetBy, AreSetBy, Walks, line_of, lines_of}
 use Rattle.g1_replay.specs.Pieces.{entries_of}
@@ -58,10 +59,16 @@ played_one a b c p w s g = record {
   said = sym (append-nil (line_of c p));
 }
 
--- the heap stays
-pub played_in : (a b : History) (cs : List Command) (xs : List ℕ) → HasPlayed a cs xs b
-    → layout_in b ≡ layout_in a
-played_in a b cs xs p = ap (λ (t : BookTerms). t.layout) p.grows.terms
+-- a book, whose first caller drains
+abbrev pub book_draining : Draining History
+book_draining = record {
+  layout = layout_in;
+  did = HasPlayed;
+  full = IsBookFull;
+  none = played_none;
+  then = played_then;
+  stays = λ a b cs xs p. ap (λ (t : BookTerms). t.layout) p.grows.terms;
+}
 
 -- no command
 pub stepped_none : (m : Machinery) → StepsThrough m [] [] [] m
@@ -90,4 +97,18 @@ stepped_then a b c cs ds es xs ys p q = record {
   made = made_then a b q.reached cs ds xs ys
       (subst (λ (m : Machinery). AreMade a cs xs m) (sym p.refused) p.made) q.made;
   refused = q.refused;
+}
+
+-- a machinery, on which each command is a step
+abbrev pub stepping : Plays Machinery
+stepping = record {
+  takes = λ m l d. IsReady m.book (vec_len m.mutators) m.line l d;
+  deeds = record {
+    did = StepsThrough;
+    full = λ m. IsBookFull m.book;
+    none = stepped_none;
+    then = stepped_then;
+  };
+  stops = MayStop;
+  may_stop = λ stop may. may;
 }

@@ -13,7 +13,7 @@ use Rattle.g1_replay.specs.declared.runs.machinery.Machinery.{Machinery}
 use Rattle.g1_replay.specs.declared.stop.Stop.{Stop}
 use Rattle.g1_replay.specs.declared.stop.Stop.TheVariants.{WriteFailed}
 use Rattle.g1_replay.specs.Pieces.{flush_text}
-use Rattle.g1_replay.specs.Playing.{stop_of, written_by}
+use Rattle.g1_replay.specs.Playing.{At, stop_of, written_by}
 use Rattle.g1_replay.specs.Still.{is_pause}
 
 -- This caller makes these calls at a book, and nobody else makes one.
@@ -43,10 +43,10 @@ pub record FirstSteps (Step : Taker → Taker → Type 0) (old new : Machinery) 
   pub line : new.line ≡ old.line
 
 -- a store and a flush are steps of their mutator, at its own log and sender
-abbrev pub StoresAt : Machinery → ℕ → ℕ → Option ℕ → Result StoreReply Refusal → Machinery → Type 0
-StoresAt old by slot target result new =
-    MutatorSteps by (λ before after. IsStoreStep (CallsBy by) old.line old.book before slot target
-    (card_of (layout_in old.book) slot) result after new.book) old new
+abbrev pub StoresAt : Machinery → ℕ → ℕ × Option ℕ → Result StoreReply Refusal → Machinery → Type 0
+StoresAt old by stored result new =
+    MutatorSteps by (λ before after. IsStoreStep (CallsBy by) old.line old.book before stored.0
+    stored.1 (card_of (layout_in old.book) stored.0) result after new.book) old new
 
 abbrev pub FlushesAt : Machinery → ℕ → FlushReply → Machinery → Type 0
 FlushesAt old by reply new =
@@ -96,7 +96,7 @@ Says text Holds (Err refusal) = Holds (Err refusal)
 -- A command is done, and this is the text of its answer, or why it was refused.
 abbrev pub Makes : Command → (old new : Machinery) → Result (List ℕ) Refusal → Type 0
 Makes (command.Store by slot target) old new =
-    Says store_text (λ r. StoresAt old by slot target r new)
+    Says store_text (λ r. StoresAt old by (slot, target) r new)
 Makes (command.Flush by) old new =
     λ said. (reply : FlushReply) × FlushesAt old by reply new × (said ≡ Ok (flush_text reply))
 Makes command.Refine old new = Says refine_text (λ r. RefinesAt old r new)
@@ -122,11 +122,10 @@ abbrev pub IsAnswered : Call → (old new : History) → Result (List ℕ) Refus
 IsAnswered call old new = Says (call_line call) (λ r. MakesAsked true old 0 call r new)
 
 -- A call was asked of a book, and its answer was written.
-abbrev pub IsCallPlayed : Call → (old new : History) → (out out' : Option (List ℕ))
-    → Result (Unit {0}) Stop → Type 0
-IsCallPlayed call old new = IsDoneAndSaid (IsAnswered call old new)
+abbrev pub IsCallPlayed : Call → (old new : At History) → Result (Unit {0}) Stop → Type 0
+IsCallPlayed call old new =
+    IsDoneAndSaid (IsAnswered call old.state new.state) old.written new.written
 
 -- A command was played: it was done, and its answer was written.
-abbrev pub IsPlayed : Command → (old new : Machinery) → (out out' : Option (List ℕ))
-    → Result (Unit {0}) Stop → Type 0
-IsPlayed c old new = IsDoneAndSaid (Makes c old new)
+abbrev pub IsPlayed : Command → (old new : At Machinery) → Result (Unit {0}) Stop → Type 0
+IsPlayed c old new = IsDoneAndSaid (Makes c old.state new.state) old.written new.written

@@ -64,28 +64,6 @@ IsUndone (Err BookFull) commands = (c : Command) × (commands ≡ c ∷ [])
 IsUndone (Err NoMemory) commands = length commands ≤ 1
 IsUndone r commands = commands ≡ []
 
--- What a player does between two states: the commands that were done, those that were not, and the
--- text.
-abbrev pub Deeds : Type 0 → Type 1
-Deeds S = S → List Command → List Command → List ℕ → S → Type 0
-
--- the same where nothing is said of those that were not
-abbrev pub of_done : {S : Type 0} → (S → List Command → List ℕ → S → Type 0) → Deeds S
-of_done did old done undone text new = did old done text new
-
--- Commands were done up to what stopped the replay, if anything did, and their text was written.
--- Where a book is full, it is full then.
-pub record Does {S : Type 0} (did : Deeds S) (full : S → Type 0) (commands : List Command)
-    (old new : S) (out out' : Option (List ℕ)) (r : Result Bool Stop) : Type 0 where
-  pub done : List Command
-  pub undone : List Command
-  pub all : commands ≡ done ++ undone
-  pub stopped : IsUndone r undone
-  pub text : List ℕ
-  pub made : did old done undone text new
-  pub filled : r ≡ Err BookFull → full new
-  pub written : Prints out out' r text
-
 -- what stops a command
 abbrev pub MayStop : Stop → Type 0
 MayStop NoMemory = Unit {0}
@@ -93,33 +71,80 @@ MayStop BookFull = Unit {0}
 MayStop WriteFailed = Unit {0}
 MayStop stop = ⊥
 
--- Lines were read, and their commands were done.
-pub record Follows {S : Type 0} (did : Deeds S) (full : S → Type 0) (c c' : Commands)
-    (old new : S) (rd rd' out out' : Option (List ℕ)) (r : Result Bool Stop) : Type 0 where
+-- What is done between two states: the commands that were done, those that were not, and the text;
+-- and when no more is, since a book is full. Nothing may be done, and more behind what was.
+pub record Deeds (S : Type 0) : Type 1 where
+  pub did : S → List Command → List Command → List ℕ → S → Type 0
+  pub full : S → Type 0
+  pub none : (s : S) → did s [] [] [] s
+  pub then : (s t u : S) (cs ds es : List Command) (xs ys : List ℕ) → did s cs [] xs t
+      → did t ds es ys u → did s (cs ++ ds) es (xs ++ ys) u
+
+-- A player: over which heap and in which dialect it takes commands, what it does with them, and
+-- what may stop one.
+pub record Plays (S : Type 0) : Type 1 where
+  pub takes : S → Shape → Dialect → Type 0
+  pub deeds : Deeds S
+  pub stops : Stop → Type 0
+  pub may_stop : (stop : Stop) → stops stop → MayStop stop
+
+-- a state, and what was written
+pub record At (S : Type 0) : Type 0 where
+  pub state : S
+  pub written : Option (List ℕ)
+
+abbrev pub at : {S : Type 0} → S → Option (List ℕ) → At S
+at state written = record { state = state; written = written }
+
+-- Commands were done up to what stopped the replay, if anything did, and their text was written.
+-- Where a book is full, it is full then.
+pub record Does {S : Type 0} (deeds : Deeds S) (commands : List Command) (old new : At S)
+    (r : Result Bool Stop) : Type 0 where
+  pub done : List Command
+  pub undone : List Command
+  pub all : commands ≡ done ++ undone
+  pub stopped : IsUndone r undone
+  pub text : List ℕ
+  pub made : deeds.did old.state done undone text new.state
+  pub filled : r ≡ Err BookFull → deeds.full new.state
+  pub written : Prints old.written new.written r text
+
+-- how far the commands of a trace have come, and what plays them
+pub record Scene (S : Type 0) : Type 0 where
+  pub commands : Commands
+  pub at : At S
+
+abbrev pub scene : {S : Type 0} → Commands → S → Option (List ℕ) → Scene S
+scene commands state written = record { commands = commands; at = at state written }
+
+-- Lines were read, and their commands were done. The reader had the first bytes left, and has the
+-- second ones.
+pub record Follows {S : Type 0} (deeds : Deeds S) (old new : Scene S)
+    (left : Option (List ℕ) × Option (List ℕ)) (r : Result Bool Stop) : Type 0 where
   pub commands : List Command
-  pub read : ReadsBehind c c' rd rd' commands r
-  pub done : Does did full commands old new out out' r
+  pub read : ReadsBehind old.commands new.commands left commands r
+  pub done : Does deeds commands old.at new.at r
 
 -- These bytes were taken from a reader, whatever it has behind them: lines that were read, and
 -- their commands were done.
-abbrev pub FollowsFront : {S : Type 0} → Deeds S → (S → Type 0) → Commands → Commands → S → S
-    → List ℕ → Option (List ℕ) → Option (List ℕ) → Result Bool Stop → Type 0
-FollowsFront did full c c' old new bytes out out' r =
-    (rd rd' : Option (List ℕ)) → Consumes rd rd' bytes
-    → Follows did full c c' old new rd rd' out out' r
+abbrev pub FollowsFront : {S : Type 0} → Deeds S → Scene S → Scene S → List ℕ → Result Bool Stop
+    → Type 0
+FollowsFront deeds old new bytes r =
+    (rd rd' : Option (List ℕ)) → Consumes rd rd' bytes → Follows deeds old new (rd, rd') r
 
 -- The line that these bytes begin with was played, if it is there as a whole: the result says how
 -- many bytes it takes, and what stopped it. Otherwise nothing was done.
-pub record PlaysFirst {S : Type 0} (did : Deeds S) (full : S → Type 0) (Stops : Stop → Type 0)
-    (Takes : S → Shape → Dialect → Type 0) (c c' : Commands) (old new : S) (bytes : List ℕ)
-    (out out' : Option (List ℕ)) (r : Option (ℕ × Result (Unit {0}) Stop)) : Type 0 where
-  pub same : IsOfTrace c c'
-  pub reads : c'.source.now.reads ≡ c.source.now.reads
-  pub followed : IfSome r (λ p. FollowsFront did full c c' old new (take p.0 bytes) out out'
+pub record PlaysFirst {S : Type 0} (plays : Plays S) (old new : Scene S) (bytes : List ℕ)
+    (r : Option (ℕ × Result (Unit {0}) Stop)) : Type 0 where
+  pub same : IsOfTrace old.commands new.commands
+  pub reads : new.commands.source.now.reads ≡ old.commands.source.now.reads
+  pub followed : IfSome r (λ p. FollowsFront plays.deeds old new (take p.0 bytes)
       (more_may_come p.1))
   pub within : IfSome r (λ p. (0 < p.0) × (p.0 ≤ length bytes))
-  pub counted : c'.source.now.number ≤ c.source.now.number + 1
-  pub stops : IfSome r (λ p. IfErr p.1 (λ stop. IsReadStop stop ⊎ Stops stop))
-  pub takes : IfSome r (λ p. OnOk p.1 (Takes new c'.layout c'.dialect))
+  pub counted : new.commands.source.now.number ≤ old.commands.source.now.number + 1
+  pub stops : IfSome r (λ p. IfErr p.1 (λ stop. IsReadStop stop ⊎ plays.stops stop))
+  pub takes : IfSome r (λ p.
+      OnOk p.1 (plays.takes new.at.state new.commands.layout new.commands.dialect))
   pub none : IsNone r
-      → (c'.source.now.number ≡ c.source.now.number) × (new ≡ old) × (out' ≡ out)
+      → (new.commands.source.now.number ≡ old.commands.source.now.number)
+      × (new.at.state ≡ old.at.state) × (new.at.written ≡ old.at.written)

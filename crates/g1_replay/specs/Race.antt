@@ -4,13 +4,15 @@ use Rattle.g1_replay.specs.Prelude.{ℕ, List, [], Result, Ok, Err, Option, Some
 use Rattle.g1_replay.specs.Prelude.{None, Contains, codes, flat_map, count_by, length}
 use Rattle.g1_replay.specs.Prelude.{slice_index_or, option_or, Shape, slot_count, card_of}
 use Rattle.g1_replay.specs.Prelude.{region_of, region_of_card, Table, Holds, Drained, Cards, Short}
-use Rattle.g1_replay.specs.Prelude.{Command, Drain, Store, Call, drained_line, stores_text}
+use Rattle.g1_replay.specs.Prelude.{Command, Drain, Store, Call, drained_line, stores_text, Options}
 use Rattle.std.specs.List.Sorted.{IsStrictlyIncreasing}
 use Rattle.std.specs.FinSet as set
+use Rattle.g1_trace.specs.declared.mode.Mode.TheVariants as mode
 use Rattle.g1_replay.specs.declared.stop.Stop.{Stop}
 use Rattle.g1_replay.specs.declared.stop.Stop.TheVariants.{BookFull, NoThread}
 use Rattle.g1_replay.specs.Drains.{drains}
-use Rattle.g1_replay.specs.Scripted.{IsRunEnd, ScriptEnd}
+use Rattle.g1_replay.specs.Output.{dialect_in}
+use Rattle.g1_replay.specs.Scripted.{IsRunEnd, ScriptEnd, Scripting}
 use Rattle.g1_replay.specs.Scripts.{is_store_command}
 
 -- what the mutator stores to the slot last, if it stores to it
@@ -90,3 +92,7 @@ IsRaceText l mutators commands r text = ((stop : Stop) × (r ≡ Err stop) × (t
 abbrev pub RaceRan : ℕ → ScriptEnd
 RaceRan mutators l commands r text =
     IsRunEnd r × (r ≢ Err BookFull) × IsRaceText l mutators commands r text
+
+-- the scripts of a race
+abbrev pub racing : Options → Scripting
+racing o = record { dialect = dialect_in mode.Race o; ran = RaceRan o.mutators }

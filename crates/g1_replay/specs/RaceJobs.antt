@@ -3,14 +3,13 @@ use Rattle.std.specs.Prelude.{◌≡◌, ◌⊎◌, ◌∷◌, ◌++◌}
 use Rattle.g1_replay.specs.Prelude.{ℕ, suc, nat_lt, List, [], Option, Some, None, filter_map}
 use Rattle.g1_replay.specs.Prelude.{Sender, Taker, Line, Race, Racer, Sweeper, racer_view, Ended}
 use Rattle.g1_replay.specs.Prelude.{refs_of, table_of, Holds, IsCovered, IsRecorded, IsPairOf}
-use Rattle.g1_replay.specs.Prelude.{Script, Step, Command}
+use Rattle.g1_replay.specs.Prelude.{Step, Command}
 use Rattle.g1_steps.specs.declared.crew.desk.Step.TheVariants as step
 use Rattle.g1_replay.specs.declared.races.desk.Member.{Member}
 use Rattle.g1_replay.specs.declared.races.desk.Member.TheVariants.{Racing, Sweeping}
 use Rattle.g1_replay.specs.declared.races.members.Returned.{Returned}
 use Rattle.g1_replay.specs.Members.{IsMemberOf, is_racer, member_logged}
 use Rattle.g1_replay.specs.Race.{AreLeftBy, StoresInto}
-use Rattle.g1_replay.specs.Scripts.{IsScriptAt}
 
 -- each item fits its place, the first of them place k
 abbrev pub AllFrom : {A : Type 0} → (ℕ → A → Type 0) → ℕ → List A → Type 0
@@ -32,12 +31,6 @@ pub record IsNewMember (race : Race) (line : Line) (mutators k : ℕ) (m : Membe
 -- in a race a script ends with a flush
 abbrev pub with_flush : {E : Type 0} → (E → List Step) → E → List Step
 with_flush steps e = steps e ++ step.Flush ∷ []
-
--- Member k, and its script: that of its mutator, or rounds of refinement.
-pub record IsRaceJob {E : Type 0} (steps : E → List Step) (race : Race) (line : Line)
-    (mutators rounds : ℕ) (scripts : List E) (k : ℕ) (m : Member) (s : Script) : Type 0 where
-  pub new : IsNewMember race line mutators k m
-  pub script : IsScriptAt (with_flush steps) rounds scripts k s
 
 -- what a member is and has
 abbrev pub racer_in : Member → Option Racer

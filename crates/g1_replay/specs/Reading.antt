@@ -15,42 +15,62 @@ abbrev pub IsLeftToRead : Option (List ℕ) → List ℕ → Type 0
 IsLeftToRead None x = ⊥
 IsLeftToRead (Some left) x = x ≡ left
 
--- These bytes are whole lines without a fault, from line n on, and these are their commands; line
--- n' comes behind them.
-abbrev pub Passes : Dialect → Option Shape → ℕ → List ℕ → List Command → Option Shape → ℕ → Type 0
-Passes d from n lines cs to n' =
-    (x : List ℕ) → read_on d from n [] (lines ++ x) ≡ before cs (read_on d to n' [] x)
+-- how far a replay has come in its input: the number of the next line, and what the reader has left
+pub record Spot : Type 0 where
+  pub number : ℕ
+  pub left : Option (List ℕ)
+
+abbrev pub spot : ℕ → Option (List ℕ) → Spot
+spot number left = record { number = number; left = left }
+
+-- the same, with the heap of the header, once it was read
+pub record Place : Type 0 where
+  pub heap : Option Shape
+  pub number : ℕ
+  pub left : Option (List ℕ)
+
+abbrev pub place : Option Shape → ℕ → Option (List ℕ) → Place
+place heap number left = record { heap = heap; number = number; left = left }
+
+abbrev pub with_heap : Option Shape → Spot → Place
+with_heap heap s = place heap s.number s.left
+
+-- These bytes are whole lines without a fault, from one line to another, and these are their
+-- commands.
+abbrev pub Passes : Dialect → Place → List ℕ → List Command → Place → Type 0
+Passes d old lines cs new = (x : List ℕ)
+    → read_on d old.heap old.number [] (lines ++ x) ≡ before cs (read_on d new.heap new.number [] x)
 
 -- What comes behind whole lines, as far as it was read: nothing, where more may come or something
 -- else stopped the replay; the end of the input; a line with a fault; or a beginning of a line,
 -- where a read failed.
-abbrev pub IsMet : Dialect → Option Shape → ℕ → List ℕ → Option (List ℕ) → Result Bool Stop → Type 0
-IsMet d heap n rest rd' (Ok false) = (rest ≡ []) × IsAtEnd rd' × IsSome heap
-IsMet d heap n rest rd' (Err (Fault f)) =
-    (x : List ℕ) → IsLeftToRead rd' x → read_on d heap n [] (rest ++ x) ≡ faulty heap n f
-IsMet d heap n rest rd' (Err ReadFailed) = IsPart rest × (length rest ≤ 64)
-IsMet d heap n rest rd' r = rest ≡ []
+abbrev pub IsMet : Dialect → Place → List ℕ → Result Bool Stop → Type 0
+IsMet d p rest (Ok false) = (rest ≡ []) × IsAtEnd p.left × IsSome p.heap
+IsMet d p rest (Err (Fault f)) = (x : List ℕ) → IsLeftToRead p.left x
+    → read_on d p.heap p.number [] (rest ++ x) ≡ faulty p.heap p.number f
+IsMet d p rest (Err ReadFailed) = IsPart rest × (length rest ≤ 64)
+IsMet d p rest r = rest ≡ []
 
--- Whole lines without a fault were read, from line n on, and then what comes at line n'.
-pub record Reads (d : Dialect) (from : Option Shape) (n n' : ℕ) (rd rd' : Option (List ℕ))
-    (to : Option Shape) (commands : List Command) (r : Result Bool Stop) : Type 0 where
+-- Whole lines without a fault were read, from one line to another, and then what comes there.
+pub record Reads (d : Dialect) (old new : Place) (commands : List Command)
+    (r : Result Bool Stop) : Type 0 where
   pub lines : List ℕ
   pub rest : List ℕ
-  pub consumed : Consumes rd rd' (lines ++ rest)
-  pub passed : Passes d from n lines commands to n'
-  pub met : IsMet d to n' rest rd' r
+  pub consumed : Consumes old.left new.left (lines ++ rest)
+  pub passed : Passes d old lines commands new
+  pub met : IsMet d new rest r
 
 -- Commands are still those of the same trace, and their lines are counted in the same place.
 abbrev pub IsOfTrace : Commands → Commands → Type 0
 IsOfTrace old new = (new.source.ghost_name ≡ old.source.ghost_name) × (new.layout ≡ old.layout)
     × (new.dialect ≡ old.dialect)
 
--- Lines behind the header were read.
-abbrev pub ReadsBehind : Commands → Commands → (rd rd' : Option (List ℕ)) → List Command
+-- Lines behind the header were read. The reader had the first bytes left, and has the second ones.
+abbrev pub ReadsBehind : Commands → Commands → Option (List ℕ) × Option (List ℕ) → List Command
     → Result Bool Stop → Type 0
-ReadsBehind c c' rd rd' commands r =
-    Reads c.dialect (Some c.layout) c.source.now.number c'.source.now.number rd rd' (Some c.layout)
-    commands r
+ReadsBehind c c' left commands r =
+    Reads c.dialect (place (Some c.layout) c.source.now.number left.0)
+    (place (Some c.layout) c'.source.now.number left.1) commands r
 
 -- there are numbers for the lines of n bytes more
 abbrev pub HasRoomFor : Source → ℕ → Type 0

@@ -1,13 +1,13 @@
 -- A trace that is read whole before its scripts run.
 use Rattle.std.specs.Prelude.{◌≡◌, ◌⊎◌}
 use Rattle.g1_replay.specs.Prelude.{ℕ, List, [], false, Result, Ok, Option, Some, None, IfSome}
-use Rattle.g1_replay.specs.Prelude.{IfErr, IsErrAnd, sym, subst, Shape, Command, Dialect}
+use Rattle.g1_replay.specs.Prelude.{IfErr, IsErrAnd, Shape, Command, Dialect}
 use Rattle.g1_replay.specs.declared.end.End.{End}
 use Rattle.g1_replay.specs.declared.stop.Stop.{Stop}
 use Rattle.g1_replay.specs.declared.stop.Stop.TheVariants.{NoMemory, NoThread}
-use Rattle.g1_replay.specs.Output.{IsReplayed, end_met}
+use Rattle.g1_replay.specs.Output.{IsReplayed, Streams, Tale, end_met}
 use Rattle.g1_replay.specs.Playing.{MayStop}
-use Rattle.g1_replay.specs.Reading.{IsReadStop, Reads}
+use Rattle.g1_replay.specs.Reading.{IsReadStop, Reads, Spot, with_heap}
 
 -- what stops a trace that was read to its end before one of its jobs is run
 abbrev pub IsUnstarted : Stop → Type 0
@@ -20,38 +20,41 @@ abbrev pub IsRunEnd : Result (Unit {0}) Stop → Type 0
 IsRunEnd r = IfErr r (λ stop. IsUnstarted stop ⊎ MayStop stop)
 
 -- The trace was not read to its end, and nothing was run and nothing written.
-pub record WasUnread (d : Dialect) (n n' : ℕ) (rd rd' : Option (List ℕ))
-    (r : Result (Unit {0}) Stop) (text : List ℕ) : Type 0 where
+pub record WasUnread (d : Dialect) (old new : Spot) (r : Result (Unit {0}) Stop)
+    (text : List ℕ) : Type 0 where
   pub heap : Option Shape
   pub commands : List Command
   pub ends : IsErrAnd r (λ stop. IsReadStop stop ⊎ (stop ≡ NoMemory))
-  pub read : Reads d None n n' rd rd' heap commands (end_met r)
+  pub read : Reads d (with_heap None old) (with_heap heap new) commands (end_met r)
   pub silent : text ≡ []
 
 -- how the scripts of these commands over this heap end, and what they print
 abbrev pub ScriptEnd : Type 1
 ScriptEnd = Shape → List Command → Result (Unit {0}) Stop → List ℕ → Type 0
 
+-- scripts of traces of a dialect
+pub record Scripting : Type 1 where
+  pub dialect : Dialect
+  pub ran : ScriptEnd
+
 -- The trace was read to its end, and its scripts were run.
-pub record WasRun (Ran : ScriptEnd) (d : Dialect) (n n' : ℕ) (rd rd' : Option (List ℕ))
-    (r : Result (Unit {0}) Stop) (text : List ℕ) : Type 0 where
+pub record WasRun (s : Scripting) (old new : Spot) (r : Result (Unit {0}) Stop)
+    (text : List ℕ) : Type 0 where
   pub layout : Shape
   pub commands : List Command
-  pub read : Reads d None n n' rd rd' (Some layout) commands (Ok false)
-  pub ran : Ran layout commands r text
+  pub read : Reads s.dialect (with_heap None old) (with_heap (Some layout) new) commands (Ok false)
+  pub ran : s.ran layout commands r text
 
 -- what is read and written of such a trace, but for the line of its end
-abbrev pub Scripted : ScriptEnd → Dialect → ℕ → ℕ → Option (List ℕ) → Option (List ℕ)
-    → Result (Unit {0}) Stop → List ℕ → Type 0
-Scripted Ran d n n' rd rd' r text = WasUnread d n n' rd rd' r text ⊎ WasRun Ran d n n' rd rd' r text
+abbrev pub Scripted : Scripting → Tale
+Scripted s old new r text = WasUnread s.dialect old new r text ⊎ WasRun s old new r text
 
 -- Such a trace was replayed. The whole output is the text of its scripts that were run, or the line
 -- of the trace's first fault.
-abbrev pub IsScriptReplayed : ScriptEnd → Dialect → (rd rd' out out' : Option (List ℕ)) → End
-    → Type 0
-IsScriptReplayed Ran d = IsReplayed d (Scripted Ran)
-    (λ heap commands text. IfSome heap (λ l. Ran l commands (Ok tt) text)) (λ _ _ text. text ≡ [])
-
--- what stops a script is what may stop a command
-pub no_memory_may : (stop : Stop) → stop ≡ NoMemory → MayStop stop
-no_memory_may stop e = subst MayStop (sym e) tt
+abbrev pub IsScriptReplayed : Scripting → (old new : Streams) → End → Type 0
+IsScriptReplayed s = IsReplayed (record {
+  dialect = s.dialect;
+  tells = Scripted s;
+  whole = λ heap commands text. IfSome heap (λ l. s.ran l commands (Ok tt) text);
+  refused = λ _ _ text. text ≡ [];
+})

@@ -6,11 +6,14 @@ use Rattle.g1_replay.specs.Prelude.{subst, ap, ◌∙◌, append-nil, append_ass
 use Rattle.g1_replay.specs.Prelude.{add_assoc, add-zero, sum_by-append, sum_by, cond, filter_map}
 use Rattle.g1_replay.specs.Prelude.{option_or, Ask, asks_in, asks_of, is_store_ask, Step, Script}
 use Rattle.g1_replay.specs.Prelude.{Mutate, Refine, Refusal, Command, Store, Flush, Options}
-use Rattle.g1_replay.specs.Prelude.{most_for, Entry, CallMade, entries_made, ServesAll, was_made}
-use Rattle.g1_replay.specs.Prelude.{is_store}
+use Rattle.g1_replay.specs.Prelude.{All, slot_count, StepFits, vec_len, most_for, Entry, CallMade}
+use Rattle.g1_replay.specs.Prelude.{entries_made, ServesAll, was_made, is_store}
 use Rattle.g1_shared.specs.Prelude.{entries_by}
 use Rattle.std.specs.Prelude.{filter}
 use Rattle.g1_steps.specs.declared.crew.desk.Step.TheVariants as step
+use Rattle.g1_replay.specs.declared.scripts.Scripts.{Scripts}
+use Rattle.g1_replay.specs.declared.stop.Stop.TheVariants.{NoMemory}
+use Rattle.g1_replay.specs.Playing.{MayStop, Plays}
 
 -- the call that a command asks of a mutator, and of which
 abbrev pub asked_in : Command → Option (ℕ × Step)
@@ -100,6 +103,23 @@ kept_then {E} steps a b c cs ds xs ys p q = (
   },
   ap (λ l. l ++ ys) p.1 ∙ q.1,
 )
+
+-- scripts, to which a command adds its call
+abbrev pub keeping : Plays Scripts
+keeping = record {
+  takes = λ s l d. (vec_len s.steps ≡ d.mutators)
+      × All (λ steps. All (StepFits (slot_count l) true) steps.items) s.steps.items;
+  deeds = record {
+    did = λ s cs es text t. AreKept (λ steps. steps.items) s.steps.items cs t.steps.items
+        × (text ≡ []);
+    full = λ s. ⊥;
+    none = λ s. (kept_nothing (λ steps. steps.items) s.steps.items, refl);
+    then = λ s t u cs ds es xs ys.
+        kept_then (λ steps. steps.items) s.steps.items t.steps.items u.steps.items cs ds xs ys;
+  };
+  stops = λ stop. stop ≡ NoMemory;
+  may_stop = λ stop e. subst MayStop (sym e) tt;
+}
 
 -- why a job was refused, if it was
 abbrev pub refusal_in : Option (Result ℕ (ℕ × Refusal)) → Option Refusal

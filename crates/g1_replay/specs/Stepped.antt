@@ -1,6 +1,6 @@
 -- What the commands of a run come to, one after another: the steps of a new machinery.
 use Rattle.std.specs.Prelude.{◌≡◌, ◌∷◌, ◌++◌}
-use Rattle.g1_replay.specs.Prelude.{ℕ, List, [], All, vec_len, Option, Some, Ok, Err, Shape, Entry}
+use Rattle.g1_replay.specs.Prelude.{ℕ, List, [], All, vec_len, Option, Some, Ok, Err, Shape}
 use Rattle.g1_replay.specs.Prelude.{Options, Command, Refusal, capacity_of, AreNewMutators}
 use Rattle.g1_replay.specs.Prelude.{IsNewTaker}
 use Rattle.g1_replay.specs.declared.runs.machinery.Machinery.{Machinery}
@@ -39,13 +39,12 @@ pub record StepsThrough (old : Machinery) (done undone : List Command) (text : L
   pub refused : WasRefused reached undone new
 
 -- A new machinery over this heap went through the steps of these commands, and the next one, if
--- there is one, was refused. The text is that of their answers, and the history has these entries.
+-- there is one, was refused. The text is that of their answers.
 pub record IsSteppedText (o : Options) (heap : Option Shape) (done undone : List Command)
-    (text : List ℕ) (entries : List Entry) : Type 0 where
+    (text : List ℕ) : Type 0 where
   pub layout : Shape
   pub first : Machinery
   pub last : Machinery
   pub of : heap ≡ Some layout
   pub opened : IsNewMachinery layout o first
   pub steps : StepsThrough first done undone text last
-  pub history : last.book.entries ≡ entries

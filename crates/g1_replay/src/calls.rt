@@ -1,6 +1,6 @@
 //! The questions, drains, clears and redirects of a trace: each is one call of the first caller,
 //! and its line.
-ghost use Rattle.g1_replay.specs.{layout_in, Puts, IsCommandCall, call_line, IsCallPlayed};
+ghost use Rattle.g1_replay.specs.{layout_in, Puts, at, IsCommandCall, call_line, IsCallPlayed};
 
 use crate::stop::Stop;
 use g1_core::{Call, Reply};
@@ -14,8 +14,8 @@ use std::io::Write;
 /// Makes the call and writes the line of its reply.
 pub(crate) fn play_call<W: Write>(book: &mut Book, call: Call, output: &mut W) -> Result<(), Stop>
     requires { IsCommandCall (layout_in book.old) call }
-    ensures { IsCallPlayed call book.old book.new (W.contents output.old) (W.contents output.new)
-        result }
+    ensures { IsCallPlayed call (at book.old (W.contents output.old))
+        (at book.new (W.contents output.new)) result }
 {
     let reply = book.ask(0, call)?;
     put_call(output, &call, &reply)?;

@@ -1,6 +1,7 @@
 //! The drains that end a crew or a race: one of each region, in order, each with its line.
 ghost use Rattle.std.specs.Prelude.{◌≡◌, ◌<◌, ◌∷◌};
-ghost use Rattle.g1_replay.specs.{[], IfErr, HasDrained, Does, of_done, MayStop, more_may_come};
+ghost use Rattle.g1_replay.specs.{[], IfErr, HasDrained, Does, at, deeds_of, MayStop};
+ghost use Rattle.g1_replay.specs.{more_may_come};
 
 use crate::stop::Stop;
 use g1_core::Call;
@@ -10,34 +11,19 @@ use std::io::Write;
 
 /// What the threads leave, whose regions can be drained.
 pub(crate) trait Drains {
-    ghost use Rattle.std.specs.Prelude.{◌++◌};
-    ghost use Rattle.g1_replay.specs.Prelude.{ℕ, List, [], Shape, Command};
+    ghost use Rattle.g1_replay.specs.Drains.{Draining};
 
-    /// The heap that it is of.
-    ghost layout: { Self → Shape };
-
-    /// Between two states these drains were made, and this is their text.
-    ghost did: { Self → List Command → List ℕ → Self → Type 0 };
-
-    /// It has no room for one more.
-    ghost full: { Self → Type 0 };
+    /// Its heap, what drains do, and when it has no room for one more.
+    ghost draining: { Draining Self };
 
     /// Drains a region, and writes the line of its reply. A drain that is refused has no
     /// effect that a later drain can see.
     fn put_drain<W: Write>(&mut self, region: Region, output: &mut W) -> Result<(), Stop>
-        requires { region < (layout self.old).regions }
-        ensures played { Does (of_done did) full (Command.Call (Call.Drain region) ∷ [])
-            self.old self.new (W.contents output.old) (W.contents output.new)
+        requires { region < (draining.layout self.old).regions }
+        ensures played { Does (deeds_of draining) (Command.Call (Call.Drain region) ∷ [])
+            (at self.old (W.contents output.old)) (at self.new (W.contents output.new))
             (more_may_come result) }
         ensures stops { IfErr result MayStop };
-
-    ghost none: { (s : Self) → did s [] [] s };
-
-    ghost then: { (s t u : Self) (cs ds : List Command) (xs ys : List ℕ) → did s cs xs t
-        → did t ds ys u → did s (cs ++ ds) (xs ++ ys) u };
-
-    ghost stays: { (s t : Self) (cs : List Command) (xs : List ℕ) → did s cs xs t
-        → layout t ≡ layout s };
 }
 
 /// Drains all regions, in order.
@@ -46,9 +32,9 @@ pub(crate) fn put_drains<D: Drains, W: Write>(
     layout: Layout,
     output: &mut W,
 ) -> Result<(), Stop>
-    requires { D.layout left.old ≡ layout }
-    ensures drained { HasDrained D.did D.full layout.regions left.old left.new
-        (W.contents output.old) (W.contents output.new) result }
+    requires { D.draining.layout left.old ≡ layout }
+    ensures drained { HasDrained D.draining layout.regions (at left.old (W.contents output.old))
+        (at left.new (W.contents output.new)) result }
     ensures stops { IfErr result MayStop }
 {
     let (regions, _, _) = layout.counts();

@@ -1,12 +1,9 @@
 //! The scripts of a trace: what each mutator of a crew or a race is to do, kept as the trace is
 //! read, and why a job was refused.
 ghost use Rattle.std.specs.Prelude.{◌≡◌, ◌<◌, ◌+◌, ◌^◌, ◌++◌};
-ghost use Rattle.g1_replay.specs.Prelude.{ℕ, [], drop, refl, true, All, IfOk, OnOk, OnErr};
-ghost use Rattle.g1_replay.specs.Prelude.{vec_len, sum_by, slot_count, StepFits};
-ghost use Rattle.g1_replay.specs.Scripted.{no_memory_may};
-ghost use Rattle.g1_replay.specs.Scripts.{AreKept, IsScriptAt, asked_in, calls_in, kept_nothing};
-ghost use Rattle.g1_replay.specs.Scripts.{kept_then, refusal_in, stores_in};
-ghost use Rattle.g1_replay.specs.declared.stop.Stop.TheVariants.{NoMemory};
+ghost use Rattle.g1_replay.specs.Prelude.{ℕ, [], drop, All, IfOk, OnOk, OnErr, vec_len, sum_by};
+ghost use Rattle.g1_replay.specs.Scripts.{IsScriptAt, asked_in, calls_in, keeping, refusal_in};
+ghost use Rattle.g1_replay.specs.Scripts.{stores_in};
 ghost use Rattle.g1_steps.specs.declared.crew.desk.Step.{Step};
 
 use crate::lines::player::Player;
@@ -41,15 +38,7 @@ impl Scripts {
 }
 
 impl Player for Scripts {
-    ghost takes = { λ s l d. (vec_len s.steps ≡ d.mutators)
-        × All (λ steps. All (StepFits (slot_count l) true) steps.items) s.steps.items };
-
-    ghost did = { λ s cs es text t. AreKept (λ steps. steps.items) s.steps.items cs t.steps.items
-        × (text ≡ []) };
-
-    ghost full = { λ s. ⊥ };
-
-    ghost stops = { λ stop. stop ≡ NoMemory };
+    ghost plays = { keeping };
 
     /// Keeps the call behind those of its mutator.
     fn play<T: Wait, W: Write>(
@@ -66,13 +55,6 @@ impl Player for Scripts {
         append(&mut self.steps[by as usize], &command)?;
         Ok(())
     }
-
-    ghost may_stop = { no_memory_may };
-
-    ghost none = { λ s. (kept_nothing (λ steps. steps.items) s.steps.items, refl) };
-
-    ghost then = { λ s t u cs ds es xs ys.
-        kept_then (λ steps. steps.items) s.steps.items t.steps.items u.steps.items cs ds xs ys };
 }
 
 // The call that a command asks of a mutator, and of which one.

@@ -2,8 +2,8 @@
 ghost use Rattle.std.specs.Prelude.{◌≡◌};
 ghost use Rattle.g1_replay.specs.{List, [], Err, None, IfSome, length, count_by, Appends};
 ghost use Rattle.g1_replay.specs.{is_store, is_store_command, Command, IsHistory};
-ghost use Rattle.g1_replay.specs.{layout_in, CrewDrained, crew_stop, played_in, played_none};
-ghost use Rattle.g1_replay.specs.{played_then, HasPlayed, IsBookFull, PrintsSome};
+ghost use Rattle.g1_replay.specs.{layout_in, CrewDrained, crew_book, crew_stop, book_draining};
+ghost use Rattle.g1_replay.specs.{PrintsSome};
 
 use crate::calls::play_call;
 use crate::drains::{Drains, put_drains};
@@ -14,22 +14,12 @@ use g1_trace::put_stores;
 use std::io::Write;
 
 impl Drains for Book {
-    ghost layout = { layout_in };
-
-    ghost did = { HasPlayed };
-
-    ghost full = { IsBookFull };
+    ghost draining = { book_draining };
 
     /// The first caller's drain of the region.
     fn put_drain<W: Write>(&mut self, region: Region, output: &mut W) -> Result<(), Stop> {
         play_call(self, Call::Drain(region), output)
     }
-
-    ghost none = { played_none };
-
-    ghost then = { played_then };
-
-    ghost stays = { played_in };
 }
 
 // How many stores there were, and the drains of all regions.
@@ -37,7 +27,7 @@ fn put_book<W: Write>(book: &mut Book, stores: u64, output: &mut W) -> Result<()
     requires { stores ≡ count_by is_store book.old.entries }
     ensures { (commands : List Command) → stores ≡ count_by is_store_command commands
         → PrintsSome
-        (CrewDrained book.old.limit (layout_in book.old) None book.old.entries commands)
+        (CrewDrained (crew_book book.old.limit (layout_in book.old) None book.old.entries) commands)
         (W.contents output.old) (W.contents output.new) result }
 {
     let layout = book.layout();
@@ -73,7 +63,8 @@ pub(crate) fn put_crew<W: Write>(
     requires stores { stores ≡ count_by is_store book.old.entries }
     ensures ran { (commands : List Command)
         → (refused ≡ None → stores ≡ count_by is_store_command commands)
-        → PrintsSome (CrewDrained history (layout_in book.old) refused book.old.entries commands)
+        → PrintsSome (CrewDrained
+        (crew_book history (layout_in book.old) refused book.old.entries) commands)
         (W.contents output.old) (W.contents output.new) result }
     ensures refused { IfSome refused (λ r.
         (result ≡ Err (crew_stop (length book.old.entries) history r))

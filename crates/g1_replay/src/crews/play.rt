@@ -2,9 +2,9 @@
 //! result.
 ghost use Rattle.std.specs.Prelude.{◌≡◌};
 ghost use Rattle.g1_replay.specs.{List, true, vec_len, All, slot_count, AreScripts, PrintsSome};
-ghost use Rattle.g1_replay.specs.{StepFits, Command, CrewRan, IsScriptReplayed, dialect_in};
+ghost use Rattle.g1_replay.specs.{StepFits, Command, CrewRan, IsScriptReplayed, crewing};
+ghost use Rattle.g1_replay.specs.{spot, streams};
 ghost use Rattle.g1_replay.specs.Scripted.{Scripted};
-ghost use Rattle.g1_trace.specs.declared.mode.Mode.TheVariants.{Crew};
 
 use crate::crews::jobs::run_jobs;
 use crate::crews::output::put_crew;
@@ -64,8 +64,9 @@ fn play_crew<T: Threads + Wait + Sync, R: BufRead, W: Write>(
     output: &mut W,
     options: &Options,
 ) -> Result<(), Stop>
-    ensures { PrintsSome (Scripted (CrewRan options.now) (dialect_in Crew options.now)
-        source.old.number source.new.number (R.remaining input.old) (R.remaining input.new))
+    ensures { PrintsSome (Scripted (crewing options.now)
+        (spot source.old.number (R.remaining input.old))
+        (spot source.new.number (R.remaining input.new)))
         (W.contents output.old) (W.contents output.new) result }
 {
     let (layout, scripts) = read_scripts(rt, alloc, Mode::Crew, source, input, output, options)?;
@@ -92,9 +93,9 @@ pub fn crew<T: Threads + Wait + Sync, R: BufRead, W: Write>(
     output: &mut W,
     options: &Options,
 ) -> End
-    ensures { IsScriptReplayed (CrewRan options.now) (dialect_in Crew options.now)
-        (R.remaining input.old) (R.remaining input.new)
-        (W.contents output.old) (W.contents output.new) result }
+    ensures { IsScriptReplayed (crewing options.now)
+        (streams (R.remaining input.old) (W.contents output.old))
+        (streams (R.remaining input.new) (W.contents output.new)) result }
 {
     let mut source = Source::start();
     let outcome = play_crew(rt, alloc, &mut source, input, output, options);

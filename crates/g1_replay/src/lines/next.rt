@@ -32,8 +32,8 @@ impl Commands<'_> {
     pub fn read_next<R: BufRead>(&mut self, part: Part, input: &mut R) -> Result<Next, Stop>
         requires counted { self.old.source.now.number ≤ 2 ^ 20 * self.old.source.now.reads }
         ensures read { (begun : Option (List ℕ)) → HasPart begun (R.remaining input.old) part []
-            → ReadsBehind self.old self.new begun (R.remaining input.new) (commands_of result)
-            (next_met result) }
+            → ReadsBehind self.old self.new (begun, R.remaining input.new)
+            (commands_of result) (next_met result) }
         ensures stops { IfErr result IsReadStop }
         ensures valid { IfOk result (λ next.
             IsNextCommandOf self.old.layout self.old.dialect next) }

@@ -1,8 +1,8 @@
 //! The lines of a trace up to its header.
 
 ghost use Rattle.std.specs.Prelude.{◌≡◌, ◌<◌};
-ghost use Rattle.g1_replay.specs.{[], Ok, None, IfErr, Dialect, Reads, more_may_come, opened_by};
-ghost use Rattle.g1_replay.specs.{IsReadStop};
+ghost use Rattle.g1_replay.specs.{[], Ok, None, IfErr, Dialect, Reads, place, more_may_come};
+ghost use Rattle.g1_replay.specs.{opened_by, IsReadStop};
 ghost use Rattle.std.specs.Result.{result_ok};
 
 use crate::lines::line::next_line;
@@ -15,8 +15,9 @@ use std::io::BufRead;
 
 // One line before the header, or the header.
 fn next_header<R: BufRead>(source: &mut Source, input: &mut R) -> Result<Option<Layout>, Stop>
-    ensures read { (d : Dialect) → Reads d None source.old.number source.new.number
-        (R.remaining input.old) (R.remaining input.new) (opened_by result) []
+    ensures read { (d : Dialect) → Reads d
+        (place None source.old.number (R.remaining input.old))
+        (place (opened_by result) source.new.number (R.remaining input.new)) []
         (more_may_come result) }
     ensures stops { IfErr result IsReadStop }
     ensures more { result ≡ Ok None → source.old.reads < source.new.reads }
@@ -36,8 +37,9 @@ fn next_header<R: BufRead>(source: &mut Source, input: &mut R) -> Result<Option<
 /// On a fault, `source.number` is the faulty line. Nothing behind the header's
 /// line is read, and no read follows a failed one. It takes no memory.
 pub fn read_layout<R: BufRead>(source: &mut Source, input: &mut R) -> Result<Layout, Stop>
-    ensures read { (d : Dialect) → Reads d None source.old.number source.new.number
-        (R.remaining input.old) (R.remaining input.new) (result_ok result) []
+    ensures read { (d : Dialect) → Reads d
+        (place None source.old.number (R.remaining input.old))
+        (place (result_ok result) source.new.number (R.remaining input.new)) []
         (more_may_come result) }
     ensures stops { IfErr result IsReadStop }
 {

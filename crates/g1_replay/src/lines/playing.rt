@@ -1,7 +1,7 @@
 //! The lines of a trace behind its header, which are read and played.
 ghost use Rattle.std.specs.Prelude.{◌≡◌, ◌<◌, ◌≤◌, ◌*◌, ◌^◌, ◌⊎◌};
 ghost use Rattle.g1_replay.specs.{ℕ, List, Option, [], Ok, true, IfErr, OnOk, take, length};
-ghost use Rattle.g1_replay.specs.{HasPart, end_met, Follows, IsOfTrace, IsReadStop};
+ghost use Rattle.g1_replay.specs.{HasPart, end_met, Follows, scene, IsOfTrace, IsReadStop};
 
 use crate::lines::line::Part;
 use crate::lines::next::Next;
@@ -44,14 +44,15 @@ impl Commands<'_> {
     ) -> Result<bool, Stop>
         requires part { HasPart (R.remaining input.old) (R.remaining input.old) part [] }
         requires counted { self.old.source.now.number ≤ 2 ^ 20 * self.old.source.now.reads }
-        requires takes { P.takes player.old self.old.layout self.old.dialect }
-        ensures followed { Follows P.did P.full self.old self.new player.old player.new
-            (R.remaining input.old) (R.remaining input.new) (W.contents output.old)
-            (W.contents output.new) result }
+        requires takes { P.plays.takes player.old self.old.layout self.old.dialect }
+        ensures followed { Follows P.plays.deeds
+            (scene self.old player.old (W.contents output.old))
+            (scene self.new player.new (W.contents output.new))
+            (R.remaining input.old, R.remaining input.new) result }
         ensures reads { self.old.source.now.reads ≤ self.new.source.now.reads }
         ensures same { IsOfTrace self.old self.new }
-        ensures stops { IfErr result (λ stop. IsReadStop stop ⊎ P.stops stop) }
-        ensures takes { OnOk result (P.takes player.new self.new.layout self.new.dialect) }
+        ensures stops { IfErr result (λ stop. IsReadStop stop ⊎ P.plays.stops stop) }
+        ensures takes { OnOk result (P.plays.takes player.new self.new.layout self.new.dialect) }
     {
         match self.read_next(part, input)? {
             Next::End => Ok(false),
@@ -72,14 +73,15 @@ impl Commands<'_> {
         player: &mut P,
         output: &mut W,
     ) -> Result<bool, Stop>
-        requires { P.takes player.old self.old.layout self.old.dialect }
-        ensures followed { Follows P.did P.full self.old self.new player.old player.new
-            (R.remaining input.old) (R.remaining input.new) (W.contents output.old)
-            (W.contents output.new) result }
+        requires { P.plays.takes player.old self.old.layout self.old.dialect }
+        ensures followed { Follows P.plays.deeds
+            (scene self.old player.old (W.contents output.old))
+            (scene self.new player.new (W.contents output.new))
+            (R.remaining input.old, R.remaining input.new) result }
         ensures more { result ≡ Ok true → self.old.source.now.reads < self.new.source.now.reads }
         ensures same { IsOfTrace self.old self.new }
-        ensures stops { IfErr result (λ stop. IsReadStop stop ⊎ P.stops stop) }
-        ensures takes { OnOk result (P.takes player.new self.new.layout self.new.dialect) }
+        ensures stops { IfErr result (λ stop. IsReadStop stop ⊎ P.plays.stops stop) }
+        ensures takes { OnOk result (P.plays.takes player.new self.new.layout self.new.dialect) }
     {
         if self.source.reads >= READ_LIMIT {
             return Err(Stop::ReadFailed);
@@ -108,13 +110,14 @@ impl Commands<'_> {
         player: &mut P,
         output: &mut W,
     ) -> Result<(), Stop>
-        requires { P.takes player.old self.old.layout self.old.dialect }
-        ensures followed { Follows P.did P.full self.old self.new player.old player.new
-            (R.remaining input.old) (R.remaining input.new) (W.contents output.old)
-            (W.contents output.new) (end_met result) }
+        requires { P.plays.takes player.old self.old.layout self.old.dialect }
+        ensures followed { Follows P.plays.deeds
+            (scene self.old player.old (W.contents output.old))
+            (scene self.new player.new (W.contents output.new))
+            (R.remaining input.old, R.remaining input.new) (end_met result) }
         ensures same { IsOfTrace self.old self.new }
-        ensures stops { IfErr result (λ stop. IsReadStop stop ⊎ P.stops stop) }
-        ensures takes { OnOk result (P.takes player.new self.new.layout self.new.dialect) }
+        ensures stops { IfErr result (λ stop. IsReadStop stop ⊎ P.plays.stops stop) }
+        ensures takes { OnOk result (P.plays.takes player.new self.new.layout self.new.dialect) }
     {
         'lines: while self.play_some(rt, input, player, output)? {}
         Ok(())

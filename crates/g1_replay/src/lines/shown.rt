@@ -1,7 +1,7 @@
 //! The lines that a reader shows as a whole, read where they lie and played one after the other.
 ghost use Rattle.std.specs.Prelude.{◌≡◌, ◌≤◌, ◌+◌, ◌*◌, ◌^◌, ◌⊎◌};
 ghost use Rattle.g1_replay.specs.{take, length, IfErr, OnOk, FollowsFront, PlaysFirst, IsReadStop};
-ghost use Rattle.g1_replay.specs.{more_may_come, HasRoomFor, IsOfTrace};
+ghost use Rattle.g1_replay.specs.{more_may_come, HasRoomFor, IsOfTrace, scene};
 
 use crate::lines::line::{LINE_LIMIT, Part, part_of};
 use crate::lines::player::Player;
@@ -22,17 +22,18 @@ impl Commands<'_> {
         player: &mut P,
         output: &mut W,
     ) -> (usize, Result<(), Stop>)
-        requires takes { P.takes player.old self.old.layout self.old.dialect }
+        requires takes { P.plays.takes player.old self.old.layout self.old.dialect }
         requires room { HasRoomFor self.old.source.now (length shown.now) }
-        ensures followed { FollowsFront P.did P.full self.old self.new player.old player.new
-            (take result.0 shown.now) (W.contents output.old) (W.contents output.new)
+        ensures followed { FollowsFront P.plays.deeds
+            (scene self.old player.old (W.contents output.old))
+            (scene self.new player.new (W.contents output.new)) (take result.0 shown.now)
             (more_may_come result.1) }
         ensures within { result.0 ≤ length shown.now }
         ensures counted { self.new.source.now.number ≤ self.old.source.now.number + result.0 }
         ensures reads { self.new.source.now.reads ≡ self.old.source.now.reads }
         ensures same { IsOfTrace self.old self.new }
-        ensures stops { IfErr result.1 (λ stop. IsReadStop stop ⊎ P.stops stop) }
-        ensures takes { OnOk result.1 (P.takes player.new self.new.layout self.new.dialect) }
+        ensures stops { IfErr result.1 (λ stop. IsReadStop stop ⊎ P.plays.stops stop) }
+        ensures takes { OnOk result.1 (P.plays.takes player.new self.new.layout self.new.dialect) }
     {
         let mut taken = 0;
         'lines: loop {
@@ -57,10 +58,10 @@ impl Commands<'_> {
         player: &mut P,
         output: &mut W,
     ) -> Option<(usize, Result<(), Stop>)>
-        requires takes { P.takes player.old self.old.layout self.old.dialect }
+        requires takes { P.plays.takes player.old self.old.layout self.old.dialect }
         requires room { HasRoomFor self.old.source.now (length bytes.now) }
-        ensures { PlaysFirst P.did P.full P.stops P.takes self.old self.new player.old player.new
-            bytes.now (W.contents output.old) (W.contents output.new) result }
+        ensures { PlaysFirst P.plays (scene self.old player.old (W.contents output.old))
+            (scene self.new player.new (W.contents output.new)) bytes.now result }
     {
         if let Some((store, count)) = read_store(self.layout, self.dialect, bytes) {
             self.source.number += 1;
@@ -79,10 +80,10 @@ impl Commands<'_> {
         player: &mut P,
         output: &mut W,
     ) -> Option<(usize, Result<(), Stop>)>
-        requires takes { P.takes player.old self.old.layout self.old.dialect }
+        requires takes { P.plays.takes player.old self.old.layout self.old.dialect }
         requires room { HasRoomFor self.old.source.now (length bytes.now) }
-        ensures { PlaysFirst P.did P.full P.stops P.takes self.old self.new player.old player.new
-            bytes.now (W.contents output.old) (W.contents output.new) result }
+        ensures { PlaysFirst P.plays (scene self.old player.old (W.contents output.old))
+            (scene self.new player.new (W.contents output.new)) bytes.now result }
     {
         let (Part::Whole, size, count) = part_of(bytes, LINE_LIMIT) else {
             return None;

@@ -2,7 +2,7 @@
 ghost use Rattle.std.specs.Prelude.{◌≡◌};
 ghost use Rattle.g1_replay.specs.{List, [], Ok, Err, Some, None, true, false, IfOk, MatchResult};
 ghost use Rattle.g1_replay.specs.{All, vec_len, slot_count, Appends, Command, Reads, StepFits};
-ghost use Rattle.g1_replay.specs.{AreScripts, WasUnread, dialect_in};
+ghost use Rattle.g1_replay.specs.{place, spot, AreScripts, WasUnread, dialect_in};
 
 use crate::lines::opening::read_layout;
 use crate::lines::source::{Commands, Source};
@@ -30,11 +30,12 @@ pub(crate) fn read_scripts<T: Wait, R: BufRead, W: Write>(
 ) -> Result<(Layout, Scripts), Stop>
     ensures read { MatchResult result
         (λ read. (commands : List Command)
-        × Reads (dialect_in mode options.now) None source.old.number source.new.number
-        (R.remaining input.old) (R.remaining input.new) (Some read.0) commands (Ok false)
+        × Reads (dialect_in mode options.now) (place None source.old.number (R.remaining input.old))
+        (place (Some read.0) source.new.number (R.remaining input.new)) commands (Ok false)
         × AreScripts (λ steps. steps.items) read.1.steps.items commands)
-        (λ stop. WasUnread (dialect_in mode options.now) source.old.number source.new.number
-        (R.remaining input.old) (R.remaining input.new) (Err stop) []) }
+        (λ stop. WasUnread (dialect_in mode options.now)
+        (spot source.old.number (R.remaining input.old))
+        (spot source.new.number (R.remaining input.new)) (Err stop) []) }
     ensures count { IfOk result (λ read. vec_len read.1.steps ≡ options.now.mutators) }
     ensures fits { IfOk result (λ read. All (λ steps.
         All (StepFits (slot_count read.0) true) steps.items) read.1.steps.items) }

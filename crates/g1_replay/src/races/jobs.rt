@@ -2,7 +2,7 @@
 ghost use Rattle.std.specs.Prelude.{◌≡◌, ◌+◌};
 ghost use Rattle.g1_replay.specs.{ℕ, List, drop, true, All, IfErr, IfOk, OnOk, None, map, vec_len};
 ghost use Rattle.g1_replay.specs.{slot_count, race_layout, ScriptFits, StepFits, Command, is_racer};
-ghost use Rattle.g1_replay.specs.{AllFrom, AreScripts, HasBack, IsNewMember, IsRaceJob, IsScriptAt};
+ghost use Rattle.g1_replay.specs.{AllFrom, AreScripts, HasBack, IsNewMember, IsScriptAt};
 ghost use Rattle.g1_replay.specs.{IsTableLeftBy, IsUnstarted, first_refusal, with_flush};
 ghost use Rattle.g1_replay.specs.{IsOpenedBy, capacity_of};
 
@@ -58,8 +58,9 @@ fn jobs_of<'a, T>(
     ensures logs { IfOk result (λ jobs.
         All (λ job. job.desk.fill ≡ options.now.config.log) jobs.items) }
     ensures jobs { IfOk result (λ jobs.
-        AllFrom (λ k job. IsRaceJob (λ steps. steps.items) race.now line.now options.now.mutators
-        options.now.rounds scripts.items k job.desk.member job.script) 0 jobs.items) }
+        AllFrom (λ k job. IsNewMember race.now line.now options.now.mutators k job.desk.member
+        × IsScriptAt (with_flush (λ steps. steps.items)) options.now.rounds scripts.items k
+        job.script) 0 jobs.items) }
     ensures fits { IfOk result (λ jobs.
         All (λ job. ScriptFits (slot_count (race_layout job.desk.race.now))
         (is_racer job.desk.member) job.script) jobs.items) }

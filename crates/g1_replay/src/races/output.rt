@@ -1,8 +1,8 @@
 //! What a race prints: how many stores were made, and a drain of each region of the core that the
 //! race has become.
 ghost use Rattle.std.specs.Prelude.{◌≡◌};
-ghost use Rattle.g1_replay.specs.{ℕ, List, count_by, Command, Ended, table_of, core_drained_none};
-ghost use Rattle.g1_replay.specs.{core_drained_then, CoreDrained, PrintsSome};
+ghost use Rattle.g1_replay.specs.{ℕ, List, count_by, Command, Ended, table_of, core_draining};
+ghost use Rattle.g1_replay.specs.{PrintsSome};
 ghost use Rattle.g1_replay.specs.{is_store_command, RaceRan, IsTableLeftBy};
 
 use crate::calls::put_call;
@@ -14,23 +14,13 @@ use g1_trace::put_stores;
 use std::io::Write;
 
 impl Drains for Core {
-    ghost layout = { λ core. core.state.table.layout };
-
-    ghost did = { CoreDrained };
-
-    ghost full = { λ core. ⊥ };
+    ghost draining = { core_draining };
 
     fn put_drain<W: Write>(&mut self, region: Region, output: &mut W) -> Result<(), Stop> {
         let answer = self.drain(region)?;
         put_call(output, &Call::Drain(region), &Reply::from(answer))?;
         Ok(())
     }
-
-    ghost none = { core_drained_none };
-
-    ghost then = { core_drained_then };
-
-    ghost stays = { λ s t cs text h. h.heap };
 }
 
 /// Prints the race's result: the number of stores, and a drain of each region of this core.

@@ -2,10 +2,9 @@
 //! and prints the result.
 ghost use Rattle.std.specs.Prelude.{◌≡◌, ◌<◌, ◌^◌};
 ghost use Rattle.g1_replay.specs.{List, true, All, vec_len, sum_by, slot_count, StepFits, Command};
-ghost use Rattle.g1_replay.specs.{AreScripts, RaceRan, IsScriptReplayed, PrintsSome, dialect_in};
-ghost use Rattle.g1_replay.specs.{IfOk, core_of, stores_in};
+ghost use Rattle.g1_replay.specs.{AreScripts, RaceRan, IsScriptReplayed, PrintsSome, racing};
+ghost use Rattle.g1_replay.specs.{IfOk, core_of, stores_in, spot, streams};
 ghost use Rattle.g1_replay.specs.Scripted.{Scripted};
-ghost use Rattle.g1_trace.specs.declared.mode.Mode.TheVariants.{Race};
 
 use crate::end::{End, put_end};
 use crate::lines::source::Source;
@@ -69,8 +68,9 @@ fn play_race<T: Threads + Wait + Sync, R: BufRead, W: Write>(
     output: &mut W,
     options: &Options,
 ) -> Result<(), Stop>
-    ensures { PrintsSome (Scripted (RaceRan options.now.mutators) (dialect_in Race options.now)
-        source.old.number source.new.number (R.remaining input.old) (R.remaining input.new))
+    ensures { PrintsSome (Scripted (racing options.now)
+        (spot source.old.number (R.remaining input.old))
+        (spot source.new.number (R.remaining input.new)))
         (W.contents output.old) (W.contents output.new) result }
 {
     let (layout, scripts) = read_scripts(rt, alloc, Mode::Race, source, input, output, options)?;
@@ -100,9 +100,9 @@ pub fn race<T: Threads + Wait + Sync, R: BufRead, W: Write>(
     output: &mut W,
     options: &Options,
 ) -> End
-    ensures { IsScriptReplayed (RaceRan options.now.mutators) (dialect_in Race options.now)
-        (R.remaining input.old) (R.remaining input.new)
-        (W.contents output.old) (W.contents output.new) result }
+    ensures { IsScriptReplayed (racing options.now)
+        (streams (R.remaining input.old) (W.contents output.old))
+        (streams (R.remaining input.new) (W.contents output.new)) result }
 {
     let mut source = Source::start();
     let outcome = play_race(rt, alloc, &mut source, input, output, options);

@@ -1,5 +1,5 @@
 //! A replay by one thread: the header of its trace, its lines, and the line of its end.
-ghost use Rattle.g1_replay.specs.{Run, PrintsSome, Told, IsDoneText, IsReplayed, dialect_in};
+ghost use Rattle.g1_replay.specs.{PrintsSome, Told, IsReplayed, running, spot, streams};
 
 use crate::end::{End, put_end};
 use crate::lines::opening::read_layout;
@@ -21,8 +21,8 @@ fn play_trace<T: Wait, R: BufRead, W: Write>(
     output: &mut W,
     options: &Options,
 ) -> Result<(), Stop>
-    ensures { PrintsSome (Told (dialect_in Run options.now) options.now source.old.number
-        source.new.number (R.remaining input.old) (R.remaining input.new))
+    ensures { PrintsSome (Told options.now (spot source.old.number (R.remaining input.old))
+        (spot source.new.number (R.remaining input.new)))
         (W.contents output.old) (W.contents output.new) result }
 {
     let layout = read_layout(source, input)?;
@@ -68,10 +68,9 @@ pub fn run<T: Wait, R: BufRead, W: Write>(
     output: &mut W,
     options: &Options,
 ) -> End
-    ensures { IsReplayed (dialect_in Run options.now) (λ d. Told d options.now)
-        (IsDoneText options.now) (IsDoneText options.now)
-        (R.remaining input.old) (R.remaining input.new)
-        (W.contents output.old) (W.contents output.new) result }
+    ensures { IsReplayed (running options.now)
+        (streams (R.remaining input.old) (W.contents output.old))
+        (streams (R.remaining input.new) (W.contents output.new)) result }
 {
     let mut source = Source::start();
     let outcome = play_trace(rt, alloc, &mut source, input, output, options);

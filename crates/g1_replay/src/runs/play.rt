@@ -1,8 +1,8 @@
 //! The calls of a command, and its output line.
 ghost use Rattle.std.specs.Prelude.{◌≡◌, ◌<◌};
 ghost use Rattle.g1_replay.specs.{true, IfSome, vec_len, slot_count, layout_in, IsCommandCall};
-ghost use Rattle.g1_replay.specs.{IsCommandOf, StepsThrough, stepped_none, stepped_then};
-ghost use Rattle.g1_replay.specs.{IsBookFull, IsReady, MayStop, is_pause, AreStill, IsPlayed};
+ghost use Rattle.g1_replay.specs.{IsCommandOf, stepping, at};
+ghost use Rattle.g1_replay.specs.{is_pause, AreStill, IsPlayed};
 ghost use Rattle.g1_replay.specs.{StoresAt, FlushesAt, RefinesAt, WorksAt, IsCallPlayed};
 ghost use Rattle.g1_replay.specs.{StandIf, StandStill};
 
@@ -19,13 +19,7 @@ use std::io::Write;
 use std::sync::Wait;
 
 impl Player for Machinery {
-    ghost takes = { λ s l d. IsReady s.book (vec_len s.mutators) s.line l d };
-
-    ghost did = { StepsThrough };
-
-    ghost full = { λ s. IsBookFull s.book };
-
-    ghost stops = { MayStop };
+    ghost plays = { stepping };
 
     /// Makes the calls of a command and writes its output line.
     #[inline(always)]
@@ -39,12 +33,6 @@ impl Player for Machinery {
     ) -> Result<(), Stop> {
         play_command(rt, self, command, output)
     }
-
-    ghost may_stop = { λ stop may. may };
-
-    ghost none = { stepped_none };
-
-    ghost then = { stepped_then };
 }
 
 // The step of a command, and its output line.
@@ -58,8 +46,8 @@ fn play_command<T: Wait, W: Write>(
     requires command { IsCommandOf (layout_in machinery.old.book) machinery.old.book.mutators
         command }
     requires mutators { vec_len machinery.old.mutators ≡ machinery.old.book.mutators }
-    ensures { IsPlayed command machinery.old machinery.new (W.contents output.old)
-        (W.contents output.new) result }
+    ensures { IsPlayed command (at machinery.old (W.contents output.old))
+        (at machinery.new (W.contents output.new)) result }
 {
     match command {
         Command::Store {
@@ -125,8 +113,8 @@ fn one_call<T: Wait, W: Write>(
     output: &mut W,
 ) -> Result<(), Stop>
     requires { IsCommandCall (layout_in machinery.old.book) call }
-    ensures { IsPlayed (Command.Call call) machinery.old machinery.new
-        (W.contents output.old) (W.contents output.new) result }
+    ensures { IsPlayed (Command.Call call) (at machinery.old (W.contents output.old))
+        (at machinery.new (W.contents output.new)) result }
 {
     stand_for(rt, machinery, &call);
     answer_call(machinery, call, output)
@@ -136,8 +124,8 @@ fn one_call<T: Wait, W: Write>(
 fn answer_call<W: Write>(machinery: &mut Machinery, call: Call, output: &mut W) -> Result<(), Stop>
     requires call { IsCommandCall (layout_in machinery.old.book) call }
     requires still { is_pause call ≡ true → AreStill machinery.old.mutators.items }
-    ensures asked { IsCallPlayed call machinery.old.book machinery.new.book
-        (W.contents output.old) (W.contents output.new) result }
+    ensures asked { IsCallPlayed call (at machinery.old.book (W.contents output.old))
+        (at machinery.new.book (W.contents output.new)) result }
     ensures mutators { machinery.new.mutators ≡ machinery.old.mutators }
     ensures line { (machinery.new.line ≡ machinery.old.line)
         × (machinery.new.takers ≡ machinery.old.takers) }
@@ -158,7 +146,7 @@ fn store<T: Wait>(
     requires slot { slot < slot_count (layout_in machinery.old.book) }
     requires target { IfSome target (λ place. place < slot_count (layout_in machinery.old.book)) }
     requires mutators { vec_len machinery.old.mutators ≡ machinery.old.book.mutators }
-    ensures { StoresAt machinery.old mutator slot target result machinery.new }
+    ensures { StoresAt machinery.old mutator (slot, target) result machinery.new }
 {
     let caller = &mut machinery.mutators[mutator as usize];
     let mut calls = LentBook::new(&mut machinery.book, mutator);

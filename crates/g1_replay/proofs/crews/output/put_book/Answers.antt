@@ -1,11 +1,9 @@
-use Rattle.g1_replay.specs.{sym, ◌∙◌, err_from_is_err_and}
-use Rattle.g1_replay.proofs.{stores_failed, book_written}
+use Rattle.g1_replay.specs.{sym, ◌∙◌}
+use Rattle.g1_replay.proofs.{err_is, stores_failed, book_written}
 use Rattle.g1_replay.proofs.crews.output.put_book.Goals as goal
 
 pub returns-in_err-put_stores : goal.returns-in_err-put_stores
-returns-in_err-put_stores g c commands many =
-    let p = err_from_is_err_and c.from_residual.result c.from_residual.ensures.1 in
-    rw (p.1, p.2) (stores_failed commands c.args.book.now _ _ c.entries-before.ensures.history (sym c.requires ∙ many) (rw c.requires at c.in_err-put_stores.ensures))
+returns-in_err-put_stores g c commands many = rw (err_is _ c.from_residual.ensures.1) (stores_failed commands c.args.book.now _ _ c.entries-before.ensures.history (sym c.requires ∙ many) (rw c.requires at c.in_err-put_stores.ensures))
 
 pub returns : goal.returns
 returns g c commands many =

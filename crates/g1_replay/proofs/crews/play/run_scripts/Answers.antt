@@ -1,23 +1,17 @@
 use Rattle.std.specs.Prelude.{◌≡◌, ◌+◌}
-use Rattle.g1_replay.specs.{ℕ, All, true, length, ap, arith, subst, sym, ◌∙◌, err_from_is_err_and, Shape, slot_count, StepFits, History, BookTerms, layout_in, opened, NoMemory, CrewDrained, AreOfCallers, HasCome, IsScriptFor, PrintsSome}
-use Rattle.g1_replay.proofs.{not_started, crew_ran}
+use Rattle.g1_replay.specs.{ℕ, All, true, length, ap, arith, subst, sym, ◌∙◌, Shape, slot_count, StepFits, History, BookTerms, layout_in, opened, NoMemory, CrewDrained, crew_book, AreOfCallers, HasCome, IsScriptFor, PrintsSome}
+use Rattle.g1_replay.proofs.{err_is, not_started, crew_ran}
 use Rattle.g1_replay.proofs.JobLemmas.{all_stored, come_for}
 use Rattle.g1_replay.proofs.crews.play.run_scripts.Goals as goal
 
 pub returns-in_err-book : goal.returns-in_err-book
-returns-in_err-book g c commands many =
-    let p = err_from_is_err_and c.from_residual.result c.from_residual.ensures.1 in
-    rw (p.1, p.2) (not_started commands c.args.options.now c.args.layout NoMemory (g.W.Write.contents c.args.output.now) tt)
+returns-in_err-book g c commands many = rw (err_is _ c.from_residual.ensures.1) (not_started commands c.args.options.now c.args.layout NoMemory (g.W.Write.contents c.args.output.now) tt)
 
 pub returns-in_err-ledgers : goal.returns-in_err-ledgers
-returns-in_err-ledgers g c commands many =
-    let p = err_from_is_err_and c.from_residual-in_err-ledgers.result c.from_residual-in_err-ledgers.ensures.1 in
-    rw (p.1, p.2) (not_started commands c.args.options.now c.args.layout NoMemory (g.W.Write.contents c.args.output.now) tt)
+returns-in_err-ledgers g c commands many = rw (err_is _ c.from_residual-in_err-ledgers.ensures.1) (not_started commands c.args.options.now c.args.layout NoMemory (g.W.Write.contents c.args.output.now) tt)
 
 pub returns-in_err-book-2 : goal.returns-in_err-book-2
-returns-in_err-book-2 g c commands many =
-    let p = err_from_is_err_and c.from_residual-in_err-book-2.result c.from_residual-in_err-book-2.ensures.1 in
-    rw (p.1, p.2) (not_started commands c.args.options.now c.args.layout _ (g.W.Write.contents c.args.output.now) c.in_err-book-2.ensures.stops)
+returns-in_err-book-2 g c commands many = rw (err_is _ c.from_residual-in_err-book-2.ensures.1) (not_started commands c.args.options.now c.args.layout _ (g.W.Write.contents c.args.output.now) c.in_err-book-2.ensures.stops)
 
 pub run_jobs-requires-clause-opened : goal.run_jobs-requires-clause-opened
 run_jobs-requires-clause-opened g c lts lives =
@@ -40,5 +34,5 @@ returns g c commands are =
     let made : AreOfCallers o commands c.in_ok-book-2.refused c.in_ok-book-2.book.entries =
     subst (λ (n : ℕ). HasCome (IsScriptFor o commands) (o.mutators + o.refiners) n c.in_ok-book-2.refused c.in_ok-book-2.book.entries) limit came in
     crew_ran commands o c.args.layout c.in_ok-book-2.refused c.in_ok-book-2.book.entries _ _ _ made
-    (subst (λ (l : Shape). PrintsSome (CrewDrained o.history l c.in_ok-book-2.refused c.in_ok-book-2.book.entries commands) (g.W.Write.contents c.args.output.now) (g.W.Write.contents c.put_crew.new.output) c.put_crew.result) same
+    (subst (λ (l : Shape). PrintsSome (CrewDrained (crew_book o.history l c.in_ok-book-2.refused c.in_ok-book-2.book.entries) commands) (g.W.Write.contents c.args.output.now) (g.W.Write.contents c.put_crew.new.output) c.put_crew.result) same
     (c.put_crew.ensures.ran commands (λ none. c.in_ok-book-2.ensures.stores ∙ all_stored (λ steps. steps.items) o.rounds c.args.scripts.items _ _ _ _ c.in_ok-book-2.ensures.came none (omega (arith, all)) ∙ are.stored)))

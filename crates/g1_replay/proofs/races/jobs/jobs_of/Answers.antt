@@ -1,5 +1,5 @@
 use Rattle.std.specs.Prelude.{◌≡◌, ◌+◌, ◌++◌}
-use Rattle.g1_replay.specs.{ℕ, suc, drop, map, vec_len, with_flush, ap, ◌∙◌, sym, subst, arith, All, into_iter_items, All-nil, All-push, All-same, slot_count, race_layout, ScriptFits, Member, is_racer, AllFrom, IsNewMember, IsRaceJob}
+use Rattle.g1_replay.specs.{ℕ, suc, drop, map, vec_len, with_flush, ap, ◌∙◌, sym, subst, arith, All, into_iter_items, All-nil, All-push, All-same, slot_count, race_layout, ScriptFits, Member, is_racer, AllFrom, IsNewMember, IsScriptAt}
 use Rattle.g1_race.specs.declared.race.Race.{Race}
 use Rattle.g1_steps.proofs.WorkerLemmas.{started_more}
 use Rattle.g1_replay.proofs.{all_from_next, all_from_rest, all_moved, flushes_fit, script_at_fits}
@@ -28,8 +28,8 @@ loop-member-preserved g c =
       room = omega (arith, was.room, c.push_reserved.ensures.capacity);
       same = started_more (λ job. job.desk.member) _ _ _ _ _ _ _ was.same steps.0 c.push_reserved.ensures.items c.new.ensures.member;
       rest = subst (λ (n : ℕ). AllFrom (IsNewMember race line mutators) n (into_iter_items c.next.new.self)) more first.1;
-      jobs = all_from_next (λ i job. IsRaceJob (λ steps. steps.items) race line mutators rounds scripts i job.desk.member job.script) _ _ k _ c.push_reserved.ensures.items (omega (arith, c.loop-member.jobs.ok.0)) was.jobs
-          (subst (λ (m : Member). IsRaceJob (λ steps. steps.items) race line mutators rounds scripts k m script) (sym c.new.ensures.member) (record { new = first.0; script = next.0 }));
+      jobs = all_from_next (λ i job. IsNewMember race line mutators i job.desk.member × IsScriptAt (with_flush (λ steps. steps.items)) rounds scripts i job.script) _ _ k _ c.push_reserved.ensures.items (omega (arith, c.loop-member.jobs.ok.0)) was.jobs
+          (subst (λ (m : Member). IsNewMember race line mutators k m × IsScriptAt (with_flush (λ steps. steps.items)) rounds scripts k script) (sym c.new.ensures.member) (first.0, next.0));
       fits = All-same (λ job. ScriptFits (slot_count (race_layout job.desk.race.now)) (is_racer job.desk.member) job.script) _ _ c.push_reserved.ensures.items
           (All-push (λ job. ScriptFits (slot_count (race_layout job.desk.race.now)) (is_racer job.desk.member) job.script) _ _ was.fits
           (subst (λ (m : Member). ScriptFits (slot_count (race_layout c.new.result.race.now)) (is_racer m) script) (sym c.new.ensures.member)
@@ -52,7 +52,7 @@ loop-member-init g c =
       same = ap (λ jobs. map (λ job. job.desk.member) jobs ++ into_iter_items c.into_iter-member-iterator.result) none ∙ given;
       rest = subst (λ (n : ℕ). AllFrom (IsNewMember c.args.race.now c.args.line.now c.args.options.now.mutators) n (into_iter_items c.into_iter-member-iterator.result)) empty
           (subst (AllFrom (IsNewMember c.args.race.now c.args.line.now c.args.options.now.mutators) 0) (sym given) c.requires.members);
-      jobs = subst (λ jobs. AllFrom (λ i job. IsRaceJob (λ steps. steps.items) c.args.race.now c.args.line.now c.args.options.now.mutators c.args.options.now.rounds c.args.scripts.items i job.desk.member job.script) 0 jobs) (sym none) tt;
+      jobs = subst (λ jobs. AllFrom (λ i job. IsNewMember c.args.race.now c.args.line.now c.args.options.now.mutators i job.desk.member × IsScriptAt (with_flush (λ steps. steps.items)) c.args.options.now.rounds c.args.scripts.items i job.script) 0 jobs) (sym none) tt;
       fits = subst (λ jobs. All (λ job. ScriptFits (slot_count (race_layout job.desk.race.now)) (is_racer job.desk.member) job.script) jobs) (sym none) (All-nil (λ job. ScriptFits (slot_count (race_layout job.desk.race.now)) (is_racer job.desk.member) job.script));
       logs = subst (λ jobs. All (λ job. job.desk.fill ≡ c.args.options.now.config.log) jobs) (sym none) (All-nil (λ job. job.desk.fill ≡ c.args.options.now.config.log));
       left = ap (λ n. drop n c.args.scripts.items) empty;

@@ -1,11 +1,9 @@
-use Rattle.g1_replay.specs.{◌∙◌, ap, err_from_is_err_and, Table}
-use Rattle.g1_replay.proofs.{count_failed, race_written}
+use Rattle.g1_replay.specs.{◌∙◌, ap, Table}
+use Rattle.g1_replay.proofs.{err_is, count_failed, race_written}
 use Rattle.g1_replay.proofs.races.output.put_race.Goals as goal
 
 pub returns-in_err-put_stores : goal.returns-in_err-put_stores
-returns-in_err-put_stores g c mutators e commands many is left =
-    let p = err_from_is_err_and c.from_residual.result c.from_residual.ensures.1 in
-    rw (p.1, p.2) (count_failed e mutators commands c.args.core.now is left _ _ (rw many at c.in_err-put_stores.ensures))
+returns-in_err-put_stores g c mutators e commands many is left = rw (err_is _ c.from_residual.ensures.1) (count_failed e mutators commands c.args.core.now is left _ _ (rw many at c.in_err-put_stores.ensures))
 
 pub returns : goal.returns
 returns g c mutators e commands many is left =

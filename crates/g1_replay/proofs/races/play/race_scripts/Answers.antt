@@ -1,13 +1,12 @@
 use Rattle.std.proofs.Common.{Vec}
 use Rattle.std.specs.Global.{Global}
-use Rattle.g1_replay.specs.{List, All, true, ap, sym, subst, ◌∙◌, slot_count, StepFits, NoMemory, IsOpenedBy, err_from_is_err_and, sum_by, Shape, Machine, Step, stores_in, PrintsSome, RaceRan}
-use Rattle.g1_replay.proofs.{race_stopped}
+use Rattle.g1_replay.specs.{List, All, true, ap, sym, subst, ◌∙◌, slot_count, StepFits, NoMemory, IsOpenedBy, sum_by, Shape, Machine, Step, stores_in, PrintsSome, RaceRan}
+use Rattle.g1_replay.proofs.{err_is, race_stopped}
 use Rattle.g1_replay.proofs.races.play.race_scripts.Goals as goal
 
 pub returns-in_err-opened : goal.returns-in_err-opened
 returns-in_err-opened g c = λ commands of.
-    let p = err_from_is_err_and c.from_residual.result c.from_residual.ensures.1 in
-    rw (p.1, p.2) (race_stopped c.args.options.now.mutators c.args.layout commands NoMemory (g.W.Write.contents c.args.output.now) tt)
+    rw (err_is _ c.from_residual.ensures.1) (race_stopped c.args.options.now.mutators c.args.layout commands NoMemory (g.W.Write.contents c.args.output.now) tt)
 
 pub run_race-requires-clause-opened : goal.run_race-requires-clause-opened
 run_race-requires-clause-opened g c lts lives =
@@ -19,13 +18,11 @@ run_race-requires-clause-fits g c lts lives =
 
 pub returns-in_err-closed : goal.returns-in_err-closed
 returns-in_err-closed g c = λ commands of.
-    let p = err_from_is_err_and c.from_residual-in_err-closed.result c.from_residual-in_err-closed.ensures.1 in
-    rw (p.1, p.2) (race_stopped c.args.options.now.mutators c.args.layout commands _ (g.W.Write.contents c.args.output.now) c.in_err-closed.ensures.stops)
+    rw (err_is _ c.from_residual-in_err-closed.ensures.1) (race_stopped c.args.options.now.mutators c.args.layout commands _ (g.W.Write.contents c.args.output.now) c.in_err-closed.ensures.stops)
 
 pub returns-in_err-core : goal.returns-in_err-core
 returns-in_err-core g c = λ commands of.
-    let p = err_from_is_err_and c.from_residual-in_err-core.result c.from_residual-in_err-core.ensures.1 in
-    rw (p.1, p.2) (race_stopped c.args.options.now.mutators c.args.layout commands NoMemory (g.W.Write.contents c.args.output.now) tt)
+    rw (err_is _ c.from_residual-in_err-core.ensures.1) (race_stopped c.args.options.now.mutators c.args.layout commands NoMemory (g.W.Write.contents c.args.output.now) tt)
 
 pub returns : goal.returns
 returns g c = λ commands of.

@@ -1,12 +1,12 @@
 use Rattle.std.specs.Prelude.{◌<◌, ◌∷◌, ◌++◌}
-use Rattle.g1_replay.specs.{ℕ, Option, Some, None, Appends-nil, Err, NoMemory, Ok, List, [], All, length, refl, sym, subst, ap, ◌∙◌, append-nil, true, arith, All-push, All-set, err_from_is_err_and, slot_count, StepFits, Step, asked_calls, of_done}
-use Rattle.g1_replay.proofs.{Kept, kept_at, kept_none, asks_one, asked_none, asked_own, asked_other, asked_fits, stores_none, stores_one, one_done, one_undone}
+use Rattle.g1_replay.specs.{ℕ, Option, Some, None, Appends-nil, Err, NoMemory, Ok, List, [], All, length, refl, sym, subst, ap, ◌∙◌, append-nil, true, arith, All-push, All-set, slot_count, StepFits, Step, asked_calls, keeping}
+use Rattle.g1_replay.proofs.{err_is, kept_at, kept_none, asks_one, asked_none, asked_own, asked_other, asked_fits, stores_none, stores_one, one_done, one_undone}
 use Rattle.g1_replay.proofs.scripts.ScriptsPlayer.play.Goals as goal
 use Rattle.g1_replay.proofs.scripts.ScriptsPlayer.play.Goals.{In-Some}
 
 pub returns-in_default-clause-played : goal.returns-in_default-clause-played
 returns-in_default-clause-played g c =
-    one_done (of_done Kept) (λ s. ⊥) c.args.self.now c.args.self.now c.args.command [] _ _ (Ok true)
+    one_done keeping.deeds c.args.command _ _ [] (Ok true)
     (kept_none (λ script. script.items) c.args.self.now.steps.items (c.args.command ∷ []) (λ k. asks_one k c.args.command None (asked_none c.args.command k (sym c.in_default.ensures))) (stores_none c.args.command (sym c.in_default.ensures)), refl)
     refl (λ e. cc) (Appends-nil _)
 
@@ -18,9 +18,8 @@ fits g c =
 
 pub returns-in_err-append-clause-played : goal.returns-in_err-append-clause-played
 returns-in_err-append-clause-played g c =
-    let p = err_from_is_err_and c.from_residual.result c.from_residual.ensures.1 in
     let fits = fits g (goal.at.returns-in_err-append-clause-played g c).In-Some in
-    rw (p.1, p.2) (one_undone (of_done Kept) (λ s. ⊥) c.args.self.now _ c.args.command _ _ (Err NoMemory) (
+    rw (err_is _ c.from_residual.ensures.1) (one_undone keeping.deeds c.args.command _ _ (Err NoMemory) (
       kept_at (λ script. script.items) c.args.self.now.steps.items c.in-Some.by c.append.new.steps c.index_mut.result.now [] [] fits.0 c.index_mut.ensures.value
           (c.in_err-append.ensures.err ∙ sym (append-nil c.index_mut.result.now.items)) refl (λ k other. refl) refl,
       refl,
@@ -30,7 +29,7 @@ pub returns-clause-played : goal.returns-clause-played
 returns-clause-played g c =
     let fits = fits g (goal.at.returns-clause-played g c).In-Some in
     let asked = sym c.in-Some.ensures in
-    one_done (of_done Kept) (λ s. ⊥) c.args.self.now _ c.args.command [] _ _ (Ok true) (
+    one_done keeping.deeds c.args.command _ _ [] (Ok true) (
       kept_at (λ script. script.items) c.args.self.now.steps.items c.in-Some.by c.append.new.steps c.index_mut.result.now (c.args.command ∷ []) (c.in-Some._step ∷ []) fits.0 c.index_mut.ensures.value
           (c.in_ok-append.ensures.ok ∙ ap (λ (o : Option (ℕ × Step)). c.index_mut.result.now.items ++ asked_calls o) asked)
           (asks_one c.in-Some.by c.args.command (Some c.in-Some._step) (asked_own c.args.command _ asked))

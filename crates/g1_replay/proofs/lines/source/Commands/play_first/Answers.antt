@@ -5,7 +5,7 @@ use Rattle.g1_replay.proofs.lines.source.Commands.play_first.Goals as goal
 
 pub returns-in-Some : goal.returns-in-Some
 returns-in-Some g c =
-    first_played g.P.Player.did g.P.Player.full g.P.Player.stops g.P.Player.takes _ _ _ _ c.args.bytes.now _ _ c.in-Some.count c.play-played.result
-    (λ rd rd' moved. line_done g.P.Player.did g.P.Player.full g.P.Player.stops g.met.P.Player.may_stop _ _ c.in-Some.store _ _ _ _ _ _ c.play-played.result c.play-played.ensures.stops
+    first_played g.P.Player.plays _ _ c.args.bytes.now c.in-Some.count c.play-played.result
+    (λ rd rd' moved. line_done g.P.Player.plays c.in-Some.store _ _ _ _ c.play-played.result c.play-played.ensures.stops
     (shown_read _ _ _ _ _ c.args.bytes.now c.in-Some.store c.in-Some.count c.in-Some.ensures.line moved) c.play-played.ensures.played)
     (refl, refl, refl) refl (takes_some _ _ _ c.in-Some.ensures.line.front, c.in-Some.ensures.within) (omega arith) (search rules) (search rules)

@@ -6,21 +6,21 @@ use Rattle.g1_replay.proofs.lines.source.Commands.play_other.Goals as goal
 pub returns-in-Err : goal.returns-in-Err
 returns-in-Err g c =
     let whole = rw c.in-Whole-default-default.is-0 at c.part_of.ensures.goes_on in
-    first_played g.P.Player.did g.P.Player.full g.P.Player.stops g.P.Player.takes _ _ _ _ c.args.bytes.now _ _ _ (Err (Fault c.in-Err.fault))
-    (λ rd rd' moved. line_unread g.P.Player.did g.P.Player.full _ _ _ _ _ _ (Fault c.in-Err.fault) (g.met.P.Player.none _) tt (command_faulty _ _ _ _ _ _ _ (line_shown rd rd' c.args.bytes.now _ _ whole (omega arith) moved) c.in-Err.ensures.read))
+    first_played g.P.Player.plays _ _ c.args.bytes.now _ (Err (Fault c.in-Err.fault))
+    (λ rd rd' moved. line_unread g.P.Player.plays.deeds _ _ _ _ _ (Fault c.in-Err.fault) tt (command_faulty _ _ _ _ _ _ _ (line_shown rd rd' c.args.bytes.now _ _ whole (omega arith) moved) c.in-Err.ensures.read))
     (refl, refl, refl) refl (takes_some _ _ _ whole.2, c.part_of.ensures.shown) (omega arith) (search rules) (search rules)
 
 pub returns-in_default-asked : goal.returns-in_default-asked
 returns-in_default-asked g c =
     let whole = rw c.in-Whole-default-default.is-0 at c.part_of.ensures.goes_on in
-    first_played g.P.Player.did g.P.Player.full g.P.Player.stops g.P.Player.takes _ _ _ _ c.args.bytes.now _ _ _ (Ok tt)
-    (λ rd rd' moved. line_passed g.P.Player.did g.P.Player.full _ _ _ _ _ _ true (g.met.P.Player.none _) (command_read _ _ _ _ _ _ None (line_shown rd rd' c.args.bytes.now _ _ whole (omega arith) moved) (rw c.in_default-asked.is at c.in-Ok.ensures.read)))
+    first_played g.P.Player.plays _ _ c.args.bytes.now _ (Ok tt)
+    (λ rd rd' moved. line_passed g.P.Player.plays.deeds _ _ _ _ _ true (command_read _ _ _ _ _ _ None (line_shown rd rd' c.args.bytes.now _ _ whole (omega arith) moved) (rw c.in_default-asked.is at c.in-Ok.ensures.read)))
     (refl, refl, refl) refl (takes_some _ _ _ whole.2, c.part_of.ensures.shown) (omega arith) (search rules) (search rules)
 
 pub returns : goal.returns
 returns g c =
     let whole = rw c.in-Whole-default-default.is-0 at c.part_of.ensures.goes_on in
-    first_played g.P.Player.did g.P.Player.full g.P.Player.stops g.P.Player.takes _ _ _ _ c.args.bytes.now _ _ _ c.play-played.result
-    (λ rd rd' moved. line_done g.P.Player.did g.P.Player.full g.P.Player.stops g.met.P.Player.may_stop _ _ c.in-Some.command _ _ _ _ _ _ c.play-played.result c.play-played.ensures.stops
+    first_played g.P.Player.plays _ _ c.args.bytes.now _ c.play-played.result
+    (λ rd rd' moved. line_done g.P.Player.plays c.in-Some.command _ _ _ _ c.play-played.result c.play-played.ensures.stops
     (command_read _ _ _ _ _ _ (Some c.in-Some.command) (line_shown rd rd' c.args.bytes.now _ _ whole (omega arith) moved) (rw c.in-Some.is at c.in-Ok.ensures.read)) c.play-played.ensures.played)
     (refl, refl, refl) refl (takes_some _ _ _ whole.2, c.part_of.ensures.shown) (omega arith) (search rules) (search rules)

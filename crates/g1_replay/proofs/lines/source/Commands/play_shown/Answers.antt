@@ -4,7 +4,7 @@ use Rattle.g1_replay.proofs.lines.source.Commands.play_shown.Goals as goal
 
 pub lines-init : goal.lines-init
 lines-init g c = record {
-  followed = front_none g.P.Player.did g.P.Player.full _ _ c.args.shown.now _ (g.met.P.Player.none _);
+  followed = front_none g.P.Player.plays.deeds _ c.args.shown.now;
   within = omega arith;
   counted = omega arith;
   reads = refl;
@@ -14,7 +14,7 @@ lines-init g c = record {
 
 pub returns-in-Err-clause-followed : goal.returns-in-Err-clause-followed
 returns-in-Err-clause-followed g c =
-    front_then g.P.Player.did g.P.Player.full g.met.P.Player.then _ _ _ c.lines.taken c.in-Some.count _ _ _ c.args.shown.now _ _ _ _ (Err c.in-Err.stop) c.split_at.ensures.back c.lines.invariant.same c.lines.invariant.followed (rw c.in-Err.is at c.in-Some.ensures.followed)
+    front_then g.P.Player.plays.deeds _ _ _ c.lines.taken c.in-Some.count c.args.shown.now _ (Err c.in-Err.stop) c.split_at.ensures.back c.lines.invariant.same c.lines.invariant.followed (rw c.in-Err.is at c.in-Some.ensures.followed)
 
 pub lines-preserved : goal.lines-preserved
 lines-preserved g c =
@@ -23,7 +23,7 @@ lines-preserved g c =
     let line = c.in-Some.ensures.counted in
     let before = c.lines.invariant.counted in
     record {
-      followed = front_then g.P.Player.did g.P.Player.full g.met.P.Player.then _ _ _ c.lines.taken c.in-Some.count _ _ _ c.args.shown.now _ _ _ _ (Ok true) c.split_at.ensures.back c.lines.invariant.same c.lines.invariant.followed
+      followed = front_then g.P.Player.plays.deeds _ _ _ c.lines.taken c.in-Some.count c.args.shown.now _ (Ok true) c.split_at.ensures.back c.lines.invariant.same c.lines.invariant.followed
           (rw c.in_default-played.is at c.in-Some.ensures.followed);
       within = omega arith;
       counted = omega arith;

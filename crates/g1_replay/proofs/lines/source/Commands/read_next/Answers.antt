@@ -1,13 +1,13 @@
 use Rattle.std.specs.Prelude.{◌≡◌}
-use Rattle.g1_replay.specs.{[], List, ℕ, Some, None, subst, sym, rules, err_from_is_err_and, HasPart}
+use Rattle.g1_replay.specs.{[], List, ℕ, Some, None, subst, sym, rules, HasPart}
+use Rattle.g1_replay.proofs.{err_is}
 use Rattle.g1_replay.proofs.ReadingLemmas.{line_stopped, no_line, command_read, command_faulty}
 use Rattle.g1_replay.proofs.lines.source.Commands.read_next.Goals as goal
 
 pub returns-in_err-rest_of_line-clause-read : goal.returns-in_err-rest_of_line-clause-read
 returns-in_err-rest_of_line-clause-read g c =
     let empty : c.new-line.result.items ≡ [] = search rules in
-    let p = err_from_is_err_and c.from_residual.result c.from_residual.ensures.1 in
-    rw (p.1, p.2) (λ begun part. line_stopped _ _ _ _ _ _ _ (c.in_err-rest_of_line.ensures.line begun (subst (λ (line : List ℕ). HasPart begun (g.R.Read.remaining c.args.input.now) c.args.part line) (sym empty) part)))
+    rw (err_is _ c.from_residual.ensures.1) (λ begun part. line_stopped _ _ _ _ _ _ _ (c.in_err-rest_of_line.ensures.line begun (subst (λ (line : List ℕ). HasPart begun (g.R.Read.remaining c.args.input.now) c.args.part line) (sym empty) part)))
 
 pub returns-then-not-branch-clause-read : goal.returns-then-not-branch-clause-read
 returns-then-not-branch-clause-read g c =
@@ -18,8 +18,7 @@ returns-then-not-branch-clause-read g c =
 pub returns-in_err-command-clause-read : goal.returns-in_err-command-clause-read
 returns-in_err-command-clause-read g c =
     let empty : c.new-line.result.items ≡ [] = search rules in
-    let p = err_from_is_err_and c.from_residual-in_err-command.result c.from_residual-in_err-command.ensures.1 in
-    rw (p.1, p.2) (λ begun part.
+    rw (err_is _ c.from_residual-in_err-command.ensures.1) (λ begun part.
     let line = rw c.if-not-branch.false at (c.in_ok-rest_of_line.ensures.line begun (subst (λ (line : List ℕ). HasPart begun (g.R.Read.remaining c.args.input.now) c.args.part line) (sym empty) part)) in
     command_faulty _ _ _ _ _ _ _ line (rw c.as_slice.ensures.value at c.in_err-command.ensures.read))
 
