@@ -7,12 +7,14 @@ use crate::machinery::{REFERENCES, new_book, new_core};
 use g1_book::{Book, Keeps, Ledgers, Shared, Terms};
 use g1_core::Core;
 use g1_layout::NoMemory;
+use std::alloc::Global;
 use std::marker::Brand;
 use std::sync::Wait;
 use std::sync::ledger::Ledger;
 use test_support::Failure;
 use test_support::checks::{check, equal};
 use test_support::failure::refused;
+use test_support::numbers::region;
 use test_support::players::{OnCore, State, state_of};
 use test_support::step::Step::{Logged, Refine};
 use test_support::steps::play;
@@ -41,6 +43,7 @@ pub(crate) fn core<R: Wait + Eprint + AllocGlobal>(rt: &R) -> Result<(), Failure
     play(rt, &mut on, &steps)?;
     let before = state_of(&mut on)?;
     let OnCore { core, .. } = on;
+    let core = drained(rt.alloc(), core)?;
     let core = match share(rt, Book::over(rt.alloc(), core, 1, u64::MAX)) {
         Ok(book) => book.into_core(),
         Err(book) => {
@@ -51,6 +54,15 @@ pub(crate) fn core<R: Wait + Eprint + AllocGlobal>(rt: &R) -> Result<(), Failure
     };
     is_left(rt, core, &before)?;
     Ok(())
+}
+
+// Where no entries are kept, no room is made for their lists: this drain, of a region into which
+// nothing refers, takes no memory.
+fn drained(alloc: Global, core: Core) -> Result<Core, Failure> {
+    let of = region(core.layout(), 1)?;
+    let mut book = Book::over(alloc, core, 1, 1);
+    book.drain(0, of)?;
+    Ok(book.into_core())
 }
 
 // The core, if it is as it was.

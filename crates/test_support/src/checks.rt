@@ -1,10 +1,14 @@
 //! How values are compared.
+ghost use Rattle.std.specs.Prelude.{◌↔◌, IsOk, IsTrue};
+
 use crate::failure::Failure;
 use g1_layout::Card;
 use std::fmt::Debug;
 
 /// Says what does not hold.
-pub fn check(rt: &impl Eprint, holds: bool, what: &str) -> Result<(), Failure> {
+pub fn check(rt: &impl Eprint, holds: bool, what: &str) -> Result<(), Failure>
+    ensures { IsOk result ↔ IsTrue holds }
+{
     if holds {
         return Ok(());
     }

@@ -15,6 +15,7 @@ pub fn small() -> Result<Layout, Failure> {
     Layout::new(4, 2, 4).ok_or(Failure::Wrong)
 }
 
+/// The slot of this number, counted from 0 through the whole heap. `Wrong` if it has no such slot.
 pub fn slot(layout: Layout, number: u32) -> Result<Slot, Failure>
     ensures within { IfOk result (λ slot. slot < slot_count layout) }
     ensures value { IfOk result (λ slot. slot ≡ number) }
@@ -32,12 +33,14 @@ pub fn place(layout: Layout, number: Option<u32>) -> Result<Option<Slot>, Failur
     }
 }
 
+/// The card of this number, counted from 0 through the whole heap. `Wrong` if it has no such card.
 pub fn card(layout: Layout, number: u32) -> Result<Card, Failure>
     ensures { IfOk result (λ card. card < card_count layout) }
 {
     layout.card(number).ok_or(Failure::Wrong)
 }
 
+/// The region of this number, counted from 0. `Wrong` if the heap has no such region.
 pub fn region(layout: Layout, number: u32) -> Result<Region, Failure>
     ensures within { IfOk result (λ region. region < layout.regions) }
     ensures value { IfOk result (λ region. region ≡ number) }

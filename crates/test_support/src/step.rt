@@ -56,6 +56,8 @@ pub struct Answer {
 }
 
 impl Answer {
+    /// The reply with the numbers of the refined cards. `Wrong` if these are more than a small heap
+    /// has.
     pub fn new(reply: Reply, refined: &[Card]) -> Result<Answer, Failure> {
         Ok(Answer {
             reply,
@@ -63,6 +65,7 @@ impl Answer {
         })
     }
 
+    /// What a refinement returned: its counts of buffers and cards, as an entry has them.
     pub fn of_refine(reply: &RefineReply) -> Result<Answer, Failure> {
         let counts = Reply::Refined {
             taken: reply.taken,
@@ -74,6 +77,7 @@ impl Answer {
         Answer::new(counts, reply.refined.as_slice())
     }
 
+    /// What a drain returned: the cards of its set, or that it was short.
     pub fn of_drain(answer: Drained) -> Result<Answer, Failure> {
         match answer {
             Drained::Cards { cards, refined } => {
@@ -83,6 +87,7 @@ impl Answer {
         }
     }
 
+    /// What a redirect returned: how many slots changed, or that it was short.
     pub fn of_redirect(answer: Redirected) -> Result<Answer, Failure> {
         match answer {
             Redirected::Moved { slots, refined } => {
