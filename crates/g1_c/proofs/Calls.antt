@@ -1,6 +1,6 @@
 -- What a clause of an exported call says once the call's result is known.
 use Rattle.std.specs.Prelude.{◌≡◌, ◌<◌, ◌≤◌, ◌⊎◌}
-use Rattle.g1_c.specs.{ℕ, arith, subst, Option, Some, None, Result, Ok, Err, IsSomeAnd, Pause, Reason, OfKind, kind_word, refusal_word, IsHeapRefused, IsRoleRefused, refl, sym, OfRole, SaysNoMember, IsSameHeap, OfPaused, SaysNoHeap, SaysNotPaused, IsCalled, IsVisit, FnOnceReturnsAtMut, RacingHeap, Ghosts, Member, Kind, Called, IsMadeOrRefused, OnHeap, ToldByHeap, ClearReply, cleared_of, Tells, IsTold, MutBor, called_ok, called_why, called_same, role_ok, role_of, role_why, visit_same}
+use Rattle.g1_c.specs.{ℕ, arith, subst, Option, Some, Result, Ok, Err, Pause, Reason, refusal_word, IsHeapRefused, IsRoleRefused, refl, sym, OfRole, SaysNoMember, IsSameHeap, OfPaused, SaysNoHeap, SaysNotPaused, IsCalled, IsVisit, FnOnceReturnsAtMut, RacingHeap, Ghosts, Member, Called, IsMadeOrRefused, OnHeap, ToldByHeap, ClearReply, cleared_of, Tells, IsTold, MutBor, called_ok, called_why, called_same, role_ok, role_of, role_why, visit_same}
 use denote.Param.Members.{Once}
 
 module _ {V : Type 0} (most : ℕ) (call : Called V) (Untold Does : Type 0) (Why : Reason → Type 0) where
@@ -35,22 +35,7 @@ module _ {V A : Type 0} (call : Called V) (told : A) (Untold : Type 0) (Is : A �
 moved : {V : Type 0} (P : V → V → Type 0) {p q x y : V} → p ≡ x → q ≡ y → P p q → P x y
 moved P {p} {q} {x} {y} e f so = subst (λ v. P v y) e (subst (λ v. P p v) f so)
 
-some_so : {A : Type 0} (P Q : A → Type 0) (o : Option A) → ((x : A) → P x → Q x) → IsSomeAnd o P → IsSomeAnd o Q
-some_so P Q None so is = is
-some_so P Q (Some x) so is = so x is
-
 module _ {P : Type 0} {g : Ghosts P} {T : Type 0} (seen : Member P g → P → T) where
-  of_so : (R Q : T → Type 0) (m : Option (Member P g)) → ((a : T) → R a → Q a) → OfRole seen m R → OfRole seen m Q
-  of_so R Q None so is = is
-  of_so R Q (Some m) so is = some_so (λ p. R (seen m p)) (λ p. Q (seen m p)) m.role (λ p. so (seen m p)) is
-
-  -- what is so with the kind of a store is so with its word
-  pub of_kind : (R : Kind → T → T → Type 0) (old new : Option (Member P g)) (word : ℕ) (k : Kind) → word ≡ kind_word k
-      → OfRole seen old (λ a. OfRole seen new (λ b. R k a b)) → OfRole seen old (λ a. OfRole seen new (λ b. OfKind word (λ kind. R kind a b)))
-  of_kind R old new word k is so =
-      of_so (λ a. OfRole seen new (λ b. R k a b)) (λ a. OfRole seen new (λ b. OfKind word (λ kind. R kind a b))) old
-      (λ a. of_so (λ b. R k a b) (λ b. OfKind word (λ kind. R kind a b)) new (λ b stores. (k, is, stores))) so
-
   module _ {F A : Type 0} (h : Once F (MutBor (Member P g) × Unit {0}) (Result A Reason × (MutBor (Member P g) × Unit {0}))) (f : F) where
     abbrev Made : Member P g → Result A Reason → Member P g → Type 0
     Made m r n = FnOnceReturnsAtMut h f m r n
@@ -122,15 +107,6 @@ module _ {F A : Type 0} (h : Once F (MutBor Pause × Unit {0}) (Result A Reason 
       (λ r e. heap_refused (λ p. Why p r) call.old call.new r (subst (λ r. IsCalled Done call.old r call.new) e is) (why r))
       (λ r e. heap_same call.old call.new (Err r) (subst (λ r. IsCalled Done call.old r call.new) e is) (kept r))
 
-  -- one that tells nothing
-  pub heap_does : (R : Pause → Pause → Type 0) (Why : Pause → Reason → Type 0) (call : Called RacingHeap) (answer : Result A Reason) (told : A) (Untold : Type 0)
-      → IsCalled Done call.old answer call.new → Tells answer call.word told Untold
-      → ((a : A) (p q : MutBor Pause) → h.post f (p, tt) (Ok a, (q, tt)) → R p.now q.now)
-      → ((r : Reason) (p q : MutBor Pause) → h.post f (p, tt) (Err r, (q, tt)) → Why p.now r)
-      → ((r : Reason) (p q : MutBor Pause) → h.post f (p, tt) (Err r, (q, tt)) → q.now ≡ p.now)
-      → OnHeap 0 call Untold R Why
-  heap_does R = heap_tells (λ a. R)
-
   -- a question to a heap
   pub heap_answers : (R : A → Pause → Type 0) (Why : Pause → Reason → Type 0) (call : Called RacingHeap) (answer : Result A Reason) (told : A) (Untold : Type 0)
       → IsCalled Done call.old answer call.new → Tells answer call.word told Untold
@@ -143,6 +119,16 @@ module _ {F A : Type 0} (h : Once F (MutBor Pause × Unit {0}) (Result A Reason 
       (λ a e. heap_made (λ o n. R a o) call.old call.new a (subst (λ r. IsCalled Done call.old r call.new) e is) (so a))
       (λ r e. heap_refused (λ p. Why p r) call.old call.new r (subst (λ r. IsCalled Done call.old r call.new) e is) (why r))
       (heap_same call.old call.new answer is (same answer))
+
+module _ {F : Type 0} (h : Once F (MutBor Pause × Unit {0}) (Result (Unit {0}) Reason × (MutBor Pause × Unit {0}))) (f : F) where
+  -- one that tells nothing
+  pub heap_does : (R : Pause → Pause → Type 0) (Why : Pause → Reason → Type 0) (call : Called RacingHeap) (answer : Result (Unit {0}) Reason)
+      → IsCalled (Done h f) call.old answer call.new → Tells answer call.word tt (Unit {0})
+      → ((p q : MutBor Pause) → h.post f (p, tt) (Ok tt, (q, tt)) → R p.now q.now)
+      → ((r : Reason) (p q : MutBor Pause) → h.post f (p, tt) (Err r, (q, tt)) → Why p.now r)
+      → ((r : Reason) (p q : MutBor Pause) → h.post f (p, tt) (Err r, (q, tt)) → q.now ≡ p.now)
+      → OnHeap 0 call (Unit {0}) R Why
+  heap_does R Why call answer is tells so why kept = heap_tells h f (λ a. R) Why call answer tt (Unit {0}) is tells (λ _. so) why kept
 
 module _ {F : Type 0} (h : Once F (MutBor Pause × Unit {0}) (Result (ℕ × ℕ) Reason × (MutBor Pause × Unit {0}))) (f : F) where
   -- a clear of a heap that got the reply of a word
@@ -176,6 +162,6 @@ module _ {P : Type 0} {g : Ghosts P} {T : Type 0} (seen : Member P g → P → T
       (role_same h f call.old call.new answer is (same answer))
 
 -- what the exports of a room cite
-pub ruleset heap_calls = (heap_made, called_same, is_made)
+pub ruleset heap_calls = (heap_made, called_same, heap_does, heap_answers, heap_not, is_made)
 
-pub ruleset role_calls = (of_kind, role_made, role_answers, is_made)
+pub ruleset role_calls = (role_made, role_answers, role_not, is_made)

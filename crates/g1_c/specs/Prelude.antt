@@ -1,7 +1,7 @@
 -- What the crate takes from the libraries below it.
 pub use Rattle.std.proofs.Common.{arith, MutBor, refl, rules, subst, sym, ◌∙◌}
 pub use Rattle.std.specs.Fn.{FnOnceReturnsAtMut}
-pub use Rattle.std.specs.Prelude.{Err, IsSome, IsSomeAnd, length, None, Ok, Option, Result, List}
+pub use Rattle.std.specs.Prelude.{Err, IsSome, length, None, Ok, Option, Result, List}
 pub use Rattle.std.specs.Prelude.{Some, take, ℕ}
 pub use Rattle.g1_core.specs.Calls.{DoesCopy, TellsMembers, TellsPending, TellsStatus, TellsTarget}
 pub use Rattle.g1_core.specs.Machine.{Machine, new_machine}
@@ -13,7 +13,7 @@ pub use Rattle.g1_handles.proofs.VisitLemmas.{role_of, role_ok, role_why, visit_
 pub use Rattle.g1_handles.specs.AtPause.{DrainsRegion, RefersOut, StoresAllAt, StoresRowAt}
 pub use Rattle.g1_handles.specs.Batch.{AreStoresOf, IsFaultAt, made_all}
 pub use Rattle.g1_handles.specs.Codes.{cleared_of, Between, IsRefusal, IsStoreOf, IsVisit}
-pub use Rattle.g1_handles.specs.Codes.{kind_word, layout_of, OfKind, OfOpen, reference_of}
+pub use Rattle.g1_handles.specs.Codes.{layout_of, OfKind, OfOpen, reference_of}
 pub use Rattle.g1_handles.specs.Codes.{refusal_word, settings_of}
 pub use Rattle.g1_handles.specs.Counting.{stored_as}
 pub use Rattle.g1_handles.specs.HeapCalls.{IsCalled, IsHeapRefused}
@@ -33,7 +33,7 @@ pub use Rattle.g1_handles.specs.RaceWords.{CanStoreWord, FindsOtherWord, MayHave
 pub use Rattle.g1_handles.specs.RaceWords.{SaysNoWordStore, SwapsWord}
 pub use Rattle.g1_handles.specs.Racing.{held_racers, held_readers, held_sweepers, OfRacer, OfRole}
 pub use Rattle.g1_handles.specs.Racing.{OfSweeper, Racing, racing_in, Stores, StoresData}
-pub use Rattle.g1_handles.specs.Racing.{sweeping_in, Sweeps, TakesLog}
+pub use Rattle.g1_handles.specs.Racing.{Sweeps, TakesLog}
 pub use Rattle.g1_handles.specs.Readers.{IsReadEndRefused, IsReadRefused, OfReader, ReaderAt}
 pub use Rattle.g1_handles.specs.Readers.{reader_layout, reading_in, ReadsPair, table_of_reader}
 pub use Rattle.g1_handles.specs.Refusals.{AreMembersRefused, AreStoresRefused, CanStore}

@@ -4,4 +4,4 @@ use Rattle.g1_c.proofs.{heap_does}
 use Rattle.g1_c.proofs.heap.words.g1_heap_store_data.Goals as goal
 
 pub returns : goal.returns
-returns c = heap_does _ _ _ _ _ _ _ _ c.replace_with.ensures c.answer_word.ensures (λ _ _ _ c. search rules) (λ _ _ _ c. search rules) (λ _ _ _ c. search rules)
+returns c = heap_does _ _ _ _ _ _ c.replace_with.ensures c.answer_word.ensures (λ _ _ c. search rules) (λ _ _ _ c. search rules) (λ _ _ _ c. search rules)
