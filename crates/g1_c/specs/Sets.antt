@@ -35,7 +35,7 @@ ListsOfHeap call array AreSo region = IsListed call array
     (IsHeapRefused call.old (λ old. LacksRegion old.layout region))
 
 -- A clear got a reply: the word 0 says that it was granted, and 19 and 20 what speaks against it,
--- with a number. Any other word is that of a refusal. Only what was granted has an effect.
+-- with a number. Any other word is that of a refusal, and tells no number.
 pub record IsCleared {V : Type 0} (call : Called V) (number : ℕ) (Clears : ClearReply → Type 0)
     (Why : Reason → Type 0) : Type 0 where
   pub cleared : call.word ≡ 0 → Clears Cleared
