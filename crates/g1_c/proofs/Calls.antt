@@ -1,54 +1,41 @@
 -- What a clause of an exported call says once the call's result is known.
-use Rattle.std.specs.Prelude.{◌≡◌, ◌≤◌, ◌⊎◌}
-use Rattle.g1_c.specs.{ℕ, arith, subst, Option, Some, None, Result, Ok, Err, IsSomeAnd, Pause, Reason, OfKind, kind_word, refusal_word, IsHeapRefused, IsRoleRefused, refl, sym, OfRole, SaysNoMember, IsSameHeap, OfPaused, SaysNoHeap, SaysNotPaused, IsCalled, IsVisit, FnOnceReturnsAtMut, RacingHeap, Ghosts, Member, Kind, TellsRefusal, Tells, IsTold, MutBor, called_ok, called_why, called_same, role_ok, role_of, role_why, visit_same}
+use Rattle.std.specs.Prelude.{◌≡◌, ◌<◌, ◌≤◌, ◌⊎◌}
+use Rattle.g1_c.specs.{ℕ, arith, subst, Option, Some, Result, Ok, Err, Pause, Reason, refusal_word, IsHeapRefused, IsRoleRefused, refl, sym, OfRole, SaysNoMember, IsSameHeap, OfPaused, SaysNoHeap, SaysNotPaused, IsCalled, IsVisit, FnOnceReturnsAtMut, RacingHeap, Ghosts, Member, Called, IsMadeOrRefused, OnHeap, ToldByHeap, ClearReply, cleared_of, Tells, IsTold, MutBor, called_ok, called_why, called_same, role_ok, role_of, role_why, visit_same}
 use denote.Param.Members.{Once}
 
-module _ {V : Type 0} (most word : ℕ) (old new : Option V) (Untold : Type 0) (Why : Reason → Type 0) where
+module _ {V : Type 0} (most : ℕ) (call : Called V) (Untold Does : Type 0) (Why : Reason → Type 0) where
   -- what a call did is no refusal
-  pub tells_none : word ≤ most → TellsRefusal most word old new Untold Why
-  tells_none done = record {
-    untold = λ above. absurd (omega (arith, done, above));
-    why = λ above. absurd (omega (arith, done, above));
-    same = λ above. absurd (omega (arith, done, above));
+  pub is_made : call.word ≤ most → Does → IsMadeOrRefused most call Untold Does Why
+  is_made few does = record {
+    does = λ _. does;
+    untold = λ above. absurd (omega (arith, few, above));
+    why = λ above. absurd (omega (arith, few, above));
+    same = λ above. absurd (omega (arith, few, above));
   }
 
-  pub tells : (r : Reason) → word ≡ refusal_word r → Untold → Why r → new ≡ old → TellsRefusal most word old new Untold Why
-  tells r is untold why same = record { untold = λ _. untold; why = λ _. (r, is, why); same = λ _. same }
+  -- and a refusal did nothing
+  pub is_refused : (r : Reason) → call.word ≡ refusal_word r → most < call.word → Untold → Why r → call.new ≡ call.old → IsMadeOrRefused most call Untold Does Why
+  is_refused r is above untold why same = record {
+    does = λ few. absurd (omega (arith, few, above));
+    untold = λ _. untold;
+    why = λ _. (r, is, why);
+    same = λ _. same;
+  }
 
--- a question whose answer is told
-module _ {V A : Type 0} (word : ℕ) (told : A) (old new : Option V) (Untold : Type 0) (Is : A → Type 0) (Why : Reason → Type 0) where
-  answers : (answer : Result A Reason) → Tells answer word told Untold → ((a : A) → answer ≡ Ok a → Is a) → ((r : Reason) → answer ≡ Err r → Why r) → new ≡ old → IsTold word told Untold old new Is Why
-  answers (Ok a) (done, is) so why same = record {
-    answer = λ _. subst Is (sym is) (so a refl);
-    refusal = tells_none 0 word old new Untold Why (omega (arith, done));
-    same = same;
-  }
-  answers (Err r) (is, more, untold) so why same = record {
-    answer = λ zero. absurd (omega (arith, zero, more));
-    refusal = tells 0 word old new Untold Why r is untold (why r refl) same;
-    same = same;
-  }
+-- a call that is made or refused as its answer says
+module _ {V A : Type 0} (call : Called V) (told : A) (Untold : Type 0) (Is : A → Type 0) (Why : Reason → Type 0) where
+  makes : (answer : Result A Reason) → Tells answer call.word told Untold → ((a : A) → answer ≡ Ok a → Is a) → ((r : Reason) → answer ≡ Err r → Why r) → ((r : Reason) → answer ≡ Err r → call.new ≡ call.old) → IsMadeOrRefused 0 call Untold (Is told) Why
+  makes (Ok a) (done, is) so why same = is_made 0 call Untold (Is told) Why (omega (arith, done)) (subst Is (sym is) (so a refl))
+  makes (Err r) (is, more, untold) so why same = is_refused 0 call Untold (Is told) Why r is (omega (arith, more)) untold (why r refl) (same r refl)
+
+  answers : (answer : Result A Reason) → Tells answer call.word told Untold → ((a : A) → answer ≡ Ok a → Is a) → ((r : Reason) → answer ≡ Err r → Why r) → call.new ≡ call.old → IsTold call told Untold Is Why
+  answers answer tells so why same = record { answer = makes answer tells so why (λ _ _. same); same = same }
 
 -- what is so of two values is so of what they equal
 moved : {V : Type 0} (P : V → V → Type 0) {p q x y : V} → p ≡ x → q ≡ y → P p q → P x y
 moved P {p} {q} {x} {y} e f so = subst (λ v. P v y) e (subst (λ v. P p v) f so)
 
-some_so : {A : Type 0} (P Q : A → Type 0) (o : Option A) → ((x : A) → P x → Q x) → IsSomeAnd o P → IsSomeAnd o Q
-some_so P Q None so is = is
-some_so P Q (Some x) so is = so x is
-
 module _ {P : Type 0} {g : Ghosts P} {T : Type 0} (seen : Member P g → P → T) where
-  of_so : (R Q : T → Type 0) (m : Option (Member P g)) → ((a : T) → R a → Q a) → OfRole seen m R → OfRole seen m Q
-  of_so R Q None so is = is
-  of_so R Q (Some m) so is = some_so (λ p. R (seen m p)) (λ p. Q (seen m p)) m.role (λ p. so (seen m p)) is
-
-  -- what is so with the kind of a store is so with its word
-  pub of_kind : (R : Kind → T → T → Type 0) (old new : Option (Member P g)) (word : ℕ) (k : Kind) → word ≡ kind_word k
-      → OfRole seen old (λ a. OfRole seen new (λ b. R k a b)) → OfRole seen old (λ a. OfRole seen new (λ b. OfKind word (λ kind. R kind a b)))
-  of_kind R old new word k is so =
-      of_so (λ a. OfRole seen new (λ b. R k a b)) (λ a. OfRole seen new (λ b. OfKind word (λ kind. R kind a b))) old
-      (λ a. of_so (λ b. R k a b) (λ b. OfKind word (λ kind. R kind a b)) new (λ b stores. (k, is, stores))) so
-
   module _ {F A : Type 0} (h : Once F (MutBor (Member P g) × Unit {0}) (Result A Reason × (MutBor (Member P g) × Unit {0}))) (f : F) where
     abbrev Made : Member P g → Result A Reason → Member P g → Type 0
     Made m r n = FnOnceReturnsAtMut h f m r n
@@ -98,43 +85,83 @@ module _ {F A : Type 0} (h : Once F (MutBor Pause × Unit {0}) (Result A Reason 
   heap_same old new r is so =
       called_same Done old new r (λ p q call. moved (λ x y. y ≡ x) call.shows call.leaves (so call.shown call.left call.met)) is
 
-  pub heap_tells : (Why : Pause → Reason → Type 0) (old new : Option RacingHeap) (answer : Result A Reason) (word : ℕ) (told : A) (Untold : Type 0)
-      → IsCalled Done old answer new → Tells answer word told Untold
+  -- a heap's call that is refused
+  pub heap_not : (most : ℕ) (call : Called RacingHeap) (Untold Does : Type 0) (Why : Pause → Reason → Type 0) (r : Reason) → IsCalled Done call.old (Err r) call.new
+      → call.word ≡ refusal_word r → most < call.word → Untold
+      → ((p q : MutBor Pause) → h.post f (p, tt) (Err r, (q, tt)) → Why p.now r)
+      → ((p q : MutBor Pause) → h.post f (p, tt) (Err r, (q, tt)) → q.now ≡ p.now)
+      → IsMadeOrRefused most call Untold Does (IsHeapRefused call.old Why)
+  heap_not most call Untold Does Why r is word above untold why kept =
+      is_refused most call Untold Does (IsHeapRefused call.old Why) r word above untold (heap_refused (λ p. Why p r) call.old call.new r is why) (heap_same call.old call.new (Err r) is kept)
+
+  -- one that tells what it did
+  pub heap_tells : (R : A → Pause → Pause → Type 0) (Why : Pause → Reason → Type 0) (call : Called RacingHeap) (answer : Result A Reason) (told : A) (Untold : Type 0)
+      → IsCalled Done call.old answer call.new → Tells answer call.word told Untold
+      → ((a : A) (p q : MutBor Pause) → h.post f (p, tt) (Ok a, (q, tt)) → R a p.now q.now)
       → ((r : Reason) (p q : MutBor Pause) → h.post f (p, tt) (Err r, (q, tt)) → Why p.now r)
       → ((r : Reason) (p q : MutBor Pause) → h.post f (p, tt) (Err r, (q, tt)) → q.now ≡ p.now)
-      → TellsRefusal 0 word old new Untold (IsHeapRefused old Why)
-  heap_tells Why old new (Ok a) word told Untold is (done, same) why kept =
-      tells_none 0 word old new Untold (IsHeapRefused old Why) (omega (arith, done))
-  heap_tells Why old new (Err r) word told Untold is (same, more, untold) why kept =
-      tells 0 word old new Untold (IsHeapRefused old Why) r same untold (heap_refused (λ p. Why p r) old new r is (why r)) (heap_same old new (Err r) is (kept r))
+      → OnHeap 0 call Untold (R told) Why
+  heap_tells R Why call answer told Untold is tells so why kept =
+      makes call told Untold (λ a. IsSameHeap call.old call.new (R a)) (IsHeapRefused call.old Why) answer tells
+      (λ a e. heap_made (R a) call.old call.new a (subst (λ r. IsCalled Done call.old r call.new) e is) (so a))
+      (λ r e. heap_refused (λ p. Why p r) call.old call.new r (subst (λ r. IsCalled Done call.old r call.new) e is) (why r))
+      (λ r e. heap_same call.old call.new (Err r) (subst (λ r. IsCalled Done call.old r call.new) e is) (kept r))
 
-  pub heap_answers : (R : Pause → Pause → A → Type 0) (Why : Pause → Reason → Type 0) (old new : Option RacingHeap) (answer : Result A Reason) (word : ℕ) (told : A) (Untold : Type 0)
-      → IsCalled Done old answer new → Tells answer word told Untold
-      → ((a : A) (p q : MutBor Pause) → h.post f (p, tt) (Ok a, (q, tt)) → R p.now q.now a)
+  -- a question to a heap
+  pub heap_answers : (R : A → Pause → Type 0) (Why : Pause → Reason → Type 0) (call : Called RacingHeap) (answer : Result A Reason) (told : A) (Untold : Type 0)
+      → IsCalled Done call.old answer call.new → Tells answer call.word told Untold
+      → ((a : A) (p q : MutBor Pause) → h.post f (p, tt) (Ok a, (q, tt)) → R a p.now)
       → ((r : Reason) (p q : MutBor Pause) → h.post f (p, tt) (Err r, (q, tt)) → Why p.now r)
       → ((r : Result A Reason) (p q : MutBor Pause) → h.post f (p, tt) (r, (q, tt)) → q.now ≡ p.now)
-      → IsTold word told Untold old new (λ a. IsSameHeap old new (λ o n. R o n a)) (IsHeapRefused old Why)
-  heap_answers R Why old new answer word told Untold is tells so why same =
-      answers word told old new Untold (λ a. IsSameHeap old new (λ o n. R o n a)) (IsHeapRefused old Why) answer tells
-      (λ a e. heap_made (λ o n. R o n a) old new a (subst (λ r. IsCalled Done old r new) e is) (so a))
-      (λ r e. heap_refused (λ p. Why p r) old new r (subst (λ r. IsCalled Done old r new) e is) (why r))
-      (heap_same old new answer is (same answer))
+      → ToldByHeap call told Untold R Why
+  heap_answers R Why call answer told Untold is tells so why same =
+      answers call told Untold (λ a. IsSameHeap call.old call.new (λ o n. R a o)) (IsHeapRefused call.old Why) answer tells
+      (λ a e. heap_made (λ o n. R a o) call.old call.new a (subst (λ r. IsCalled Done call.old r call.new) e is) (so a))
+      (λ r e. heap_refused (λ p. Why p r) call.old call.new r (subst (λ r. IsCalled Done call.old r call.new) e is) (why r))
+      (heap_same call.old call.new answer is (same answer))
 
--- a reader's question
+module _ {F : Type 0} (h : Once F (MutBor Pause × Unit {0}) (Result (Unit {0}) Reason × (MutBor Pause × Unit {0}))) (f : F) where
+  -- one that tells nothing
+  pub heap_does : (R : Pause → Pause → Type 0) (Why : Pause → Reason → Type 0) (call : Called RacingHeap) (answer : Result (Unit {0}) Reason)
+      → IsCalled (Done h f) call.old answer call.new → Tells answer call.word tt (Unit {0})
+      → ((p q : MutBor Pause) → h.post f (p, tt) (Ok tt, (q, tt)) → R p.now q.now)
+      → ((r : Reason) (p q : MutBor Pause) → h.post f (p, tt) (Err r, (q, tt)) → Why p.now r)
+      → ((r : Reason) (p q : MutBor Pause) → h.post f (p, tt) (Err r, (q, tt)) → q.now ≡ p.now)
+      → OnHeap 0 call (Unit {0}) R Why
+  heap_does R Why call answer is tells so why kept = heap_tells h f (λ a. R) Why call answer tt (Unit {0}) is tells (λ _. so) why kept
+
+module _ {F : Type 0} (h : Once F (MutBor Pause × Unit {0}) (Result (ℕ × ℕ) Reason × (MutBor Pause × Unit {0}))) (f : F) where
+  -- a clear of a heap that got the reply of a word
+  pub heap_clears : (R : Pause → ClearReply → Pause → Type 0) (old new : Option RacingHeap) (word number is : ℕ) → IsCalled (Done h f) old (Ok (word, number)) new
+      → word ≡ is → ((p q : MutBor Pause) → h.post f (p, tt) (Ok (word, number), (q, tt)) → R p.now (cleared_of word number) q.now)
+      → IsSameHeap old new (λ o n. R o (cleared_of is number) n)
+  heap_clears R old new word number is call e so =
+      subst (λ w. IsSameHeap old new (λ o n. R o (cleared_of w number) n)) e (heap_made h f (λ o n. R o (cleared_of word number) n) old new (word, number) call so)
+
 module _ {P : Type 0} {g : Ghosts P} {T : Type 0} (seen : Member P g → P → T) {F A : Type 0} (h : Once F (MutBor (Member P g) × Unit {0}) (Result A Reason × (MutBor (Member P g) × Unit {0}))) (f : F) where
-  pub role_answers : (R : T → A → Type 0) (Why : T → Reason → Type 0) (old new : Option (Member P g)) (answer : Result A Reason) (word : ℕ) (told : A) (Untold : Type 0)
-      → IsVisit (Made seen h f) old answer new → Tells answer word told Untold
-      → ((a : A) (m n : MutBor (Member P g)) → h.post f (m, tt) (Ok a, (n, tt)) → OfRole seen (Some m.now) (λ s. R s a))
+  -- a member's call that is refused
+  pub role_not : (most : ℕ) (call : Called (Member P g)) (Untold Does : Type 0) (Why : T → Reason → Type 0) (r : Reason) → IsVisit (Made seen h f) call.old (Err r) call.new
+      → call.word ≡ refusal_word r → most < call.word → Untold
+      → ((m n : MutBor (Member P g)) → h.post f (m, tt) (Err r, (n, tt)) → SaysNoMember (Some m.now) r ⊎ OfRole seen (Some m.now) (λ s. Why s r))
+      → ((m n : MutBor (Member P g)) → h.post f (m, tt) (Err r, (n, tt)) → n.now ≡ m.now)
+      → IsMadeOrRefused most call Untold Does (IsRoleRefused seen call.old Why)
+  role_not most call Untold Does Why r is word above untold why kept =
+      is_refused most call Untold Does (IsRoleRefused seen call.old Why) r word above untold (role_refused seen h f (λ s. Why s r) call.old call.new r is why) (role_same h f call.old call.new (Err r) is kept)
+
+  -- a reader's question
+  pub role_answers : (R : A → T → Type 0) (Why : T → Reason → Type 0) (call : Called (Member P g)) (answer : Result A Reason) (told : A) (Untold : Type 0)
+      → IsVisit (Made seen h f) call.old answer call.new → Tells answer call.word told Untold
+      → ((a : A) (m n : MutBor (Member P g)) → h.post f (m, tt) (Ok a, (n, tt)) → OfRole seen (Some m.now) (λ s. R a s))
       → ((r : Reason) (m n : MutBor (Member P g)) → h.post f (m, tt) (Err r, (n, tt)) → SaysNoMember (Some m.now) r ⊎ OfRole seen (Some m.now) (λ s. Why s r))
       → ((r : Result A Reason) (m n : MutBor (Member P g)) → h.post f (m, tt) (r, (n, tt)) → n.now ≡ m.now)
-      → IsTold word told Untold old new (λ a. OfRole seen old (λ s. R s a)) (IsRoleRefused seen old Why)
-  role_answers R Why old new answer word told Untold is tells so why same =
-      answers word told old new Untold (λ a. OfRole seen old (λ s. R s a)) (IsRoleRefused seen old Why) answer tells
-      (λ a e. role_seen seen h f (λ s. R s a) old new a (subst (λ r. IsVisit (Made seen h f) old r new) e is) (so a))
-      (λ r e. role_refused seen h f (λ s. Why s r) old new r (subst (λ r. IsVisit (Made seen h f) old r new) e is) (why r))
-      (role_same h f old new answer is (same answer))
+      → IsTold call told Untold (λ a. OfRole seen call.old (λ s. R a s)) (IsRoleRefused seen call.old Why)
+  role_answers R Why call answer told Untold is tells so why same =
+      answers call told Untold (λ a. OfRole seen call.old (λ s. R a s)) (IsRoleRefused seen call.old Why) answer tells
+      (λ a e. role_seen seen h f (λ s. R a s) call.old call.new a (subst (λ r. IsVisit (Made seen h f) call.old r call.new) e is) (so a))
+      (λ r e. role_refused seen h f (λ s. Why s r) call.old call.new r (subst (λ r. IsVisit (Made seen h f) call.old r call.new) e is) (why r))
+      (role_same h f call.old call.new answer is (same answer))
 
 -- what the exports of a room cite
-pub ruleset heap_calls = (heap_made, called_same, tells_none)
+pub ruleset heap_calls = (heap_made, called_same, heap_does, heap_answers, heap_not, is_made)
 
-pub ruleset role_calls = (of_kind, role_made, role_answers, tells_none)
+pub ruleset role_calls = (role_made, role_answers, role_not, is_made)

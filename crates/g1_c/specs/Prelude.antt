@@ -1,17 +1,20 @@
 -- What the crate takes from the libraries below it.
 pub use Rattle.std.proofs.Common.{arith, MutBor, refl, rules, subst, sym, ◌∙◌}
 pub use Rattle.std.specs.Fn.{FnOnceReturnsAtMut}
-pub use Rattle.std.specs.Prelude.{Err, IfSome, IsSome, IsSomeAnd, length, None, Ok, Option, Result}
+pub use Rattle.std.specs.Prelude.{Err, IsSome, length, None, Ok, Option, Result, List}
 pub use Rattle.std.specs.Prelude.{Some, take, ℕ}
-pub use Rattle.g1_core.specs.Calls.{DoesCopy}
-pub use Rattle.g1_core.specs.Machine.{new_machine}
-pub use Rattle.g1_core.specs.Calls.{TellsMembers, TellsPending, TellsStatus, TellsTarget}
+pub use Rattle.g1_core.specs.Calls.{DoesCopy, TellsMembers, TellsPending, TellsStatus, TellsTarget}
+pub use Rattle.g1_core.specs.Machine.{Machine, new_machine}
+pub use Rattle.g1_core.specs.declared.reply.ClearReply.{ClearReply}
+pub use Rattle.g1_core.specs.declared.reply.ClearReply.TheVariants.{Cleared, Pending}
+pub use Rattle.g1_core.specs.declared.reply.ClearReply.TheVariants.{StillReferenced}
 pub use Rattle.g1_handles.proofs.CalledLemmas.{called_ok, called_same, called_why}
 pub use Rattle.g1_handles.proofs.VisitLemmas.{role_of, role_ok, role_why, visit_same, visit_so}
 pub use Rattle.g1_handles.specs.AtPause.{DrainsRegion, RefersOut, StoresAllAt, StoresRowAt}
 pub use Rattle.g1_handles.specs.Batch.{AreStoresOf, IsFaultAt, made_all}
-pub use Rattle.g1_handles.specs.Codes.{Between, IsRefusal, IsStoreOf, IsVisit, kind_word, layout_of}
-pub use Rattle.g1_handles.specs.Codes.{OfKind, OfOpen, reference_of, refusal_word, settings_of}
+pub use Rattle.g1_handles.specs.Codes.{cleared_of, Between, IsRefusal, IsStoreOf, IsVisit}
+pub use Rattle.g1_handles.specs.Codes.{layout_of, OfKind, OfOpen, reference_of}
+pub use Rattle.g1_handles.specs.Codes.{refusal_word, settings_of}
 pub use Rattle.g1_handles.specs.Counting.{stored_as}
 pub use Rattle.g1_handles.specs.HeapCalls.{IsCalled, IsHeapRefused}
 pub use Rattle.g1_handles.specs.Lacks.{LacksCard, LacksPair, LacksPlace, LacksRanges, LacksRegion}
@@ -21,23 +24,22 @@ pub use Rattle.g1_handles.specs.Life.{IsPauseRefused, IsResumeRefused, IsSameHea
 pub use Rattle.g1_handles.specs.Life.{SaysNoHeap, SaysNotPaused}
 pub use Rattle.g1_handles.specs.Phases.{AreOnlyItsOwn, AreOnlyItsReaders, BeginsReading}
 pub use Rattle.g1_handles.specs.Phases.{ComesToPause, EndsReading, HoldSame, Resumes}
+pub use Rattle.g1_handles.specs.Own.{RacerMember, ReaderMember}
 pub use Rattle.g1_handles.specs.Queries.{Checks, Finds, Overflows, TellsNextInto, TellsNextMember}
 pub use Rattle.g1_handles.specs.Queries.{TellsWord}
 pub use Rattle.g1_handles.specs.RaceStores.{Exchanges, FindsOther, IsFullAt, StoresAll, Swaps}
-pub use Rattle.g1_handles.specs.RaceRows.{IsRowRefused, StoresRow}
-pub use Rattle.g1_handles.specs.RaceWords.{CanStoreWord, FindsOtherWord, IsExchangeWordRefused}
-pub use Rattle.g1_handles.specs.RaceWords.{IsSwapWordRefused, MayHave, SwapsWord}
-pub use Rattle.g1_handles.specs.Racing.{held_racers, held_readers, held_sweepers}
-pub use Rattle.g1_handles.specs.Racing.{OfRacer, OfRole, OfSweeper, racing_in, Stores}
-pub use Rattle.g1_handles.specs.Racing.{StoresData, sweeping_in, Sweeps, TakesLog}
-pub use Rattle.g1_handles.specs.Readers.{IsReadEndRefused, IsReaderRefused, IsReadRefused, OfReader}
+pub use Rattle.g1_handles.specs.RaceRows.{StoresRow}
+pub use Rattle.g1_handles.specs.RaceWords.{CanStoreWord, FindsOtherWord, MayHave, SaysBadWord}
+pub use Rattle.g1_handles.specs.RaceWords.{SaysNoWordStore, SwapsWord}
+pub use Rattle.g1_handles.specs.Racing.{held_racers, held_readers, held_sweepers, OfRacer, OfRole}
+pub use Rattle.g1_handles.specs.Racing.{OfSweeper, Racing, racing_in, Stores, StoresData}
+pub use Rattle.g1_handles.specs.Racing.{Sweeps, TakesLog}
+pub use Rattle.g1_handles.specs.Readers.{IsReadEndRefused, IsReadRefused, OfReader, ReaderAt}
 pub use Rattle.g1_handles.specs.Readers.{reader_layout, reading_in, ReadsPair, table_of_reader}
 pub use Rattle.g1_handles.specs.Refusals.{AreMembersRefused, AreStoresRefused, CanStore}
-pub use Rattle.g1_handles.specs.Refusals.{IsCallRefused}
-pub use Rattle.g1_handles.specs.Refusals.{IsDrainRefused, IsOpenRefused, IsRaceDataRefused}
-pub use Rattle.g1_handles.specs.Refusals.{IsRaceExchangeRefused, IsRaceStoreRefused}
+pub use Rattle.g1_handles.specs.Refusals.{IsCallRefused, IsDrainRefused, IsOpenRefused}
 pub use Rattle.g1_handles.specs.Refusals.{IsRedirectRefused, IsRefinementRefused, IsRoleRefused}
-pub use Rattle.g1_handles.specs.Refusals.{IsSweepRefused, SaysNoMember, SaysNotOpen}
+pub use Rattle.g1_handles.specs.Refusals.{IsSweepRefused, SaysNoMember, SaysNoStore, SaysNotOpen}
 pub use Rattle.g1_handles.specs.Replies.{AreOnlyRead, ClearsTo, DrainsTo, FitIn, IsWritten}
 pub use Rattle.g1_handles.specs.Replies.{RedirectsTo, RefersTo, RefinesTo, reply_of, StoresTo}
 pub use Rattle.g1_handles.specs.Sets.{HasFirst}

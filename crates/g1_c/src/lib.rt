@@ -15,9 +15,11 @@
 //!
 //! A call returns a word below 8 if it was made, and else the word of a
 //! [`Reason`](g1_handles::code::Reason). Only `g1_heap_drain` has done something where it returns
-//! 16, and only `g1_clear` may have counted reads where it returns 19 or 20. What most calls leave
-//! then is said by the record `TellsRefusal` of `specs/Calls.antt`, and the others have clauses of
-//! their own.
+//! 16, and only `g1_clear` may have counted reads where it returns 19 or 20.
+//!
+//! Each function cites a record of `specs` for that: `IsMadeOrRefused` and `IsTold` (`Calls.antt`),
+//! of what a kind of handle holds as `OnCore` or `ToldByHeap` (`Rooms.antt`), or `IsListed` or
+//! `IsCleared` (`Sets.antt`). `Storing.antt` and `Cores.antt` say by the word what a call did.
 //!
 //! What only the caller can know is left to the caller: that a handle is zeros or was opened here,
 //! that one call at a time uses it, and that arrays have the lengths that are passed and overlap

@@ -5,7 +5,7 @@
 //! - [`evacuation`] has what may follow one: the clear and the redirect.
 //! - [`copy`] copies a range of slots. [`queries`] and [`members`] read what is known, and
 //!   [`verify`] checks it for a debug build.
-#![tactic(auto, using(crate::proofs::tells_none))]
+#![tactic(auto, using(crate::proofs::is_made))]
 
 pub mod batch;
 pub mod copy;

@@ -1,7 +1,5 @@
 //! A range of slots of a heap at a pause is copied to another one.
-ghost use Rattle.std.specs.Prelude.{◌≡◌, ◌+◌, ◌≤◌};
-ghost use Rattle.g1_c.specs.{slot_count, Copies, IsHeapRefused, IsSameHeap};
-ghost use Rattle.g1_c.specs.{OfPaused, LacksRanges, TellsRefusal};
+ghost use Rattle.g1_c.specs.{OnHeap, called, CopiesWithin, slot_count, Copies, LacksRanges};
 
 use crate::calling::on_heap;
 use crate::tell::answer_word;
@@ -18,12 +16,9 @@ pub extern "C" fn g1_heap_copy(
     to: u32,
     count: u32,
 ) -> u32
-    ensures copied { result ≡ 0 → IsSameHeap heap.old.value heap.new.value (λ old new.
-        Copies old from to count new) }
-    ensures within { result ≡ 0 → OfPaused heap.old.value (λ old.
-        (from + count ≤ slot_count old.layout) × (to + count ≤ slot_count old.layout)) }
-    ensures told { TellsRefusal 0 result heap.old.value heap.new.value (Unit {0})
-        (IsHeapRefused heap.old.value (λ old. LacksRanges old.layout from count to count)) }
+    ensures { OnHeap 0 (called result heap.old.value heap.new.value) (Unit {0})
+        (λ old new. CopiesWithin (slot_count old.layout) from to count
+        (Copies old from to count new)) (λ old. LacksRanges old.layout from count to count) }
 {
     answer_word(on_heap!(alloc, heap, copy_at(from, to, count)))
 }

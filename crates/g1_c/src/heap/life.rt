@@ -1,10 +1,9 @@
 //! The life of a heap whose stores race: it begins at a pause, goes on, pauses again, and ends at a
 //! pause.
-ghost use Rattle.std.specs.Prelude.{◌≡◌};
-ghost use Rattle.g1_c.specs.{None, layout_of, OfPaused, AreOnlyItsOwn};
-ghost use Rattle.g1_c.specs.{IsNewHeap, IsHeapOpenRefused, IsResumeRefused, IsPauseRefused};
-ghost use Rattle.g1_c.specs.{IsCloseRefused, HasNewMembers, ComesToPause};
-ghost use Rattle.g1_c.specs.{Resumes, held_racers, held_sweepers, TellsRefusal, HoldSame};
+ghost use Rattle.g1_c.specs.{IsMadeOrRefused, called, Opens, HasNewMembers, OfPaused, IsNewHeap};
+ghost use Rattle.g1_c.specs.{layout_of, IsHeapOpenRefused, HoldSame, Resumes, IsResumeRefused};
+ghost use Rattle.g1_c.specs.{held_racers, held_sweepers, AreOnlyItsOwn, ComesToPause};
+ghost use Rattle.g1_c.specs.{IsPauseRefused, Closes, IsCloseRefused};
 
 use crate::tell::answer_word;
 use g1_handles::handles::{HeapHandle, RacerHandle, SweeperHandle};
@@ -23,11 +22,9 @@ pub extern "C" fn g1_heap_open(
     racers: u32,
     sweepers: u32,
 ) -> u32
-    ensures opened { result ≡ 0 →
-        OfPaused heap.new.value (IsNewHeap (layout_of counts.now) racers sweepers) }
-    ensures members { result ≡ 0 → HasNewMembers heap.new.value }
-    ensures closed { result ≡ 0 → heap.old.value ≡ None }
-    ensures told { TellsRefusal 0 result heap.old.value heap.new.value (Unit {0})
+    ensures { IsMadeOrRefused 0 (called result heap.old.value heap.new.value) (Unit {0})
+        (Opens heap.old.value (HasNewMembers heap.new.value
+        × OfPaused heap.new.value (IsNewHeap (layout_of counts.now) racers sweepers)))
         (IsHeapOpenRefused heap.old.value (layout_of counts.now) racers sweepers) }
 {
     answer_word(open_heap(alloc, heap, counts, racers, sweepers))
@@ -41,10 +38,9 @@ pub extern "C" fn g1_heap_resume(
     racers: &mut [RacerHandle],
     sweepers: &mut [SweeperHandle],
 ) -> u32
-    ensures resumed { result ≡ 0 → Resumes heap.old.value heap.new.value
-        racers.old racers.new sweepers.old sweepers.new }
-    ensures told { TellsRefusal 0 result heap.old.value heap.new.value
+    ensures { IsMadeOrRefused 0 (called result heap.old.value heap.new.value)
         (HoldSame racers.old racers.new sweepers.old sweepers.new)
+        (Resumes heap.old.value heap.new.value racers.old racers.new sweepers.old sweepers.new)
         (IsResumeRefused heap.old.value (held_racers racers.old) (held_sweepers sweepers.old)) }
 {
     answer_word(resume_heap(heap, racers, sweepers))
@@ -63,10 +59,9 @@ pub extern "C" fn g1_heap_pause(
     sweepers: &mut [SweeperHandle],
 ) -> u32
     requires one { AreOnlyItsOwn heap.old.value racers.old sweepers.old }
-    ensures paused { result ≡ 0 → ComesToPause heap.old.value heap.new.value
-        racers.old racers.new sweepers.old sweepers.new }
-    ensures told { TellsRefusal 0 result heap.old.value heap.new.value
-        (HoldSame racers.old racers.new sweepers.old sweepers.new)
+    ensures { IsMadeOrRefused 0 (called result heap.old.value heap.new.value)
+        (HoldSame racers.old racers.new sweepers.old sweepers.new) (ComesToPause heap.old.value
+        heap.new.value racers.old racers.new sweepers.old sweepers.new)
         (IsPauseRefused heap.old.value (held_racers racers.old) (held_sweepers sweepers.old)) }
 {
     answer_word(pause_heap(alloc, heap, racers, sweepers))
@@ -75,9 +70,8 @@ pub extern "C" fn g1_heap_pause(
 /// As in `g1.h`.
 #[unsafe(no_mangle)]
 pub extern "C" fn g1_heap_close(alloc: Global, heap: &mut HeapHandle) -> u32
-    ensures closed { result ≡ 0 → heap.new.value ≡ None }
-    ensures paused { result ≡ 0 → OfPaused heap.old.value (λ p. Unit {0}) }
-    ensures told { TellsRefusal 0 result heap.old.value heap.new.value (Unit {0})
+    ensures { IsMadeOrRefused 0 (called result heap.old.value heap.new.value) (Unit {0})
+        (Closes (OfPaused heap.old.value (λ p. Unit {0})) heap.new.value)
         (IsCloseRefused heap.old.value) }
 {
     answer_word(close_heap(alloc, heap))

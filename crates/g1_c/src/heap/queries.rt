@@ -1,10 +1,9 @@
 //! Queries on a heap at a pause: what a slot refers to, whether a card is pending, how much is
 //! pending and recorded, and what is recorded for a region.
-ghost use Rattle.std.specs.Prelude.{◌≡◌, ◌≢◌, ◌<◌, ◌≤◌, ◌==◌};
-ghost use Rattle.g1_c.specs.{take, table_at, TellsTarget, TellsPending};
-ghost use Rattle.g1_c.specs.{TellsStatus, TellsMembers, IsWritten, IsRefusal, reference_of};
-ghost use Rattle.g1_c.specs.{IsHeapRefused, IsSameHeap, HasFirst, LacksCard, LacksRegion};
-ghost use Rattle.g1_c.specs.{LacksSlot, TellsNextMember, IsRaceWith, IsTold};
+ghost use Rattle.std.specs.Prelude.{◌≡◌, ◌≤◌, ◌==◌};
+ghost use Rattle.g1_c.specs.{ToldByHeap, called, TellsTarget, table_at, reference_of, LacksSlot};
+ghost use Rattle.g1_c.specs.{TellsPending, LacksCard, TellsStatus, IsRaceWith, ListsOfHeap};
+ghost use Rattle.g1_c.specs.{listing, TellsMembers, TellsNextMember, LacksRegion};
 
 use crate::calling::on_heap;
 use crate::one_core::queries::Totals;
@@ -25,10 +24,9 @@ pub extern "C" fn g1_heap_target(
     slot: u32,
     target: &mut u32,
 ) -> u32
-    ensures told { IsTold result target.new (target.new ≡ 4294967295) heap.old.value heap.new.value
-        (λ target. IsSameHeap heap.old.value heap.new.value (λ old new.
-        TellsTarget (table_at old) slot (reference_of target)))
-        (IsHeapRefused heap.old.value (λ old. LacksSlot old.layout slot)) }
+    ensures { ToldByHeap (called result heap.old.value heap.new.value) target.new
+        (target.new ≡ 4294967295) (λ target old. TellsTarget (table_at old) slot
+        (reference_of target)) (λ old. LacksSlot old.layout slot) }
 {
     let answer = on_heap!(alloc, heap, target_at(slot));
     tell(answer, NULL, target)
@@ -42,10 +40,9 @@ pub extern "C" fn g1_heap_is_pending(
     card: u32,
     pending: &mut u32,
 ) -> u32
-    ensures told { IsTold result (pending.new == 1) (pending.new ≡ 0) heap.old.value heap.new.value
-        (λ answer. IsSameHeap heap.old.value heap.new.value (λ old new.
-        TellsPending (table_at old) card answer))
-        (IsHeapRefused heap.old.value (λ old. LacksCard old.layout card)) }
+    ensures told { ToldByHeap (called result heap.old.value heap.new.value) (pending.new == 1)
+        (pending.new ≡ 0) (λ answer old. TellsPending (table_at old) card answer)
+        (λ old. LacksCard old.layout card) }
     ensures word { pending.new ≤ 1 }
 {
     let answer = on_heap!(alloc, heap, is_pending_at(card));
@@ -55,13 +52,10 @@ pub extern "C" fn g1_heap_is_pending(
 /// As in `g1.h`.
 #[unsafe(no_mangle)]
 pub extern "C" fn g1_heap_status(alloc: Global, heap: &mut HeapHandle, totals: &mut Totals) -> u32
-    ensures told { IsTold result totals.new (totals.new ≡ record { pending = 0; recorded = 0 })
-        heap.old.value heap.new.value (λ totals. IsSameHeap heap.old.value heap.new.value
-        (λ old new. TellsStatus (table_at old) (record {
-          pending = totals.pending;
-          recorded = totals.recorded;
-        })))
-        (IsHeapRefused heap.old.value (λ old r. ⊥)) }
+    ensures { ToldByHeap (called result heap.old.value heap.new.value) totals.new
+        (totals.new ≡ record { pending = 0; recorded = 0 }) (λ totals old. TellsStatus
+        (table_at old) (record { pending = totals.pending; recorded = totals.recorded }))
+        (λ old r. ⊥) }
 {
     let none = Totals {
         pending: 0,
@@ -91,15 +85,9 @@ pub extern "C" fn g1_heap_members(
     cards: &mut [u32],
     count: &mut u32,
 ) -> u32
-    ensures members { result ≡ 0 → IsSameHeap heap.old.value heap.new.value (λ old new.
-        TellsMembers (table_at old) region (take count.new cards.new)) }
-    ensures room { result ≡ 16 → IsSameHeap heap.old.value heap.new.value (λ old new.
-        HasFirst (TellsMembers (table_at old) region) cards.new count.new) }
-    ensures why { 0 < result → result ≢ 16 → IsRefusal result
-        (IsHeapRefused heap.old.value (λ old. LacksRegion old.layout region)) }
-    ensures none { result ≢ 0 → result ≢ 16 → count.new ≡ 0 }
-    ensures written { result ≡ 0 → IsWritten cards.old count.new cards.new }
-    ensures unwritten { 0 < result → result ≢ 16 → cards.new ≡ cards.old }
+    ensures members { ListsOfHeap (called result heap.old.value heap.new.value)
+        (listing cards.old cards.new count.new)
+        (λ old new. TellsMembers (table_at old) region) region }
     ensures same { heap.new.value ≡ heap.old.value }
 {
     *count = 0;
@@ -115,10 +103,9 @@ pub extern "C" fn g1_heap_next_member(
     from: u32,
     card: &mut u32,
 ) -> u32
-    ensures told { IsTold result card.new (card.new ≡ 4294967295) heap.old.value heap.new.value
-        (λ card. IsSameHeap heap.old.value heap.new.value (λ old new.
-        TellsNextMember (table_at old) region from (reference_of card)))
-        (IsHeapRefused heap.old.value (λ old. LacksRegion old.layout region)) }
+    ensures { ToldByHeap (called result heap.old.value heap.new.value) card.new
+        (card.new ≡ 4294967295) (λ card old. TellsNextMember (table_at old) region from
+        (reference_of card)) (λ old. LacksRegion old.layout region) }
 {
     let answer = on_heap!(alloc, heap, next_member_at(region, from));
     tell(answer, NULL, card)

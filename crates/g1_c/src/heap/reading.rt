@@ -1,7 +1,7 @@
 //! Several threads read a heap at a pause: how that begins and ends.
 ghost use Rattle.std.specs.Prelude.{◌≡◌};
-ghost use Rattle.g1_c.specs.{TellsRefusal, BeginsReading, EndsReading, held_readers};
-ghost use Rattle.g1_c.specs.{AreOnlyItsReaders, IsReadRefused, IsReadEndRefused};
+ghost use Rattle.g1_c.specs.{IsMadeOrRefused, called, held_readers, BeginsReading, IsReadRefused};
+ghost use Rattle.g1_c.specs.{AreOnlyItsReaders, EndsReading, IsReadEndRefused};
 
 use crate::tell::answer_word;
 use g1_handles::handles::{HeapHandle, ReaderHandle};
@@ -16,10 +16,9 @@ pub extern "C" fn g1_heap_read(
     heap: &mut HeapHandle,
     readers: &mut [ReaderHandle],
 ) -> u32
-    ensures lent { result ≡ 0 →
-        BeginsReading heap.old.value heap.new.value readers.old readers.new }
-    ensures told { TellsRefusal 0 result heap.old.value heap.new.value
+    ensures { IsMadeOrRefused 0 (called result heap.old.value heap.new.value)
         (held_readers readers.new ≡ held_readers readers.old)
+        (BeginsReading heap.old.value heap.new.value readers.old readers.new)
         (IsReadRefused heap.old.value (held_readers readers.old)) }
 {
     answer_word(read_heap(heap, readers))
@@ -38,10 +37,9 @@ pub extern "C" fn g1_heap_read_end(
     readers: &mut [ReaderHandle],
 ) -> u32
     requires one { AreOnlyItsReaders heap.old.value readers.old }
-    ensures ended { result ≡ 0 →
-        EndsReading heap.old.value heap.new.value readers.old readers.new }
-    ensures told { TellsRefusal 0 result heap.old.value heap.new.value
+    ensures { IsMadeOrRefused 0 (called result heap.old.value heap.new.value)
         (held_readers readers.new ≡ held_readers readers.old)
+        (EndsReading heap.old.value heap.new.value readers.old readers.new)
         (IsReadEndRefused heap.old.value (held_readers readers.old)) }
 {
     answer_word(end_read_of_heap(alloc, heap, readers))

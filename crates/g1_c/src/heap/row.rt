@@ -1,6 +1,5 @@
 //! A row of words is stored by one call into a heap at a pause.
-ghost use Rattle.std.specs.Prelude.{◌≡◌};
-ghost use Rattle.g1_c.specs.{StoresRowAt, IsHeapRefused, IsSameHeap, LacksRow, TellsRefusal};
+ghost use Rattle.g1_c.specs.{OnHeap, called, StoresRowAt, LacksRow};
 
 use crate::calling::on_heap;
 use crate::tell::answer_word;
@@ -16,10 +15,9 @@ pub extern "C" fn g1_heap_store_words(
     slot: u32,
     words: &[u64],
 ) -> u32
-    ensures stored { result ≡ 0 → IsSameHeap heap.old.value heap.new.value (λ old new.
-        StoresRowAt old slot words.now new) }
-    ensures told { TellsRefusal 0 result heap.old.value heap.new.value (Unit {0})
-        (IsHeapRefused heap.old.value (λ old. LacksRow old.layout slot words.now)) }
+    ensures { OnHeap 0 (called result heap.old.value heap.new.value) (Unit {0})
+        (λ old new. StoresRowAt old slot words.now new)
+        (λ old. LacksRow old.layout slot words.now) }
 {
     answer_word(on_heap!(alloc, heap, store_words_at(slot, words)))
 }

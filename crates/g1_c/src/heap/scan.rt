@@ -1,8 +1,8 @@
 //! What an evacuation pause scans, card by card: the dirty cards, and what is recorded for the
 //! regions of its collection set.
 ghost use Rattle.std.specs.Prelude.{◌≡◌};
-ghost use Rattle.g1_c.specs.{table_at, IsNextPending, TellsNextInto, reference_of, IsHeapRefused};
-ghost use Rattle.g1_c.specs.{IsSameHeap, LacksSomeRegion, IsTold};
+ghost use Rattle.g1_c.specs.{ToldByHeap, called, IsNextPending, table_at, reference_of};
+ghost use Rattle.g1_c.specs.{TellsNextInto, LacksSomeRegion};
 
 use crate::calling::on_heap;
 use crate::tell::tell;
@@ -19,10 +19,9 @@ pub extern "C" fn g1_heap_next_dirty(
     from: u32,
     card: &mut u32,
 ) -> u32
-    ensures told { IsTold result card.new (card.new ≡ 4294967295) heap.old.value heap.new.value
-        (λ card. IsSameHeap heap.old.value heap.new.value (λ old new.
-        IsNextPending (table_at old) from (reference_of card)))
-        (IsHeapRefused heap.old.value (λ old r. ⊥)) }
+    ensures { ToldByHeap (called result heap.old.value heap.new.value) card.new
+        (card.new ≡ 4294967295) (λ card old. IsNextPending (table_at old) from
+        (reference_of card)) (λ old r. ⊥) }
 {
     let answer = on_heap!(alloc, heap, Ok(next_dirty_at(from)));
     tell(answer, NULL, card)
@@ -37,10 +36,9 @@ pub extern "C" fn g1_heap_next_into(
     from: u32,
     card: &mut u32,
 ) -> u32
-    ensures told { IsTold result card.new (card.new ≡ 4294967295) heap.old.value heap.new.value
-        (λ card. IsSameHeap heap.old.value heap.new.value (λ old new.
-        TellsNextInto (table_at old) regions.now from (reference_of card)))
-        (IsHeapRefused heap.old.value (λ old. LacksSomeRegion old.layout regions.now)) }
+    ensures { ToldByHeap (called result heap.old.value heap.new.value) card.new
+        (card.new ≡ 4294967295) (λ card old. TellsNextInto (table_at old) regions.now from
+        (reference_of card)) (λ old. LacksSomeRegion old.layout regions.now) }
 {
     let answer = on_heap!(alloc, heap, next_into_at(regions, from));
     tell(answer, NULL, card)

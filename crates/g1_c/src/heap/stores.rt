@@ -1,7 +1,7 @@
 //! The collector's own stores into a heap at a pause.
-ghost use Rattle.std.specs.Prelude.{◌≡◌, ◌⊎◌, ◌≤◌};
-ghost use Rattle.g1_c.specs.{length, take, StoresAt, StoresAllAt, IsFaultAt, OfKind, reference_of};
-ghost use Rattle.g1_c.specs.{IsHeapRefused, IsSameHeap, OfPaused, LacksPlace, TellsRefusal};
+ghost use Rattle.std.specs.Prelude.{◌≡◌};
+ghost use Rattle.g1_c.specs.{OnHeap, called, OfKind, StoresAt, reference_of, LacksPlace};
+ghost use Rattle.g1_c.specs.{StoresSeveral, StoresAllAt, take, length, IsFaultAt};
 
 use crate::calling::on_heap;
 use crate::tell::tell_kind;
@@ -20,10 +20,9 @@ pub extern "C" fn g1_heap_store(
     target: u32,
     kind: &mut u32,
 ) -> u32
-    ensures stored { result ≡ 0 → IsSameHeap heap.old.value heap.new.value (λ old new.
-        OfKind kind.new (λ k. StoresAt old slot (reference_of target) k new)) }
-    ensures told { TellsRefusal 0 result heap.old.value heap.new.value (kind.new ≡ 0)
-        (IsHeapRefused heap.old.value (λ old. LacksPlace old.layout slot target)) }
+    ensures { OnHeap 0 (called result heap.old.value heap.new.value) (kind.new ≡ 0)
+        (λ old new. OfKind kind.new (λ k. StoresAt old slot (reference_of target) k new))
+        (λ old. LacksPlace old.layout slot target) }
 {
     tell_kind!(on_heap!(alloc, heap, store_at(slot, target)), kind)
 }
@@ -36,14 +35,10 @@ pub extern "C" fn g1_heap_store_all(
     stores: &[Store],
     stored: &mut usize,
 ) -> u32
-    ensures stored { result ≤ 3 → IsSameHeap heap.old.value heap.new.value (λ old new.
-        StoresAllAt old (take stored.new stores.now) new) }
-    ensures whole { result ≡ 0 → stored.new ≡ length stores.now }
-    ensures stopped { result ≡ 3 → OfPaused heap.old.value (λ old.
-        IsFaultAt old.layout stores.now stored.new) }
-    ensures done { result ≤ 3 → (result ≡ 0) ⊎ (result ≡ 3) }
-    ensures told { TellsRefusal 3 result heap.old.value heap.new.value (stored.new ≡ 0)
-        (IsHeapRefused heap.old.value (λ old r. ⊥)) }
+    ensures { OnHeap 3 (called result heap.old.value heap.new.value) (stored.new ≡ 0)
+        (λ old new. StoresSeveral result (StoresAllAt old (take stored.new stores.now) new)
+        (stored.new ≡ length stores.now) (IsFaultAt old.layout stores.now stored.new) ⊥)
+        (λ old r. ⊥) }
 {
     match on_heap!(alloc, heap, Ok(store_all_at(stores))) {
         Err(refusal) => {

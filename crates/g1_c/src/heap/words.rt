@@ -1,8 +1,7 @@
 //! The words of a heap: where they lie, and, at a pause, what a slot's is and a store of data.
 ghost use Rattle.std.specs.Prelude.{◌≡◌};
-ghost use Rattle.g1_c.specs.{race_words, start_at, TellsWord, StoresDataAt, IsHeapRefused};
-ghost use Rattle.g1_c.specs.{IsSameHeap, OfHeap, SaysNoHeap, LacksSlot, SaysNoData, TellsRefusal};
-ghost use Rattle.g1_c.specs.{IsTold};
+ghost use Rattle.g1_c.specs.{IsTold, called, OfHeap, race_words, SaysNoHeap, ToldByHeap, TellsWord};
+ghost use Rattle.g1_c.specs.{start_at, LacksSlot, OnHeap, StoresDataAt, SaysNoData};
 ghost use denote.RawPtr.{null_ptr};
 
 use crate::calling::on_heap;
@@ -15,10 +14,9 @@ use std::ptr::null;
 /// As in `g1.h`.
 #[unsafe(no_mangle)]
 pub extern "C" fn g1_heap_words(alloc: Global, heap: &mut HeapHandle, words: &mut *const u64) -> u32
-    ensures words { result ≡ 0 → OfHeap heap.old.value (λ race. words.new ≡ race_words race) }
-    ensures told { TellsRefusal 0 result heap.old.value heap.new.value (words.new ≡ null_ptr)
+    ensures { IsTold (called result heap.old.value heap.new.value) words.new
+        (words.new ≡ null_ptr) (λ words. OfHeap heap.old.value (λ race. words ≡ race_words race))
         (SaysNoHeap heap.old.value) }
-    ensures same { heap.new.value ≡ heap.old.value }
 {
     tell(words_of_heap(heap), null(), words)
 }
@@ -31,10 +29,9 @@ pub extern "C" fn g1_heap_word(
     slot: u32,
     word: &mut u64,
 ) -> u32
-    ensures told { IsTold result word.new (word.new ≡ 0) heap.old.value heap.new.value
-        (λ word. IsSameHeap heap.old.value heap.new.value (λ old new.
-        TellsWord old.layout (start_at old) slot word))
-        (IsHeapRefused heap.old.value (λ old. LacksSlot old.layout slot)) }
+    ensures { ToldByHeap (called result heap.old.value heap.new.value) word.new (word.new ≡ 0)
+        (λ word old. TellsWord old.layout (start_at old) slot word)
+        (λ old. LacksSlot old.layout slot) }
 {
     let answer = on_heap!(alloc, heap, word_at(slot));
     tell(answer, 0, word)
@@ -48,10 +45,8 @@ pub extern "C" fn g1_heap_store_data(
     slot: u32,
     word: u64,
 ) -> u32
-    ensures stored { result ≡ 0 → IsSameHeap heap.old.value heap.new.value (λ old new.
-        StoresDataAt old slot word new) }
-    ensures told { TellsRefusal 0 result heap.old.value heap.new.value (Unit {0})
-        (IsHeapRefused heap.old.value (λ old. SaysNoData old.layout slot word)) }
+    ensures { OnHeap 0 (called result heap.old.value heap.new.value) (Unit {0})
+        (λ old new. StoresDataAt old slot word new) (λ old. SaysNoData old.layout slot word) }
 {
     answer_word(on_heap!(alloc, heap, store_data_at(slot, word)))
 }

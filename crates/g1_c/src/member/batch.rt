@@ -1,7 +1,7 @@
 //! Several stores in a race by one call.
-ghost use Rattle.std.specs.Prelude.{◌≡◌, ◌⊎◌, ◌≤◌};
-ghost use Rattle.g1_c.specs.{length, take, race_layout, IsFaultAt, IsFullAt, StoresAll, OfRacer};
-ghost use Rattle.g1_c.specs.{SaysNoMember, TellsRefusal};
+ghost use Rattle.std.specs.Prelude.{◌≡◌};
+ghost use Rattle.g1_c.specs.{OnRacer, called, StoresSeveral, StoresAll, take, length, IsFaultAt};
+ghost use Rattle.g1_c.specs.{race_layout, IsFullAt};
 
 use crate::calling::on_racer;
 use g1_handles::code::{DONE, FULL, STOPPED};
@@ -18,16 +18,10 @@ pub extern "C" fn g1_race_store_all(
     stores: &[Store],
     stored: &mut usize,
 ) -> u32
-    ensures stored { result ≤ 4 → OfRacer racer.old.value (λ a.
-        OfRacer racer.new.value (λ b. StoresAll a (take stored.new stores.now) b)) }
-    ensures whole { result ≡ 0 → stored.new ≡ length stores.now }
-    ensures stopped { result ≡ 3 → OfRacer racer.old.value (λ a.
-        IsFaultAt (race_layout a.race) stores.now stored.new) }
-    ensures full { result ≡ 4 → OfRacer racer.old.value (λ a.
-        OfRacer racer.new.value (λ b. IsFullAt a.race stores.now stored.new b.racer)) }
-    ensures done { result ≤ 4 → (result ≡ 0) ⊎ (result ≡ 3) ⊎ (result ≡ 4) }
-    ensures told { TellsRefusal 4 result racer.old.value racer.new.value (stored.new ≡ 0)
-        (SaysNoMember racer.old.value) }
+    ensures { OnRacer 4 (called result racer.old.value racer.new.value) (stored.new ≡ 0)
+        (λ a b. StoresSeveral result (StoresAll a (take stored.new stores.now) b)
+        (stored.new ≡ length stores.now) (IsFaultAt (race_layout a.race) stores.now stored.new)
+        (IsFullAt a.race stores.now stored.new b.racer)) (λ a r. ⊥) }
 {
     match on_racer!(alloc, racer, store_all_by(stores)) {
         Err(refusal) => {

@@ -1,6 +1,6 @@
 //! What a racer and a sweeper have done.
 ghost use Rattle.std.specs.Prelude.{◌≡◌};
-ghost use Rattle.g1_c.specs.{OfRacer, OfSweeper, SaysNoMember, stored_as, TellsRefusal};
+ghost use Rattle.g1_c.specs.{IsMadeOrRefused, called, OfRacer, stored_as, SaysNoMember, OfSweeper};
 
 use crate::calling::{on_racer, on_sweeper};
 use g1_handles::code::DONE;
@@ -19,14 +19,12 @@ pub extern "C" fn g1_racer_counts(
     already_dirty: &mut u64,
     logged: &mut u64,
 ) -> u32
-    ensures counts { result ≡ 0 → OfRacer racer.old.value (λ a.
-        (null.new ≡ stored_as a.counts.stores Kind.Null)
+    ensures counts { IsMadeOrRefused 0 (called result racer.old.value racer.new.value)
+        ((null.new ≡ 0) × (same_region.new ≡ 0) × (already_dirty.new ≡ 0) × (logged.new ≡ 0))
+        (OfRacer racer.old.value (λ a. (null.new ≡ stored_as a.counts.stores Kind.Null)
         × (same_region.new ≡ stored_as a.counts.stores Kind.SameRegion)
         × (already_dirty.new ≡ stored_as a.counts.stores Kind.AlreadyDirty)
-        × (logged.new ≡ stored_as a.counts.stores Kind.Logged)) }
-    ensures told { TellsRefusal 0 result racer.old.value racer.new.value
-        ((null.new ≡ 0) × (same_region.new ≡ 0) × (already_dirty.new ≡ 0) × (logged.new ≡ 0))
-        (SaysNoMember racer.old.value) }
+        × (logged.new ≡ stored_as a.counts.stores Kind.Logged))) (SaysNoMember racer.old.value) }
     ensures same { racer.new.value ≡ racer.old.value }
 {
     match on_racer!(alloc, racer, store_counts_by()) {
@@ -53,12 +51,11 @@ pub extern "C" fn g1_sweeper_counts(
     cleaned: &mut u64,
     references: &mut u64,
 ) -> u32
-    ensures counts { result ≡ 0 → OfSweeper sweeper.old.value (λ a.
-        (refined.new ≡ a.counts.sweeps.refined) × (cleaned.new ≡ a.counts.sweeps.cleaned)
-        × (references.new ≡ a.counts.sweeps.references)) }
-    ensures told { TellsRefusal 0 result sweeper.old.value sweeper.new.value
+    ensures counts { IsMadeOrRefused 0 (called result sweeper.old.value sweeper.new.value)
         ((refined.new ≡ 0) × (cleaned.new ≡ 0) × (references.new ≡ 0))
-        (SaysNoMember sweeper.old.value) }
+        (OfSweeper sweeper.old.value (λ a. (refined.new ≡ a.counts.sweeps.refined)
+        × (cleaned.new ≡ a.counts.sweeps.cleaned)
+        × (references.new ≡ a.counts.sweeps.references))) (SaysNoMember sweeper.old.value) }
     ensures same { sweeper.new.value ≡ sweeper.old.value }
 {
     match on_sweeper!(alloc, sweeper, sweep_counts_by()) {

@@ -1,6 +1,6 @@
 //! Stores of data in a race.
 ghost use Rattle.std.specs.Prelude.{◌≡◌};
-ghost use Rattle.g1_c.specs.{OfRacer, StoresData, IsRaceDataRefused, TellsRefusal};
+ghost use Rattle.g1_c.specs.{OnRacer, called, StoresData, SaysNoData, race_layout};
 
 use crate::calling::on_racer;
 use g1_handles::code::DONE;
@@ -17,10 +17,8 @@ pub extern "C" fn g1_race_store_data(
     word: u64,
     old: &mut u64,
 ) -> u32
-    ensures stored { result ≡ 0 → OfRacer racer.old.value (λ a.
-        OfRacer racer.new.value (λ b. StoresData a slot word old.new b)) }
-    ensures told { TellsRefusal 0 result racer.old.value racer.new.value (old.new ≡ 0)
-        (IsRaceDataRefused racer.old.value slot word) }
+    ensures { OnRacer 0 (called result racer.old.value racer.new.value) (old.new ≡ 0)
+        (λ a b. StoresData a slot word old.new b) (λ a. SaysNoData (race_layout a.race) slot word) }
 {
     match on_racer!(alloc, racer, store_data_by(slot, word)) {
         Err(refusal) => {

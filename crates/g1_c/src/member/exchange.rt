@@ -1,8 +1,8 @@
 //! Stores in a race that tell what the slot referred to before, or depend on it.
-ghost use Rattle.std.specs.Prelude.{◌≡◌, ◌⊎◌, ◌<◌, ◌≤◌};
-ghost use Rattle.g1_c.specs.{race_layout, IsStoreOf, CanStore, OfKind};
-ghost use Rattle.g1_c.specs.{reference_of, Swaps, Exchanges, FindsOther, OfRacer};
-ghost use Rattle.g1_c.specs.{IsRaceStoreRefused, IsRaceExchangeRefused, TellsRefusal};
+ghost use Rattle.std.specs.Prelude.{◌≡◌, ◌⊎◌, ◌<◌};
+ghost use Rattle.g1_c.specs.{OnRacer, called, StoresAs, CanStore, Swaps, reference_of, SaysNoStore};
+ghost use Rattle.g1_c.specs.{ComparesAndSwaps, IsStoreOf, race_layout, OfKind, Exchanges};
+ghost use Rattle.g1_c.specs.{FindsOther, LacksPlace};
 
 use crate::calling::on_racer;
 use g1_handles::code::{DIFFERS, DONE, NULL, kind_word};
@@ -20,13 +20,10 @@ pub extern "C" fn g1_race_swap(
     old: &mut u32,
     kind: &mut u32,
 ) -> u32
-    ensures swapped { result ≡ 0 → OfRacer racer.old.value (λ a.
-        OfRacer racer.new.value (λ b. OfKind kind.new (λ k.
-        Swaps a slot (reference_of target) (reference_of old.new) k b))) }
-    ensures can { result ≡ 0 → OfRacer racer.old.value (λ a.
-        CanStore a.race a.racer slot target) }
-    ensures told { TellsRefusal 0 result racer.old.value racer.new.value
-        ((old.new ≡ 4294967295) × (kind.new ≡ 0)) (IsRaceStoreRefused racer.old.value slot target) }
+    ensures { OnRacer 0 (called result racer.old.value racer.new.value)
+        ((old.new ≡ 4294967295) × (kind.new ≡ 0)) (λ a b. StoresAs kind.new
+        (CanStore a.race a.racer slot target) (λ k. Swaps a slot (reference_of target)
+        (reference_of old.new) k b)) (λ a. SaysNoStore a.race a.racer slot target) }
 {
     match on_racer!(alloc, racer, swap_by(slot, target)) {
         Err(refusal) => {
@@ -53,20 +50,15 @@ pub extern "C" fn g1_race_compare_exchange(
     found: &mut u32,
     kind: &mut u32,
 ) -> u32
-    ensures stored { result ≡ 0 → OfRacer racer.old.value (λ a.
-        OfRacer racer.new.value (λ b. OfKind kind.new (λ k.
-        Exchanges a slot (reference_of expected) (reference_of target) k b))) }
-    ensures found { result ≡ 0 → found.new ≡ expected }
-    ensures differs { result ≡ 2 → OfRacer racer.old.value (λ a.
-        OfRacer racer.new.value (λ b.
-        FindsOther a slot (reference_of expected) (reference_of found.new) b)) }
-    ensures can { result ≤ 2 → OfRacer racer.old.value (λ a.
-        IsStoreOf (race_layout a.race) slot expected
-        × CanStore a.race a.racer slot target) }
-    ensures done { result ≤ 2 → (result ≡ 0) ⊎ (result ≡ 2) }
+    ensures exchanged { OnRacer 2 (called result racer.old.value racer.new.value)
+        (found.new ≡ 4294967295) (λ a b. ComparesAndSwaps result
+        (IsStoreOf (race_layout a.race) slot expected × CanStore a.race a.racer slot target)
+        ((found.new ≡ expected) × OfKind kind.new (λ k.
+        Exchanges a slot (reference_of expected) (reference_of target) k b))
+        (FindsOther a slot (reference_of expected) (reference_of found.new) b))
+        (λ a r. SaysNoStore a.race a.racer slot target r
+        ⊎ LacksPlace (race_layout a.race) slot expected r) }
     ensures none { 0 < result → kind.new ≡ 0 }
-    ensures told { TellsRefusal 2 result racer.old.value racer.new.value (found.new ≡ 4294967295)
-        (IsRaceExchangeRefused racer.old.value slot expected target) }
 {
     *kind = 0;
     match on_racer!(alloc, racer, compare_exchange_by(slot, expected, target)) {

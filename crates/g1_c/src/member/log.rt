@@ -1,7 +1,7 @@
 //! The log of a racer.
 ghost use Rattle.std.specs.Prelude.{◌≡◌, ◌⊎◌, ◌<◌};
-ghost use Rattle.g1_c.specs.{length, take, OfRacer, TakesLog};
-ghost use Rattle.g1_c.specs.{IsWritten, SaysNoMember, TellsRefusal};
+ghost use Rattle.g1_c.specs.{IsMadeOrRefused, called, OfRacer, TakesLog, take, SaysNoMember};
+ghost use Rattle.g1_c.specs.{length, IsWritten};
 
 use crate::tell::tell;
 use g1_handles::code::Reason;
@@ -17,11 +17,10 @@ pub extern "C" fn g1_race_take_log(
     cards: &mut [u32],
     count: &mut u32,
 ) -> u32
-    ensures log { result ≡ 0 → OfRacer racer.old.value (λ a.
-        OfRacer racer.new.value (λ b. TakesLog a (take count.new cards.new) b)) }
-    ensures told { TellsRefusal 0 result racer.old.value racer.new.value (count.new ≡ 0)
-        (λ refusal. SaysNoMember racer.old.value refusal ⊎ ((refusal ≡ Reason.NoRoom) ×
-        (length cards.old < 256))) }
+    ensures log { IsMadeOrRefused 0 (called result racer.old.value racer.new.value)
+        (count.new ≡ 0) (OfRacer racer.old.value (λ a. OfRacer racer.new.value (λ b.
+        TakesLog a (take count.new cards.new) b))) (λ refusal. SaysNoMember racer.old.value refusal
+        ⊎ ((refusal ≡ Reason.NoRoom) × (length cards.old < 256))) }
     ensures written { IsWritten cards.old count.new cards.new }
 {
     tell(take_log(racer, cards), 0, count)

@@ -1,9 +1,9 @@
 //! Queries by a reader: what a slot refers to and its word, whether a card is pending, and what is
 //! recorded for a region.
 ghost use Rattle.std.specs.Prelude.{◌≡◌, ◌≤◌, ◌==◌};
-ghost use Rattle.g1_c.specs.{reference_of, OfReader, reader_layout, table_of_reader, TellsTarget};
-ghost use Rattle.g1_c.specs.{TellsPending, TellsNextMember, TellsWord, ReadsPair, IsReaderRefused};
-ghost use Rattle.g1_c.specs.{LacksCard, LacksPair, LacksRegion, LacksSlot, IsTold};
+ghost use Rattle.g1_c.specs.{ToldByReader, called, TellsTarget, table_of_reader, reference_of};
+ghost use Rattle.g1_c.specs.{LacksSlot, reader_layout, TellsWord, TellsPending, LacksCard};
+ghost use Rattle.g1_c.specs.{ReadsPair, LacksPair, TellsNextMember, LacksRegion};
 
 use crate::calling::on_reader;
 use crate::tell::{tell, tell_whether};
@@ -22,11 +22,9 @@ pub extern "C" fn g1_reader_target(
     slot: u32,
     target: &mut u32,
 ) -> u32
-    ensures told { IsTold result target.new (target.new ≡ 4294967295)
-        reader.old.value reader.new.value
-        (λ target. OfReader reader.old.value (λ a.
-        TellsTarget (table_of_reader a) slot (reference_of target)))
-        (IsReaderRefused reader.old.value (λ a. LacksSlot (reader_layout a) slot)) }
+    ensures { ToldByReader (called result reader.old.value reader.new.value) target.new
+        (target.new ≡ 4294967295) (λ target a. TellsTarget (table_of_reader a) slot
+        (reference_of target)) (λ a. LacksSlot (reader_layout a) slot) }
 {
     let answer = on_reader!(alloc, reader, target_by(slot));
     tell(answer, NULL, target)
@@ -40,10 +38,9 @@ pub extern "C" fn g1_reader_word(
     slot: u32,
     word: &mut u64,
 ) -> u32
-    ensures told { IsTold result word.new (word.new ≡ 0) reader.old.value reader.new.value
-        (λ word. OfReader reader.old.value (λ a.
-        TellsWord (reader_layout a) a.reader.start slot word))
-        (IsReaderRefused reader.old.value (λ a. LacksSlot (reader_layout a) slot)) }
+    ensures { ToldByReader (called result reader.old.value reader.new.value) word.new
+        (word.new ≡ 0) (λ word a. TellsWord (reader_layout a) a.reader.start slot word)
+        (λ a. LacksSlot (reader_layout a) slot) }
 {
     let answer = on_reader!(alloc, reader, word_by(slot));
     tell(answer, 0, word)
@@ -57,10 +54,9 @@ pub extern "C" fn g1_reader_is_pending(
     card: u32,
     pending: &mut u32,
 ) -> u32
-    ensures told { IsTold result (pending.new == 1) (pending.new ≡ 0)
-        reader.old.value reader.new.value
-        (λ answer. OfReader reader.old.value (λ a. TellsPending (table_of_reader a) card answer))
-        (IsReaderRefused reader.old.value (λ a. LacksCard (reader_layout a) card)) }
+    ensures told { ToldByReader (called result reader.old.value reader.new.value)
+        (pending.new == 1) (pending.new ≡ 0) (λ answer a.
+        TellsPending (table_of_reader a) card answer) (λ a. LacksCard (reader_layout a) card) }
     ensures word { pending.new ≤ 1 }
 {
     let answer = on_reader!(alloc, reader, is_pending_by(card));
@@ -76,9 +72,9 @@ pub extern "C" fn g1_reader_has(
     region: u32,
     has: &mut u32,
 ) -> u32
-    ensures told { IsTold result (has.new == 1) (has.new ≡ 0) reader.old.value reader.new.value
-        (λ answer. OfReader reader.old.value (λ a. ReadsPair a card region answer))
-        (IsReaderRefused reader.old.value (λ a. LacksPair (reader_layout a) card region)) }
+    ensures told { ToldByReader (called result reader.old.value reader.new.value) (has.new == 1)
+        (has.new ≡ 0) (λ answer a. ReadsPair a card region answer)
+        (λ a. LacksPair (reader_layout a) card region) }
     ensures word { has.new ≤ 1 }
 {
     let answer = on_reader!(alloc, reader, has_by(card, region));
@@ -94,10 +90,9 @@ pub extern "C" fn g1_reader_next_member(
     from: u32,
     card: &mut u32,
 ) -> u32
-    ensures told { IsTold result card.new (card.new ≡ 4294967295) reader.old.value reader.new.value
-        (λ card. OfReader reader.old.value (λ a.
-        TellsNextMember (table_of_reader a) region from (reference_of card)))
-        (IsReaderRefused reader.old.value (λ a. LacksRegion (reader_layout a) region)) }
+    ensures { ToldByReader (called result reader.old.value reader.new.value) card.new
+        (card.new ≡ 4294967295) (λ card a. TellsNextMember (table_of_reader a) region from
+        (reference_of card)) (λ a. LacksRegion (reader_layout a) region) }
 {
     let answer = on_reader!(alloc, reader, next_member_by(region, from));
     tell(answer, NULL, card)

@@ -1,6 +1,5 @@
 //! Concurrent refinement in a race.
-ghost use Rattle.std.specs.Prelude.{◌≡◌};
-ghost use Rattle.g1_c.specs.{OfSweeper, Sweeps, IsSweepRefused, TellsRefusal};
+ghost use Rattle.g1_c.specs.{IsMadeOrRefused, called, OfSweeper, Sweeps, IsSweepRefused};
 
 use crate::calling::on_sweeper;
 use g1_handles::code::DONE;
@@ -11,9 +10,8 @@ use std::alloc::Global;
 /// As in `g1.h`.
 #[unsafe(no_mangle)]
 pub extern "C" fn g1_race_refine(alloc: Global, sweeper: &mut SweeperHandle, card: u32) -> u32
-    ensures refined { result ≡ 0 → OfSweeper sweeper.old.value (λ a.
-        OfSweeper sweeper.new.value (λ b. Sweeps a card b)) }
-    ensures told { TellsRefusal 0 result sweeper.old.value sweeper.new.value (Unit {0})
+    ensures { IsMadeOrRefused 0 (called result sweeper.old.value sweeper.new.value) (Unit {0})
+        (OfSweeper sweeper.old.value (λ a. OfSweeper sweeper.new.value (λ b. Sweeps a card b)))
         (IsSweepRefused sweeper.old.value card) }
 {
     match on_sweeper!(alloc, sweeper, refine_by(card)) {

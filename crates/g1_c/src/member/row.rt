@@ -1,6 +1,7 @@
 //! A row of words in a race by one call.
-ghost use Rattle.std.specs.Prelude.{◌≡◌, ◌≢◌, ◌⊎◌, ◌≤◌};
-ghost use Rattle.g1_c.specs.{length, OfRacer, StoresRow, IsRowRefused, TellsRefusal};
+ghost use Rattle.std.specs.Prelude.{◌≡◌, ◌≢◌};
+ghost use Rattle.g1_c.specs.{OnRacer, called, StoresSeveral, StoresRow, length, LacksRow};
+ghost use Rattle.g1_c.specs.{race_layout};
 
 use crate::calling::on_racer;
 use g1_handles::code::{DONE, FULL};
@@ -17,13 +18,10 @@ pub extern "C" fn g1_race_store_words(
     words: &[u64],
     stored: &mut usize,
 ) -> u32
-    ensures stored { result ≤ 4 → OfRacer racer.old.value (λ a.
-        OfRacer racer.new.value (λ b. StoresRow a slot words.now stored.new b)) }
-    ensures whole { result ≡ 0 → stored.new ≡ length words.now }
-    ensures full { result ≡ 4 → stored.new ≢ length words.now }
-    ensures done { result ≤ 4 → (result ≡ 0) ⊎ (result ≡ 4) }
-    ensures told { TellsRefusal 4 result racer.old.value racer.new.value (stored.new ≡ 0)
-        (IsRowRefused racer.old.value slot words.now) }
+    ensures { OnRacer 4 (called result racer.old.value racer.new.value) (stored.new ≡ 0)
+        (λ a b. StoresSeveral result (StoresRow a slot words.now stored.new b)
+        (stored.new ≡ length words.now) ⊥ (stored.new ≢ length words.now))
+        (λ a. LacksRow (race_layout a.race) slot words.now) }
 {
     match on_racer!(alloc, racer, store_words_by(slot, words)) {
         Err(refusal) => {

@@ -1,7 +1,7 @@
 //! Lock-free stores in a race.
 ghost use Rattle.std.specs.Prelude.{◌≡◌};
-ghost use Rattle.g1_c.specs.{CanStore, OfKind, reference_of};
-ghost use Rattle.g1_c.specs.{OfRacer, Stores, IsRaceStoreRefused, TellsRefusal};
+ghost use Rattle.g1_c.specs.{OnRacer, called, StoresAs, CanStore, Stores, reference_of};
+ghost use Rattle.g1_c.specs.{SaysNoStore};
 
 use crate::calling::on_racer;
 use crate::tell::tell_kind;
@@ -18,13 +18,10 @@ pub extern "C" fn g1_race_store(
     target: u32,
     kind: &mut u32,
 ) -> u32
-    ensures stored { result ≡ 0 → OfRacer racer.old.value (λ a.
-        OfRacer racer.new.value (λ b. OfKind kind.new (λ k.
-        Stores a slot (reference_of target) k b))) }
-    ensures can { result ≡ 0 → OfRacer racer.old.value (λ a.
-        CanStore a.race a.racer slot target) }
-    ensures told { TellsRefusal 0 result racer.old.value racer.new.value (kind.new ≡ 0)
-        (IsRaceStoreRefused racer.old.value slot target) }
+    ensures { OnRacer 0 (called result racer.old.value racer.new.value) (kind.new ≡ 0)
+        (λ a b. StoresAs kind.new (CanStore a.race a.racer slot target)
+        (λ k. Stores a slot (reference_of target) k b))
+        (λ a. SaysNoStore a.race a.racer slot target) }
 {
     tell_kind!(on_racer!(alloc, racer, store_by(slot, target)), kind)
 }

@@ -1,7 +1,7 @@
 //! Stores of words in a race: a slot may hold null, a reference or data.
-ghost use Rattle.std.specs.Prelude.{◌≡◌, ◌⊎◌, ◌<◌, ◌≤◌};
-ghost use Rattle.g1_c.specs.{OfKind, OfRacer, SwapsWord, FindsOtherWord, CanStoreWord, MayHave};
-ghost use Rattle.g1_c.specs.{IsSwapWordRefused, IsExchangeWordRefused, TellsRefusal};
+ghost use Rattle.std.specs.Prelude.{◌≡◌, ◌⊎◌, ◌<◌};
+ghost use Rattle.g1_c.specs.{OnRacer, called, StoresAs, CanStoreWord, SwapsWord, SaysNoWordStore};
+ghost use Rattle.g1_c.specs.{ComparesAndSwaps, MayHave, OfKind, FindsOtherWord, SaysBadWord};
 
 use crate::calling::on_racer;
 use g1_handles::code::{DIFFERS, DONE, kind_word};
@@ -19,12 +19,10 @@ pub extern "C" fn g1_race_swap_word(
     old: &mut u64,
     kind: &mut u32,
 ) -> u32
-    ensures swapped { result ≡ 0 → OfRacer racer.old.value (λ a.
-        OfRacer racer.new.value (λ b. OfKind kind.new (λ k. SwapsWord a slot word old.new k b))) }
-    ensures can { result ≡ 0 → OfRacer racer.old.value (λ a.
-        CanStoreWord a.race a.racer slot word) }
-    ensures told { TellsRefusal 0 result racer.old.value racer.new.value
-        ((old.new ≡ 0) × (kind.new ≡ 0)) (IsSwapWordRefused racer.old.value slot word) }
+    ensures { OnRacer 0 (called result racer.old.value racer.new.value)
+        ((old.new ≡ 0) × (kind.new ≡ 0)) (λ a b. StoresAs kind.new
+        (CanStoreWord a.race a.racer slot word) (λ k. SwapsWord a slot word old.new k b))
+        (λ a. SaysNoWordStore a.race a.racer slot word) }
 {
     match on_racer!(alloc, racer, swap_word_by(slot, word)) {
         Err(refusal) => {
@@ -51,18 +49,13 @@ pub extern "C" fn g1_race_compare_exchange_word(
     found: &mut u64,
     kind: &mut u32,
 ) -> u32
-    ensures stored { result ≡ 0 → OfRacer racer.old.value (λ a.
-        OfRacer racer.new.value (λ b. OfKind kind.new (λ k.
-        SwapsWord a slot word expected k b))) }
-    ensures found { result ≡ 0 → found.new ≡ expected }
-    ensures differs { result ≡ 2 → OfRacer racer.old.value (λ a.
-        OfRacer racer.new.value (λ b. FindsOtherWord a slot expected found.new b)) }
-    ensures can { result ≤ 2 → OfRacer racer.old.value (λ a.
-        CanStoreWord a.race a.racer slot word × MayHave a.race expected) }
-    ensures done { result ≤ 2 → (result ≡ 0) ⊎ (result ≡ 2) }
+    ensures exchanged { OnRacer 2 (called result racer.old.value racer.new.value)
+        (found.new ≡ 0) (λ a b. ComparesAndSwaps result
+        (CanStoreWord a.race a.racer slot word × MayHave a.race expected)
+        ((found.new ≡ expected) × OfKind kind.new (λ k. SwapsWord a slot word expected k b))
+        (FindsOtherWord a slot expected found.new b))
+        (λ a r. SaysNoWordStore a.race a.racer slot word r ⊎ SaysBadWord a.race expected r) }
     ensures none { 0 < result → kind.new ≡ 0 }
-    ensures told { TellsRefusal 2 result racer.old.value racer.new.value (found.new ≡ 0)
-        (IsExchangeWordRefused racer.old.value slot expected word) }
 {
     *kind = 0;
     match on_racer!(alloc, racer, compare_exchange_word_by(slot, expected, word)) {

@@ -1,8 +1,7 @@
 //! Several stores by one call.
-ghost use Rattle.std.specs.Prelude.{◌≡◌, ◌⊎◌, ◌≤◌};
-ghost use Rattle.g1_c.specs.Prelude.{length, take, IfSome, IsWritten, Between, IsCallRefused};
-ghost use Rattle.g1_c.specs.Prelude.{made_all, AreStoresOf, IsFaultAt, AreStoresRefused};
-ghost use Rattle.g1_c.specs.Calls.{TellsRefusal};
+ghost use Rattle.std.specs.Prelude.{◌≡◌};
+ghost use Rattle.g1_c.specs.{OnCore, called, StoresSeveral, AreStored, take, length, IsFaultAt};
+ghost use Rattle.g1_c.specs.{AreStoresRefused, IsWritten};
 
 use crate::calling::on_core;
 use g1_handles::code::{DONE, STOPPED};
@@ -30,18 +29,12 @@ pub extern "C" fn g1_store_all(
     cards: &mut [u32],
     batch: &mut Batch,
 ) -> u32
-    ensures made { result ≤ 3 → Between handle.old.value handle.new.value (λ old new.
-        record { machine = new; cards = take batch.new.logged cards.new }
-        ≡ made_all old (take batch.new.stored stores.now)) }
-    ensures within { result ≤ 3 → IfSome handle.old.value (λ old.
-        AreStoresOf old.state.table.layout (take batch.new.stored stores.now)) }
-    ensures whole { result ≡ 0 → batch.new.stored ≡ length stores.now }
-    ensures stopped { result ≡ 3 → IfSome handle.old.value (λ old.
-        IsFaultAt old.state.table.layout stores.now batch.new.stored) }
-    ensures done { result ≤ 3 → (result ≡ 0) ⊎ (result ≡ 3) }
-    ensures told { TellsRefusal 3 result handle.old.value handle.new.value
-        ((batch.new.stored ≡ 0) × (batch.new.logged ≡ 0)) (IsCallRefused handle.old.value
-        (λ old. AreStoresRefused (length stores.now) (length cards.old))) }
+    ensures stored { OnCore 3 (called result handle.old.value handle.new.value)
+        ((batch.new.stored ≡ 0) × (batch.new.logged ≡ 0)) (λ old new. StoresSeveral result
+        (AreStored old (take batch.new.stored stores.now) (take batch.new.logged cards.new) new)
+        (batch.new.stored ≡ length stores.now)
+        (IsFaultAt old.state.table.layout stores.now batch.new.stored) ⊥)
+        (λ old. AreStoresRefused (length stores.now) (length cards.old)) }
     ensures written { IsWritten cards.old batch.new.logged cards.new }
 {
     *batch = Batch {

@@ -1,7 +1,8 @@
 //! The clear and the redirect, which may follow an evacuation.
-ghost use Rattle.std.specs.Prelude.{◌≡◌, ◌≢◌, ◌<◌};
-ghost use Rattle.g1_c.specs.{Between, IsRefusal, IsCallRefused, LacksRegion, ClearsTo, AreOnlyRead};
-ghost use Rattle.g1_c.specs.{length, take, IsWritten, IsRedirectRefused, RedirectsTo, TellsRefusal};
+ghost use Rattle.std.specs.Prelude.{◌≡◌, ◌<◌};
+ghost use Rattle.g1_c.specs.{IsCleared, called, Between, ClearsTo, IsCallRefused, LacksRegion};
+ghost use Rattle.g1_c.specs.{AreOnlyRead, OnCore, RedirectsTo, redirected_of, take};
+ghost use Rattle.g1_c.specs.{IsRedirectRefused, length, IsWritten};
 
 use crate::calling::on_core;
 use crate::tell::tell_reply;
@@ -17,17 +18,9 @@ use std::alloc::Global;
 /// A refused clear may have raised the core's count of reads.
 #[unsafe(no_mangle)]
 pub extern "C" fn g1_clear(alloc: Global, handle: &mut Handle, region: u32, detail: &mut u32) -> u32
-    ensures cleared { result ≡ 0 → Between handle.old.value handle.new.value (λ old new.
-        ClearsTo old region ClearReply.Cleared new) }
-    ensures pending { result ≡ 19
-        → Between handle.old.value handle.new.value (λ old new.
-        ClearsTo old region (ClearReply.Pending detail.new) new) }
-    ensures referenced { result ≡ 20
-        → Between handle.old.value handle.new.value (λ old new.
-        ClearsTo old region (ClearReply.StillReferenced detail.new) new) }
-    ensures none { result ≢ 19 → result ≢ 20 → detail.new ≡ 0 }
-    ensures why { 0 < result → result ≢ 19 → result ≢ 20 →
-        IsRefusal result (IsCallRefused handle.old.value (λ old.
+    ensures cleared { IsCleared (called result handle.old.value handle.new.value) detail.new
+        (λ reply. Between handle.old.value handle.new.value (λ old new.
+        ClearsTo old region reply new)) (IsCallRefused handle.old.value (λ old.
         LacksRegion old.state.table.layout region)) }
     ensures refused { 0 < result → AreOnlyRead handle.old.value handle.new.value }
 {
@@ -45,15 +38,11 @@ pub extern "C" fn g1_redirect(
     refined: &mut [u32],
     refined_count: &mut u32,
 ) -> u32
-    ensures moved { result ≡ 0 → Between handle.old.value handle.new.value (λ old new.
-        RedirectsTo old from to (Redirected.Moved moved.new (take refined_count.new refined.new))
-        new) }
-    ensures short { result ≡ 1 → Between handle.old.value handle.new.value (λ old new.
-        RedirectsTo old from to (Redirected.Short (take refined_count.new refined.new)) new) }
+    ensures redirected { OnCore 1 (called result handle.old.value handle.new.value)
+        (refined_count.new ≡ 0) (λ old new. RedirectsTo old from to (redirected_of result
+        moved.new (take refined_count.new refined.new)) new)
+        (λ old. IsRedirectRefused old.state.table.layout from to (length refined.old)) }
     ensures none { 0 < result → moved.new ≡ 0 }
-    ensures told { TellsRefusal 1 result handle.old.value handle.new.value (refined_count.new ≡ 0)
-        (IsCallRefused handle.old.value (λ old. IsRedirectRefused old.state.table.layout from to
-        (length refined.old))) }
     ensures written { IsWritten refined.old refined_count.new refined.new }
 {
     *moved = 0;

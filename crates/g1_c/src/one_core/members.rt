@@ -1,7 +1,7 @@
 //! The remembered set of a region, as it is recorded.
-ghost use Rattle.std.specs.Prelude.{◌≡◌, ◌≢◌, ◌<◌};
-ghost use Rattle.g1_c.specs.{length, take, IsWritten, OfOpen, IsRefusal};
-ghost use Rattle.g1_c.specs.{TellsMembers, Overflows, AreMembersRefused, IsCallRefused};
+ghost use Rattle.std.specs.Prelude.{◌≡◌, ◌<◌};
+ghost use Rattle.g1_c.specs.{IsListed, called, listing, OfOpen, TellsMembers, take, Overflows};
+ghost use Rattle.g1_c.specs.{length, IsCallRefused, AreMembersRefused};
 
 use crate::calling::on_core;
 use g1_handles::code::{DONE, Reason};
@@ -19,15 +19,12 @@ pub extern "C" fn g1_members(
     cards: &mut [u32],
     count: &mut u32,
 ) -> u32
-    ensures members { result ≡ 0 → OfOpen handle.old.value (λ machine.
-        TellsMembers machine.state.table region (take count.new cards.new)) }
-    ensures room { result ≡ 16 → OfOpen handle.old.value (λ machine.
-        Overflows (TellsMembers machine.state.table region) (length cards.old) count.new) }
-    ensures why { 0 < result → result ≢ 16 →
-        IsRefusal result (IsCallRefused handle.old.value (λ old.
-        AreMembersRefused old.state.table.layout region)) }
-    ensures none { result ≢ 0 → result ≢ 16 → count.new ≡ 0 }
-    ensures written { result ≡ 0 → IsWritten cards.old count.new cards.new }
+    ensures members { IsListed (called result handle.old.value handle.new.value)
+        (listing cards.old cards.new count.new) (OfOpen handle.old.value (λ core.
+        TellsMembers core.state.table region (take count.new cards.new)))
+        (OfOpen handle.old.value (λ core.
+        Overflows (TellsMembers core.state.table region) (length cards.old) count.new))
+        (IsCallRefused handle.old.value (λ old. AreMembersRefused old.state.table.layout region)) }
     ensures unwritten { 0 < result → cards.new ≡ cards.old }
     ensures same { handle.new.value ≡ handle.old.value }
 {

@@ -1,7 +1,7 @@
 //! Opening and closing a handle.
-ghost use Rattle.std.specs.Prelude.{◌≡◌, ◌↔◌, ◌<◌};
-ghost use Rattle.g1_c.specs.{Some, None, IsSome, new_machine, layout_of};
-ghost use Rattle.g1_c.specs.{settings_of, IsRefusal, IsOpenRefused, SaysNotOpen, TellsRefusal};
+ghost use Rattle.std.specs.Prelude.{◌≡◌};
+ghost use Rattle.g1_c.specs.{IsMadeOrRefused, called, Opens, Some, new_machine, layout_of};
+ghost use Rattle.g1_c.specs.{settings_of, IsOpenRefused, Closes, IsSome, SaysNotOpen};
 
 use crate::tell::answer_word;
 use core::mem::replace_with;
@@ -18,10 +18,9 @@ pub extern "C" fn g1_open(
     hot: u32,
     ring: u32,
 ) -> u32
-    ensures new { result ≡ 0 →
-        handle.new.value ≡ Some (new_machine (layout_of counts.now) (settings_of hot ring)) }
-    ensures closed { result ≡ 0 → handle.old.value ≡ None }
-    ensures told { TellsRefusal 0 result handle.old.value handle.new.value (Unit {0})
+    ensures { IsMadeOrRefused 0 (called result handle.old.value handle.new.value) (Unit {0})
+        (Opens handle.old.value (handle.new.value
+        ≡ Some (new_machine (layout_of counts.now) (settings_of hot ring))))
         (IsOpenRefused handle.old.value (layout_of counts.now) (settings_of hot ring)) }
 {
     answer_word(open_core(alloc, handle, counts, hot, ring))
@@ -30,10 +29,8 @@ pub extern "C" fn g1_open(
 /// As in `g1.h`.
 #[unsafe(no_mangle)]
 pub extern "C" fn g1_close(alloc: Global, handle: &mut Handle) -> u32
-    ensures closed { handle.new.value ≡ None }
-    ensures done { IsSome handle.old.value → result ≡ 0 }
-    ensures refused { (0 < result) ↔ (handle.old.value ≡ None) }
-    ensures why { 0 < result → IsRefusal result (SaysNotOpen handle.old.value) }
+    ensures { IsMadeOrRefused 0 (called result handle.old.value handle.new.value) (Unit {0})
+        (Closes (IsSome handle.old.value) handle.new.value) (SaysNotOpen handle.old.value) }
 {
     replace_with(handle, alloc, close_core)
 }

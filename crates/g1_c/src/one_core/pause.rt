@@ -1,7 +1,7 @@
 //! The pause.
 ghost use Rattle.std.specs.Prelude.{◌≡◌, ◌<◌};
-ghost use Rattle.g1_c.specs.{length, take, IsWritten, Between, IsCallRefused};
-ghost use Rattle.g1_c.specs.{IsDrainRefused, DrainsTo, TellsRefusal};
+ghost use Rattle.g1_c.specs.{OnCore, called, DrainsTo, drained_of, take, IsDrainRefused, length};
+ghost use Rattle.g1_c.specs.{IsWritten};
 
 use crate::calling::on_core;
 use g1_core::Drained;
@@ -22,15 +22,11 @@ pub extern "C" fn g1_drain(
     refined: &mut [u32],
     refined_count: &mut u32,
 ) -> u32
-    ensures whole { result ≡ 0 → Between handle.old.value handle.new.value (λ old new.
-        DrainsTo old region (Drained.Cards (take count.new cards.new)
-        (take refined_count.new refined.new)) new) }
-    ensures short { result ≡ 1 → Between handle.old.value handle.new.value (λ old new.
-        DrainsTo old region (Drained.Short (take refined_count.new refined.new)) new) }
+    ensures drained { OnCore 1 (called result handle.old.value handle.new.value)
+        (refined_count.new ≡ 0) (λ old new. DrainsTo old region (drained_of result
+        (take count.new cards.new) (take refined_count.new refined.new)) new) (λ old.
+        IsDrainRefused old.state.table.layout region (length cards.old) (length refined.old)) }
     ensures none { 0 < result → count.new ≡ 0 }
-    ensures told { TellsRefusal 1 result handle.old.value handle.new.value (refined_count.new ≡ 0)
-        (IsCallRefused handle.old.value (λ old. IsDrainRefused old.state.table.layout region
-        (length cards.old) (length refined.old))) }
     ensures cards { IsWritten cards.old count.new cards.new }
     ensures refined { IsWritten refined.old refined_count.new refined.new }
 {

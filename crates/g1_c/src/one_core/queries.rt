@@ -1,8 +1,7 @@
 //! Queries: what a slot refers to, whether a card is pending, and how much is pending and recorded.
 ghost use Rattle.std.specs.Prelude.{◌≡◌, ◌≤◌, ◌==◌};
-ghost use Rattle.g1_c.specs.Prelude.{Between, OfOpen, reference_of, RefersTo, TellsPending};
-ghost use Rattle.g1_c.specs.Prelude.{TellsStatus, IsCallRefused, SaysNotOpen, LacksCard, LacksSlot};
-ghost use Rattle.g1_c.specs.Calls.{IsTold, TellsRefusal};
+ghost use Rattle.g1_c.specs.{OnCore, called, RefersTo, reference_of, LacksSlot, ToldByCore};
+ghost use Rattle.g1_c.specs.{TellsPending, LacksCard, TellsStatus};
 
 use crate::calling::on_core;
 use crate::tell::{tell, tell_whether};
@@ -24,10 +23,9 @@ pub struct Totals {
 /// As in `g1.h`.
 #[unsafe(no_mangle)]
 pub extern "C" fn g1_target(alloc: Global, handle: &mut Handle, slot: u32, target: &mut u32) -> u32
-    ensures target { result ≡ 0 → Between handle.old.value handle.new.value (λ old new.
-        RefersTo old slot (reference_of target.new) new) }
-    ensures told { TellsRefusal 0 result handle.old.value handle.new.value (target.new ≡ 4294967295)
-        (IsCallRefused handle.old.value (λ old. LacksSlot old.state.table.layout slot)) }
+    ensures { OnCore 0 (called result handle.old.value handle.new.value)
+        (target.new ≡ 4294967295) (λ old new. RefersTo old slot (reference_of target.new) new)
+        (λ old. LacksSlot old.state.table.layout slot) }
 {
     let answer = on_core!(alloc, handle, target_in(slot));
     tell(answer, NULL, target)
@@ -41,10 +39,10 @@ pub extern "C" fn g1_is_pending(
     card: u32,
     pending: &mut u32,
 ) -> u32
-    ensures told { IsTold result (pending.new == 1) (pending.new ≡ 0) handle.old.value
-        handle.new.value (λ answer. OfOpen handle.old.value (λ machine.
-        TellsPending machine.state.table card answer))
-        (IsCallRefused handle.old.value (λ old. LacksCard old.state.table.layout card)) }
+    ensures told { ToldByCore (called result handle.old.value handle.new.value)
+        (pending.new == 1) (pending.new ≡ 0) (λ answer core.
+        TellsPending core.state.table card answer)
+        (λ old. LacksCard old.state.table.layout card) }
     ensures word { pending.new ≤ 1 }
 {
     let answer = on_core!(alloc, handle, is_pending_in(card));
@@ -54,11 +52,10 @@ pub extern "C" fn g1_is_pending(
 /// As in `g1.h`.
 #[unsafe(no_mangle)]
 pub extern "C" fn g1_status(alloc: Global, handle: &mut Handle, totals: &mut Totals) -> u32
-    ensures { IsTold result totals.new (totals.new ≡ record { pending = 0; recorded = 0 })
-        handle.old.value handle.new.value (λ totals. OfOpen handle.old.value (λ machine.
-        TellsStatus machine.state.table
-        (record { pending = totals.pending; recorded = totals.recorded })))
-        (SaysNotOpen handle.old.value) }
+    ensures { ToldByCore (called result handle.old.value handle.new.value)
+        (record { pending = totals.new.pending; recorded = totals.new.recorded })
+        (totals.new ≡ record { pending = 0; recorded = 0 })
+        (λ totals core. TellsStatus core.state.table totals) (λ old r. ⊥) }
 {
     *totals = Totals {
         pending: 0,

@@ -1,8 +1,7 @@
 //! Refinement.
-ghost use Rattle.std.specs.Prelude.{◌≡◌, ◌≤◌};
-ghost use Rattle.g1_c.specs.Prelude.{length, take, IsWritten, Between, IsCallRefused};
-ghost use Rattle.g1_c.specs.Prelude.{IsRefinementRefused, RefinesTo, reply_of};
-ghost use Rattle.g1_c.specs.Calls.{TellsRefusal};
+ghost use Rattle.std.specs.Prelude.{◌≡◌};
+ghost use Rattle.g1_c.specs.{OnCore, called, RefinesTo, reply_of, take, IsRefinementRefused};
+ghost use Rattle.g1_c.specs.{length, IsWritten};
 
 use crate::calling::on_core;
 use g1_handles::handles::Handle;
@@ -31,13 +30,11 @@ pub extern "C" fn g1_refine(
     refined: &mut [u32],
     tally: &mut Tally,
 ) -> u32
-    ensures refined { result ≤ 1 → Between handle.old.value handle.new.value (λ old new.
-        RefinesTo old cards.now (reply_of result (take tally.new.refined refined.new) tally.new.hot
-        tally.new.skipped) new) }
-    ensures told { TellsRefusal 1 result handle.old.value handle.new.value
-        ((tally.new.refined ≡ 0) × (tally.new.hot ≡ 0) × (tally.new.skipped ≡ 0))
-        (IsCallRefused handle.old.value (λ old. IsRefinementRefused old.state.table.layout cards.now
-        (length refined.old))) }
+    ensures refined { OnCore 1 (called result handle.old.value handle.new.value)
+        (tally.new ≡ record { refined = 0; hot = 0; skipped = 0 })
+        (λ old new. RefinesTo old cards.now (reply_of result
+        (take tally.new.refined refined.new) tally.new.hot tally.new.skipped) new)
+        (λ old. IsRefinementRefused old.state.table.layout cards.now (length refined.old)) }
     ensures written { IsWritten refined.old tally.new.refined refined.new }
 {
     *tally = Tally {

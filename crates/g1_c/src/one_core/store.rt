@@ -1,7 +1,6 @@
 //! Stores.
 ghost use Rattle.std.specs.Prelude.{◌≡◌};
-ghost use Rattle.g1_c.specs.{reference_of};
-ghost use Rattle.g1_c.specs.{Between, OfKind, StoresTo, LacksPlace, IsCallRefused, TellsRefusal};
+ghost use Rattle.g1_c.specs.{OnCore, called, OfKind, StoresTo, reference_of, LacksPlace};
 
 use crate::calling::on_core;
 use crate::tell::tell_kind;
@@ -18,11 +17,9 @@ pub extern "C" fn g1_store(
     target: u32,
     kind: &mut u32,
 ) -> u32
-    ensures stored { result ≡ 0
-        → Between handle.old.value handle.new.value (λ old new. OfKind kind.new (λ k.
-        StoresTo old slot (reference_of target) k new)) }
-    ensures told { TellsRefusal 0 result handle.old.value handle.new.value (kind.new ≡ 0)
-        (IsCallRefused handle.old.value (λ old. LacksPlace old.state.table.layout slot target)) }
+    ensures { OnCore 0 (called result handle.old.value handle.new.value) (kind.new ≡ 0)
+        (λ old new. OfKind kind.new (λ k. StoresTo old slot (reference_of target) k new))
+        (λ old. LacksPlace old.state.table.layout slot target) }
 {
     tell_kind!(on_core!(alloc, handle, store_in(slot, target)), kind)
 }

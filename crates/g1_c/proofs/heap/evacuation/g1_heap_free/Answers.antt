@@ -1,10 +1,16 @@
--- The reply is that of the call on the heap at its pause, and the word 20 that of one that is refused.
-use Rattle.g1_c.specs.{ℕ, rules, subst, IsSameHeap, FreesAt}
-use Rattle.g1_handles.specs.Codes.{cleared_of}
-use Rattle.g1_c.proofs.{heap_made}
+-- The reply is that of the call on the heap at its pause.
+use Rattle.g1_c.specs.{arith, rules, FreesAt}
+use Rattle.g1_c.proofs.{heap_calls, heap_clears}
 use Rattle.g1_c.proofs.heap.evacuation.g1_heap_free.Goals as goal
 
-pub returns-in-Ok-clause-referenced : goal.returns-in-Ok-clause-referenced
-returns-in-Ok-clause-referenced c = λ is.
-    subst (λ (word : ℕ). IsSameHeap c.args.heap.now.value c.at_pause.new.handle.value (λ old new. FreesAt old c.args.regions.now (cleared_of word c.in-Ok.number) new)) is
-    (heap_made _ _ (λ old new. FreesAt old c.args.regions.now (cleared_of c.in-Ok.word c.in-Ok.number) new) _ _ _ c.in-Ok.ensures (λ _ _ call. search rules))
+pub returns-in-Ok : goal.returns-in-Ok
+returns-in-Ok c = record {
+  cleared = record {
+    cleared = λ is. heap_clears _ _ (λ old reply new. FreesAt old c.args.regions.now reply new) _ _ _ _ 0 c.in-Ok.ensures is (λ _ _ call. search rules);
+    pending = λ is. heap_clears _ _ (λ old reply new. FreesAt old c.args.regions.now reply new) _ _ _ _ 19 c.in-Ok.ensures is (λ _ _ call. search rules);
+    referenced = λ is. heap_clears _ _ (λ old reply new. FreesAt old c.args.regions.now reply new) _ _ _ _ 20 c.in-Ok.ensures is (λ _ _ call. search rules);
+    none = grind (arith, heap_calls);
+    why = grind (arith, heap_calls);
+  };
+  same = grind (arith, heap_calls);
+}

@@ -1,6 +1,0 @@
-use Rattle.g1_c.specs.{rules}
-use Rattle.g1_c.proofs.{heap_answers}
-use Rattle.g1_c.proofs.heap.scan.g1_heap_next_dirty.Goals as goal
-
-pub returns : goal.returns
-returns c = record { told = heap_answers _ _ _ _ _ _ _ _ _ _ c.at_pause-answer.ensures c.tell.ensures (λ _ _ _ c. search rules) (λ _ _ _ c. search rules) (λ _ _ _ c. search rules) }

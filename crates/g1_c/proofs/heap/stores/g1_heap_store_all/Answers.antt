@@ -1,7 +1,0 @@
--- Each clause is that of the call on the heap at its pause.
-use Rattle.g1_c.specs.{rules, refl}
-use Rattle.g1_c.proofs.{heap_refused, heap_same, tells}
-use Rattle.g1_c.proofs.heap.stores.g1_heap_store_all.Goals as goal
-
-pub returns-in-Err-clause-told : goal.returns-in-Err-clause-told
-returns-in-Err-clause-told c = tells _ _ _ _ _ _ _ c.word.ensures.number refl (heap_refused _ _ _ _ _ _ c.in-Err.ensures (λ _ _ c. search rules)) (heap_same _ _ _ _ _ c.in-Err.ensures (λ _ _ c. search rules))
