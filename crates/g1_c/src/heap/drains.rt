@@ -6,12 +6,10 @@ use crate::tell::{answer_word, tell_set};
 use g1_handles::handles::HeapHandle;
 use g1_handles::heap::drains::refine_at;
 use g1_handles::heap::sets::{Which, set_of_heap};
-use std::alloc::Global;
 
 /// As in `g1.h`.
 #[unsafe(no_mangle)]
 pub extern "C" fn g1_heap_drain(
-    alloc: Global,
     heap: &mut HeapHandle,
     region: u32,
     cards: &mut [u32],
@@ -26,9 +24,9 @@ pub extern "C" fn g1_heap_drain(
 
 /// As in `g1.h`.
 #[unsafe(no_mangle)]
-pub extern "C" fn g1_heap_refine(alloc: Global, heap: &mut HeapHandle) -> u32
+pub extern "C" fn g1_heap_refine(heap: &mut HeapHandle) -> u32
     ensures { OnHeap 0 (called result heap.old.value heap.new.value) (Unit {0}) Refines
         (λ old r. ⊥) }
 {
-    answer_word(on_heap!(alloc, heap, Ok(refine_at())))
+    answer_word(on_heap!(heap, Ok(refine_at())))
 }

@@ -10,41 +10,29 @@ use g1_core::ClearReply;
 use g1_handles::code::Reason;
 use g1_handles::handles::HeapHandle;
 use g1_handles::heap::evacuation::{clear_at, forget_at, free_at, redirect_at, wipe_at};
-use std::alloc::Global;
 
 /// As in `g1.h`.
 #[unsafe(no_mangle)]
-pub extern "C" fn g1_heap_clear(
-    alloc: Global,
-    heap: &mut HeapHandle,
-    region: u32,
-    detail: &mut u32,
-) -> u32
+pub extern "C" fn g1_heap_clear(heap: &mut HeapHandle, region: u32, detail: &mut u32) -> u32
     ensures { ClearsOnHeap (called result heap.old.value heap.new.value) detail.new
         (λ old reply new. ClearsAt old region reply new) (λ old. LacksRegion old.layout region) }
 {
-    tell_reply!(on_heap!(alloc, heap, clear_at(region)), detail)
+    tell_reply!(on_heap!(heap, clear_at(region)), detail)
 }
 
 /// As in `g1.h`.
 #[unsafe(no_mangle)]
-pub extern "C" fn g1_heap_free(
-    alloc: Global,
-    heap: &mut HeapHandle,
-    regions: &[u32],
-    detail: &mut u32,
-) -> u32
+pub extern "C" fn g1_heap_free(heap: &mut HeapHandle, regions: &[u32], detail: &mut u32) -> u32
     ensures { ClearsOnHeap (called result heap.old.value heap.new.value) detail.new
         (λ old reply new. FreesAt old regions.now reply new)
         (λ old. LacksSomeRegion old.layout regions.now) }
 {
-    tell_reply!(on_heap!(alloc, heap, free_at(regions)), detail)
+    tell_reply!(on_heap!(heap, free_at(regions)), detail)
 }
 
 /// As in `g1.h`.
 #[unsafe(no_mangle)]
 pub extern "C" fn g1_heap_redirect(
-    alloc: Global,
     heap: &mut HeapHandle,
     from: u32,
     to: u32,
@@ -53,25 +41,25 @@ pub extern "C" fn g1_heap_redirect(
     ensures { OnHeap 0 (called result heap.old.value heap.new.value) (moved.new ≡ 0)
         (λ old new. Redirects old from to moved.new new) (λ old. SaysNoMove old.layout from to) }
 {
-    tell(on_heap!(alloc, heap, redirect_at(from, to)), 0, moved)
+    tell(on_heap!(heap, redirect_at(from, to)), 0, moved)
 }
 
 /// As in `g1.h`.
 #[unsafe(no_mangle)]
-pub extern "C" fn g1_heap_wipe(alloc: Global, heap: &mut HeapHandle, region: u32) -> u32
+pub extern "C" fn g1_heap_wipe(heap: &mut HeapHandle, region: u32) -> u32
     ensures { OnHeap 0 (called result heap.old.value heap.new.value) (Unit {0})
         (λ old new. Wipes old region new) (λ old. LacksRegion old.layout region) }
 {
-    answer_word(on_heap!(alloc, heap, wipe_at(region)))
+    answer_word(on_heap!(heap, wipe_at(region)))
 }
 
 /// As in `g1.h`.
 #[unsafe(no_mangle)]
-pub extern "C" fn g1_heap_forget(alloc: Global, heap: &mut HeapHandle, region: u32) -> u32
+pub extern "C" fn g1_heap_forget(heap: &mut HeapHandle, region: u32) -> u32
     ensures { OnHeap 0 (called result heap.old.value heap.new.value) (Unit {0})
         (λ old new. Forgets old region new × (RefersOut old region → ⊥))
         (λ old r. LacksRegion old.layout region r
         ⊎ ((r ≡ Reason.StillReferenced) × RefersOut old region)) }
 {
-    answer_word(on_heap!(alloc, heap, forget_at(region)))
+    answer_word(on_heap!(heap, forget_at(region)))
 }

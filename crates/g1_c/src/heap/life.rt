@@ -33,7 +33,6 @@ pub extern "C" fn g1_heap_open(
 /// As in `g1.h`.
 #[unsafe(no_mangle)]
 pub extern "C" fn g1_heap_resume(
-    alloc: Global,
     heap: &mut HeapHandle,
     racers: &mut [RacerHandle],
     sweepers: &mut [SweeperHandle],

@@ -14,44 +14,33 @@ use g1_handles::handles::HeapHandle;
 use g1_handles::heap::at_pause::PausedHeap;
 use g1_handles::heap::queries::{is_pending_at, next_member_at, status_at, target_at};
 use g1_handles::heap::sets::{Which, set_of_heap};
-use std::alloc::Global;
 
 /// As in `g1.h`.
 #[unsafe(no_mangle)]
-pub extern "C" fn g1_heap_target(
-    alloc: Global,
-    heap: &mut HeapHandle,
-    slot: u32,
-    target: &mut u32,
-) -> u32
+pub extern "C" fn g1_heap_target(heap: &mut HeapHandle, slot: u32, target: &mut u32) -> u32
     ensures { ToldByHeap (called result heap.old.value heap.new.value) target.new
         (target.new ≡ 4294967295) (λ target old. TellsTarget (table_at old) slot
         (reference_of target)) (λ old. LacksSlot old.layout slot) }
 {
-    let answer = on_heap!(alloc, heap, target_at(slot));
+    let answer = on_heap!(heap, target_at(slot));
     tell(answer, NULL, target)
 }
 
 /// As in `g1.h`.
 #[unsafe(no_mangle)]
-pub extern "C" fn g1_heap_is_pending(
-    alloc: Global,
-    heap: &mut HeapHandle,
-    card: u32,
-    pending: &mut u32,
-) -> u32
+pub extern "C" fn g1_heap_is_pending(heap: &mut HeapHandle, card: u32, pending: &mut u32) -> u32
     ensures told { ToldByHeap (called result heap.old.value heap.new.value) (pending.new == 1)
         (pending.new ≡ 0) (λ answer old. TellsPending (table_at old) card answer)
         (λ old. LacksCard old.layout card) }
     ensures word { pending.new ≤ 1 }
 {
-    let answer = on_heap!(alloc, heap, is_pending_at(card));
+    let answer = on_heap!(heap, is_pending_at(card));
     tell_whether(answer, pending)
 }
 
 /// As in `g1.h`.
 #[unsafe(no_mangle)]
-pub extern "C" fn g1_heap_status(alloc: Global, heap: &mut HeapHandle, totals: &mut Totals) -> u32
+pub extern "C" fn g1_heap_status(heap: &mut HeapHandle, totals: &mut Totals) -> u32
     ensures { ToldByHeap (called result heap.old.value heap.new.value) totals.new
         (totals.new ≡ record { pending = 0; recorded = 0 }) (λ totals old. TellsStatus
         (table_at old) (record { pending = totals.pending; recorded = totals.recorded }))
@@ -61,7 +50,7 @@ pub extern "C" fn g1_heap_status(alloc: Global, heap: &mut HeapHandle, totals: &
         pending: 0,
         recorded: 0,
     };
-    let answer = on_heap!(alloc, heap, Ok(totals_at()));
+    let answer = on_heap!(heap, Ok(totals_at()));
     tell(answer, none, totals)
 }
 
@@ -79,7 +68,6 @@ fn totals_at(heap: &mut PausedHeap) -> Totals
 /// As in `g1.h`.
 #[unsafe(no_mangle)]
 pub extern "C" fn g1_heap_members(
-    alloc: Global,
     heap: &mut HeapHandle,
     region: u32,
     cards: &mut [u32],
@@ -97,7 +85,6 @@ pub extern "C" fn g1_heap_members(
 /// As in `g1.h`.
 #[unsafe(no_mangle)]
 pub extern "C" fn g1_heap_next_member(
-    alloc: Global,
     heap: &mut HeapHandle,
     region: u32,
     from: u32,
@@ -107,6 +94,6 @@ pub extern "C" fn g1_heap_next_member(
         (card.new ≡ 4294967295) (λ card old. TellsNextMember (table_at old) region from
         (reference_of card)) (λ old. LacksRegion old.layout region) }
 {
-    let answer = on_heap!(alloc, heap, next_member_at(region, from));
+    let answer = on_heap!(heap, next_member_at(region, from));
     tell(answer, NULL, card)
 }

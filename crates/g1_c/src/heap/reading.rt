@@ -11,11 +11,7 @@ use std::alloc::Global;
 
 /// As in `g1.h`.
 #[unsafe(no_mangle)]
-pub extern "C" fn g1_heap_read(
-    alloc: Global,
-    heap: &mut HeapHandle,
-    readers: &mut [ReaderHandle],
-) -> u32
+pub extern "C" fn g1_heap_read(heap: &mut HeapHandle, readers: &mut [ReaderHandle]) -> u32
     ensures { IsMadeOrRefused 0 (called result heap.old.value heap.new.value)
         (held_readers readers.new ≡ held_readers readers.old)
         (BeginsReading heap.old.value heap.new.value readers.old readers.new)

@@ -9,28 +9,21 @@ use crate::tell::tell;
 use g1_handles::code::NULL;
 use g1_handles::handles::HeapHandle;
 use g1_handles::heap::scan::{next_dirty_at, next_into_at};
-use std::alloc::Global;
 
 /// As in `g1.h`.
 #[unsafe(no_mangle)]
-pub extern "C" fn g1_heap_next_dirty(
-    alloc: Global,
-    heap: &mut HeapHandle,
-    from: u32,
-    card: &mut u32,
-) -> u32
+pub extern "C" fn g1_heap_next_dirty(heap: &mut HeapHandle, from: u32, card: &mut u32) -> u32
     ensures { ToldByHeap (called result heap.old.value heap.new.value) card.new
         (card.new ≡ 4294967295) (λ card old. IsNextPending (table_at old) from
         (reference_of card)) (λ old r. ⊥) }
 {
-    let answer = on_heap!(alloc, heap, Ok(next_dirty_at(from)));
+    let answer = on_heap!(heap, Ok(next_dirty_at(from)));
     tell(answer, NULL, card)
 }
 
 /// As in `g1.h`.
 #[unsafe(no_mangle)]
 pub extern "C" fn g1_heap_next_into(
-    alloc: Global,
     heap: &mut HeapHandle,
     regions: &[u32],
     from: u32,
@@ -40,6 +33,6 @@ pub extern "C" fn g1_heap_next_into(
         (card.new ≡ 4294967295) (λ card old. TellsNextInto (table_at old) regions.now from
         (reference_of card)) (λ old. LacksSomeRegion old.layout regions.now) }
 {
-    let answer = on_heap!(alloc, heap, next_into_at(regions, from));
+    let answer = on_heap!(heap, next_into_at(regions, from));
     tell(answer, NULL, card)
 }

@@ -9,12 +9,10 @@ use g1_handles::code::{DONE, STOPPED};
 use g1_handles::handles::HeapHandle;
 use g1_handles::heap::stores::{store_all_at, store_at};
 use g1_handles::one_core::batch::Store;
-use std::alloc::Global;
 
 /// As in `g1.h`.
 #[unsafe(no_mangle)]
 pub extern "C" fn g1_heap_store(
-    alloc: Global,
     heap: &mut HeapHandle,
     slot: u32,
     target: u32,
@@ -24,13 +22,12 @@ pub extern "C" fn g1_heap_store(
         (λ old new. OfKind kind.new (λ k. StoresAt old slot (reference_of target) k new))
         (λ old. LacksPlace old.layout slot target) }
 {
-    tell_kind!(on_heap!(alloc, heap, store_at(slot, target)), kind)
+    tell_kind!(on_heap!(heap, store_at(slot, target)), kind)
 }
 
 /// As in `g1.h`.
 #[unsafe(no_mangle)]
 pub extern "C" fn g1_heap_store_all(
-    alloc: Global,
     heap: &mut HeapHandle,
     stores: &[Store],
     stored: &mut usize,
@@ -40,7 +37,7 @@ pub extern "C" fn g1_heap_store_all(
         (stored.new ≡ length stores.now) (IsFaultAt old.layout stores.now stored.new) ⊥)
         (λ old r. ⊥) }
 {
-    match on_heap!(alloc, heap, Ok(store_all_at(stores))) {
+    match on_heap!(heap, Ok(store_all_at(stores))) {
         Err(refusal) => {
             *stored = 0;
             refusal.word()

@@ -6,12 +6,10 @@ use crate::calling::on_heap;
 use g1_handles::code::{DONE, NULL};
 use g1_handles::handles::HeapHandle;
 use g1_handles::heap::verify::verify_at;
-use std::alloc::Global;
 
 /// As in `g1.h`.
 #[unsafe(no_mangle)]
 pub extern "C" fn g1_heap_verify(
-    alloc: Global,
     heap: &mut HeapHandle,
     first: u32,
     count: u32,
@@ -25,7 +23,7 @@ pub extern "C" fn g1_heap_verify(
         (λ old. LacksRanges old.layout first count first (length references.now)) }
     ensures same { heap.new.value ≡ heap.old.value }
 {
-    match on_heap!(alloc, heap, verify_at(first, count, references)) {
+    match on_heap!(heap, verify_at(first, count, references)) {
         Err(refusal) => {
             *differing = NULL;
             *missing = NULL;

@@ -8,12 +8,11 @@ use crate::calling::on_heap;
 use crate::tell::{answer_word, tell};
 use g1_handles::handles::HeapHandle;
 use g1_handles::heap::words::{store_data_at, word_at, words_of_heap};
-use std::alloc::Global;
 use std::ptr::null;
 
 /// As in `g1.h`.
 #[unsafe(no_mangle)]
-pub extern "C" fn g1_heap_words(alloc: Global, heap: &mut HeapHandle, words: &mut *const u64) -> u32
+pub extern "C" fn g1_heap_words(heap: &mut HeapHandle, words: &mut *const u64) -> u32
     ensures { IsTold (called result heap.old.value heap.new.value) words.new
         (words.new ≡ null_ptr) (λ words. OfHeap heap.old.value (λ race. words ≡ race_words race))
         (SaysNoHeap heap.old.value) }
@@ -23,30 +22,20 @@ pub extern "C" fn g1_heap_words(alloc: Global, heap: &mut HeapHandle, words: &mu
 
 /// As in `g1.h`.
 #[unsafe(no_mangle)]
-pub extern "C" fn g1_heap_word(
-    alloc: Global,
-    heap: &mut HeapHandle,
-    slot: u32,
-    word: &mut u64,
-) -> u32
+pub extern "C" fn g1_heap_word(heap: &mut HeapHandle, slot: u32, word: &mut u64) -> u32
     ensures { ToldByHeap (called result heap.old.value heap.new.value) word.new (word.new ≡ 0)
         (λ word old. TellsWord old.layout (start_at old) slot word)
         (λ old. LacksSlot old.layout slot) }
 {
-    let answer = on_heap!(alloc, heap, word_at(slot));
+    let answer = on_heap!(heap, word_at(slot));
     tell(answer, 0, word)
 }
 
 /// As in `g1.h`.
 #[unsafe(no_mangle)]
-pub extern "C" fn g1_heap_store_data(
-    alloc: Global,
-    heap: &mut HeapHandle,
-    slot: u32,
-    word: u64,
-) -> u32
+pub extern "C" fn g1_heap_store_data(heap: &mut HeapHandle, slot: u32, word: u64) -> u32
     ensures { OnHeap 0 (called result heap.old.value heap.new.value) (Unit {0})
         (λ old new. StoresDataAt old slot word new) (λ old. SaysNoData old.layout slot word) }
 {
-    answer_word(on_heap!(alloc, heap, store_data_at(slot, word)))
+    answer_word(on_heap!(heap, store_data_at(slot, word)))
 }

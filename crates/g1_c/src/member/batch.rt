@@ -8,12 +8,10 @@ use g1_handles::code::{DONE, FULL, STOPPED};
 use g1_handles::handles::RacerHandle;
 use g1_handles::member::batch::{BatchEnd, store_all_by};
 use g1_handles::one_core::batch::Store;
-use std::alloc::Global;
 
 /// As in `g1.h`.
 #[unsafe(no_mangle)]
 pub extern "C" fn g1_race_store_all(
-    alloc: Global,
     racer: &mut RacerHandle,
     stores: &[Store],
     stored: &mut usize,
@@ -23,7 +21,7 @@ pub extern "C" fn g1_race_store_all(
         (stored.new ≡ length stores.now) (IsFaultAt (race_layout a.race) stores.now stored.new)
         (IsFullAt a.race stores.now stored.new b.racer)) (λ a r. ⊥) }
 {
-    match on_racer!(alloc, racer, store_all_by(stores)) {
+    match on_racer!(racer, store_all_by(stores)) {
         Err(refusal) => {
             *stored = 0;
             refusal.word()

@@ -7,12 +7,10 @@ use g1_handles::code::DONE;
 use g1_handles::handles::{RacerHandle, SweeperHandle};
 use g1_handles::member::counts::{store_counts_by, sweep_counts_by};
 use g1_layout::Kind;
-use std::alloc::Global;
 
 /// As in `g1.h`.
 #[unsafe(no_mangle)]
 pub extern "C" fn g1_racer_counts(
-    alloc: Global,
     racer: &mut RacerHandle,
     null: &mut u64,
     same_region: &mut u64,
@@ -27,7 +25,7 @@ pub extern "C" fn g1_racer_counts(
         × (logged.new ≡ stored_as a.counts.stores Kind.Logged))) (SaysNoMember racer.old.value) }
     ensures same { racer.new.value ≡ racer.old.value }
 {
-    match on_racer!(alloc, racer, store_counts_by()) {
+    match on_racer!(racer, store_counts_by()) {
         Err(refusal) => {
             *null = 0;
             *same_region = 0;
@@ -45,7 +43,6 @@ pub extern "C" fn g1_racer_counts(
 /// As in `g1.h`.
 #[unsafe(no_mangle)]
 pub extern "C" fn g1_sweeper_counts(
-    alloc: Global,
     sweeper: &mut SweeperHandle,
     refined: &mut u64,
     cleaned: &mut u64,
@@ -58,7 +55,7 @@ pub extern "C" fn g1_sweeper_counts(
         × (references.new ≡ a.counts.sweeps.references))) (SaysNoMember sweeper.old.value) }
     ensures same { sweeper.new.value ≡ sweeper.old.value }
 {
-    match on_sweeper!(alloc, sweeper, sweep_counts_by()) {
+    match on_sweeper!(sweeper, sweep_counts_by()) {
         Err(refusal) => {
             *refined = 0;
             *cleaned = 0;

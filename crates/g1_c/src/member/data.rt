@@ -6,12 +6,10 @@ use crate::calling::on_racer;
 use g1_handles::code::DONE;
 use g1_handles::handles::RacerHandle;
 use g1_handles::member::data::store_data_by;
-use std::alloc::Global;
 
 /// As in `g1.h`.
 #[unsafe(no_mangle)]
 pub extern "C" fn g1_race_store_data(
-    alloc: Global,
     racer: &mut RacerHandle,
     slot: u32,
     word: u64,
@@ -20,7 +18,7 @@ pub extern "C" fn g1_race_store_data(
     ensures { OnRacer 0 (called result racer.old.value racer.new.value) (old.new ≡ 0)
         (λ a b. StoresData a slot word old.new b) (λ a. SaysNoData (race_layout a.race) slot word) }
 {
-    match on_racer!(alloc, racer, store_data_by(slot, word)) {
+    match on_racer!(racer, store_data_by(slot, word)) {
         Err(refusal) => {
             *old = 0;
             refusal.word()

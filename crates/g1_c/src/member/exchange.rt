@@ -8,12 +8,10 @@ use crate::calling::on_racer;
 use g1_handles::code::{DIFFERS, DONE, NULL, kind_word};
 use g1_handles::handles::RacerHandle;
 use g1_handles::member::exchange::{Exchange, compare_exchange_by, swap_by};
-use std::alloc::Global;
 
 /// As in `g1.h`.
 #[unsafe(no_mangle)]
 pub extern "C" fn g1_race_swap(
-    alloc: Global,
     racer: &mut RacerHandle,
     slot: u32,
     target: u32,
@@ -25,7 +23,7 @@ pub extern "C" fn g1_race_swap(
         (CanStore a.race a.racer slot target) (λ k. Swaps a slot (reference_of target)
         (reference_of old.new) k b)) (λ a. SaysNoStore a.race a.racer slot target) }
 {
-    match on_racer!(alloc, racer, swap_by(slot, target)) {
+    match on_racer!(racer, swap_by(slot, target)) {
         Err(refusal) => {
             *old = NULL;
             *kind = 0;
@@ -42,7 +40,6 @@ pub extern "C" fn g1_race_swap(
 /// As in `g1.h`.
 #[unsafe(no_mangle)]
 pub extern "C" fn g1_race_compare_exchange(
-    alloc: Global,
     racer: &mut RacerHandle,
     slot: u32,
     expected: u32,
@@ -61,7 +58,7 @@ pub extern "C" fn g1_race_compare_exchange(
     ensures none { 0 < result → kind.new ≡ 0 }
 {
     *kind = 0;
-    match on_racer!(alloc, racer, compare_exchange_by(slot, expected, target)) {
+    match on_racer!(racer, compare_exchange_by(slot, expected, target)) {
         Err(refusal) => {
             *found = NULL;
             refusal.word()

@@ -7,12 +7,10 @@ use crate::tell::tell;
 use g1_handles::code::Reason;
 use g1_handles::handles::RacerHandle;
 use g1_handles::member::log::take_log;
-use std::alloc::Global;
 
 /// As in `g1.h`.
 #[unsafe(no_mangle)]
 pub extern "C" fn g1_race_take_log(
-    alloc: Global,
     racer: &mut RacerHandle,
     cards: &mut [u32],
     count: &mut u32,

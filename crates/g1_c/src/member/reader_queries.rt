@@ -12,44 +12,32 @@ use g1_handles::handles::ReaderHandle;
 use g1_handles::member::reader_queries::{
     has_by, is_pending_by, next_member_by, target_by, word_by,
 };
-use std::alloc::Global;
 
 /// As in `g1.h`.
 #[unsafe(no_mangle)]
-pub extern "C" fn g1_reader_target(
-    alloc: Global,
-    reader: &mut ReaderHandle,
-    slot: u32,
-    target: &mut u32,
-) -> u32
+pub extern "C" fn g1_reader_target(reader: &mut ReaderHandle, slot: u32, target: &mut u32) -> u32
     ensures { ToldByReader (called result reader.old.value reader.new.value) target.new
         (target.new ≡ 4294967295) (λ target a. TellsTarget (table_of_reader a) slot
         (reference_of target)) (λ a. LacksSlot (reader_layout a) slot) }
 {
-    let answer = on_reader!(alloc, reader, target_by(slot));
+    let answer = on_reader!(reader, target_by(slot));
     tell(answer, NULL, target)
 }
 
 /// As in `g1.h`.
 #[unsafe(no_mangle)]
-pub extern "C" fn g1_reader_word(
-    alloc: Global,
-    reader: &mut ReaderHandle,
-    slot: u32,
-    word: &mut u64,
-) -> u32
+pub extern "C" fn g1_reader_word(reader: &mut ReaderHandle, slot: u32, word: &mut u64) -> u32
     ensures { ToldByReader (called result reader.old.value reader.new.value) word.new
         (word.new ≡ 0) (λ word a. TellsWord (reader_layout a) a.reader.start slot word)
         (λ a. LacksSlot (reader_layout a) slot) }
 {
-    let answer = on_reader!(alloc, reader, word_by(slot));
+    let answer = on_reader!(reader, word_by(slot));
     tell(answer, 0, word)
 }
 
 /// As in `g1.h`.
 #[unsafe(no_mangle)]
 pub extern "C" fn g1_reader_is_pending(
-    alloc: Global,
     reader: &mut ReaderHandle,
     card: u32,
     pending: &mut u32,
@@ -59,14 +47,13 @@ pub extern "C" fn g1_reader_is_pending(
         TellsPending (table_of_reader a) card answer) (λ a. LacksCard (reader_layout a) card) }
     ensures word { pending.new ≤ 1 }
 {
-    let answer = on_reader!(alloc, reader, is_pending_by(card));
+    let answer = on_reader!(reader, is_pending_by(card));
     tell_whether(answer, pending)
 }
 
 /// As in `g1.h`.
 #[unsafe(no_mangle)]
 pub extern "C" fn g1_reader_has(
-    alloc: Global,
     reader: &mut ReaderHandle,
     card: u32,
     region: u32,
@@ -77,14 +64,13 @@ pub extern "C" fn g1_reader_has(
         (λ a. LacksPair (reader_layout a) card region) }
     ensures word { has.new ≤ 1 }
 {
-    let answer = on_reader!(alloc, reader, has_by(card, region));
+    let answer = on_reader!(reader, has_by(card, region));
     tell_whether(answer, has)
 }
 
 /// As in `g1.h`.
 #[unsafe(no_mangle)]
 pub extern "C" fn g1_reader_next_member(
-    alloc: Global,
     reader: &mut ReaderHandle,
     region: u32,
     from: u32,
@@ -94,6 +80,6 @@ pub extern "C" fn g1_reader_next_member(
         (card.new ≡ 4294967295) (λ card a. TellsNextMember (table_of_reader a) region from
         (reference_of card)) (λ a. LacksRegion (reader_layout a) region) }
 {
-    let answer = on_reader!(alloc, reader, next_member_by(region, from));
+    let answer = on_reader!(reader, next_member_by(region, from));
     tell(answer, NULL, card)
 }

@@ -7,12 +7,10 @@ use crate::calling::on_racer;
 use g1_handles::code::{DONE, FULL};
 use g1_handles::handles::RacerHandle;
 use g1_handles::member::row::store_words_by;
-use std::alloc::Global;
 
 /// As in `g1.h`.
 #[unsafe(no_mangle)]
 pub extern "C" fn g1_race_store_words(
-    alloc: Global,
     racer: &mut RacerHandle,
     slot: u32,
     words: &[u64],
@@ -23,7 +21,7 @@ pub extern "C" fn g1_race_store_words(
         (stored.new ≡ length words.now) ⊥ (stored.new ≢ length words.now))
         (λ a. LacksRow (race_layout a.race) slot words.now) }
 {
-    match on_racer!(alloc, racer, store_words_by(slot, words)) {
+    match on_racer!(racer, store_words_by(slot, words)) {
         Err(refusal) => {
             *stored = 0;
             refusal.word()

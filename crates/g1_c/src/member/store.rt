@@ -7,12 +7,10 @@ use crate::calling::on_racer;
 use crate::tell::tell_kind;
 use g1_handles::handles::RacerHandle;
 use g1_handles::member::store::store_by;
-use std::alloc::Global;
 
 /// As in `g1.h`.
 #[unsafe(no_mangle)]
 pub extern "C" fn g1_race_store(
-    alloc: Global,
     racer: &mut RacerHandle,
     slot: u32,
     target: u32,
@@ -23,5 +21,5 @@ pub extern "C" fn g1_race_store(
         (λ k. Stores a slot (reference_of target) k b))
         (λ a. SaysNoStore a.race a.racer slot target) }
 {
-    tell_kind!(on_racer!(alloc, racer, store_by(slot, target)), kind)
+    tell_kind!(on_racer!(racer, store_by(slot, target)), kind)
 }

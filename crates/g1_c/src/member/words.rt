@@ -7,12 +7,10 @@ use crate::calling::on_racer;
 use g1_handles::code::{DIFFERS, DONE, kind_word};
 use g1_handles::handles::RacerHandle;
 use g1_handles::member::words::{compare_exchange_word_by, swap_word_by};
-use std::alloc::Global;
 
 /// As in `g1.h`.
 #[unsafe(no_mangle)]
 pub extern "C" fn g1_race_swap_word(
-    alloc: Global,
     racer: &mut RacerHandle,
     slot: u32,
     word: u64,
@@ -24,7 +22,7 @@ pub extern "C" fn g1_race_swap_word(
         (CanStoreWord a.race a.racer slot word) (λ k. SwapsWord a slot word old.new k b))
         (λ a. SaysNoWordStore a.race a.racer slot word) }
 {
-    match on_racer!(alloc, racer, swap_word_by(slot, word)) {
+    match on_racer!(racer, swap_word_by(slot, word)) {
         Err(refusal) => {
             *old = 0;
             *kind = 0;
@@ -41,7 +39,6 @@ pub extern "C" fn g1_race_swap_word(
 /// As in `g1.h`.
 #[unsafe(no_mangle)]
 pub extern "C" fn g1_race_compare_exchange_word(
-    alloc: Global,
     racer: &mut RacerHandle,
     slot: u32,
     expected: u64,
@@ -58,7 +55,7 @@ pub extern "C" fn g1_race_compare_exchange_word(
     ensures none { 0 < result → kind.new ≡ 0 }
 {
     *kind = 0;
-    match on_racer!(alloc, racer, compare_exchange_word_by(slot, expected, word)) {
+    match on_racer!(racer, compare_exchange_word_by(slot, expected, word)) {
         Err(refusal) => {
             *found = 0;
             refusal.word()

@@ -8,7 +8,6 @@ use g1_handles::code::{DONE, STOPPED};
 use g1_handles::handles::Handle;
 use g1_handles::list::write_list;
 use g1_handles::one_core::batch::{Store, store_all_in};
-use std::alloc::Global;
 
 /// What several stores counted.
 #[repr(C)]
@@ -23,7 +22,6 @@ pub struct Batch {
 /// As in `g1.h`.
 #[unsafe(no_mangle)]
 pub extern "C" fn g1_store_all(
-    alloc: Global,
     handle: &mut Handle,
     stores: &[Store],
     cards: &mut [u32],
@@ -42,7 +40,7 @@ pub extern "C" fn g1_store_all(
         logged: 0,
     };
     let room = cards.len();
-    match on_core!(alloc, handle, store_all_in(stores, room)) {
+    match on_core!(handle, store_all_in(stores, room)) {
         Err(refusal) => refusal.word(),
         Ok(stored) => {
             *batch = Batch {

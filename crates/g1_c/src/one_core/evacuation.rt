@@ -11,26 +11,24 @@ use g1_handles::code::{DONE, SHORT};
 use g1_handles::handles::Handle;
 use g1_handles::list::write_list;
 use g1_handles::one_core::evacuation::{clear_in, redirect_in};
-use std::alloc::Global;
 
 /// As in `g1.h`.
 ///
 /// A refused clear may have raised the core's count of reads.
 #[unsafe(no_mangle)]
-pub extern "C" fn g1_clear(alloc: Global, handle: &mut Handle, region: u32, detail: &mut u32) -> u32
+pub extern "C" fn g1_clear(handle: &mut Handle, region: u32, detail: &mut u32) -> u32
     ensures cleared { IsCleared (called result handle.old.value handle.new.value) detail.new
         (λ reply. Between handle.old.value handle.new.value (λ old new.
         ClearsTo old region reply new)) (IsCallRefused handle.old.value (λ old.
         LacksRegion old.state.table.layout region)) }
     ensures refused { 0 < result → AreOnlyRead handle.old.value handle.new.value }
 {
-    tell_reply!(on_core!(alloc, handle, clear_in(region)), detail)
+    tell_reply!(on_core!(handle, clear_in(region)), detail)
 }
 
 /// As in `g1.h`.
 #[unsafe(no_mangle)]
 pub extern "C" fn g1_redirect(
-    alloc: Global,
     handle: &mut Handle,
     from: u32,
     to: u32,
@@ -48,7 +46,7 @@ pub extern "C" fn g1_redirect(
     *moved = 0;
     *refined_count = 0;
     let room = refined.len();
-    match on_core!(alloc, handle, redirect_in(from, to, room)) {
+    match on_core!(handle, redirect_in(from, to, room)) {
         Err(refusal) => refusal.word(),
         Ok(Redirected::Short { refined: list }) => {
             *refined_count = write_list(list.as_slice(), refined);

@@ -8,12 +8,10 @@ use g1_handles::code::{DONE, Reason};
 use g1_handles::handles::Handle;
 use g1_handles::list::write_list;
 use g1_handles::one_core::members::{Listed, members_in};
-use std::alloc::Global;
 
 /// As in `g1.h`.
 #[unsafe(no_mangle)]
 pub extern "C" fn g1_members(
-    alloc: Global,
     handle: &mut Handle,
     region: u32,
     cards: &mut [u32],
@@ -30,7 +28,7 @@ pub extern "C" fn g1_members(
 {
     *count = 0;
     let room = cards.len();
-    match on_core!(alloc, handle, members_in(region, room)) {
+    match on_core!(handle, members_in(region, room)) {
         Err(refusal) => refusal.word(),
         Ok(Listed::NoRoom(needed)) => {
             *count = needed;

@@ -9,12 +9,10 @@ use g1_handles::code::{DONE, SHORT};
 use g1_handles::handles::Handle;
 use g1_handles::list::write_list;
 use g1_handles::one_core::pause::drain_in;
-use std::alloc::Global;
 
 /// As in `g1.h`.
 #[unsafe(no_mangle)]
 pub extern "C" fn g1_drain(
-    alloc: Global,
     handle: &mut Handle,
     region: u32,
     cards: &mut [u32],
@@ -34,7 +32,7 @@ pub extern "C" fn g1_drain(
     *refined_count = 0;
     let room = cards.len();
     let refined_room = refined.len();
-    match on_core!(alloc, handle, drain_in(region, room, refined_room)) {
+    match on_core!(handle, drain_in(region, room, refined_room)) {
         Err(refusal) => refusal.word(),
         Ok(Drained::Short { refined: list }) => {
             *refined_count = write_list(list.as_slice(), refined);

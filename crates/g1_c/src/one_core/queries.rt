@@ -8,7 +8,6 @@ use crate::tell::{tell, tell_whether};
 use g1_handles::code::{DONE, NULL};
 use g1_handles::handles::Handle;
 use g1_handles::one_core::queries::{is_pending_in, status_in, target_in};
-use std::alloc::Global;
 
 /// How much is pending and recorded.
 #[repr(C)]
@@ -22,36 +21,31 @@ pub struct Totals {
 
 /// As in `g1.h`.
 #[unsafe(no_mangle)]
-pub extern "C" fn g1_target(alloc: Global, handle: &mut Handle, slot: u32, target: &mut u32) -> u32
+pub extern "C" fn g1_target(handle: &mut Handle, slot: u32, target: &mut u32) -> u32
     ensures { OnCore 0 (called result handle.old.value handle.new.value)
         (target.new ≡ 4294967295) (λ old new. RefersTo old slot (reference_of target.new) new)
         (λ old. LacksSlot old.state.table.layout slot) }
 {
-    let answer = on_core!(alloc, handle, target_in(slot));
+    let answer = on_core!(handle, target_in(slot));
     tell(answer, NULL, target)
 }
 
 /// As in `g1.h`.
 #[unsafe(no_mangle)]
-pub extern "C" fn g1_is_pending(
-    alloc: Global,
-    handle: &mut Handle,
-    card: u32,
-    pending: &mut u32,
-) -> u32
+pub extern "C" fn g1_is_pending(handle: &mut Handle, card: u32, pending: &mut u32) -> u32
     ensures told { ToldByCore (called result handle.old.value handle.new.value)
         (pending.new == 1) (pending.new ≡ 0) (λ answer core.
         TellsPending core.state.table card answer)
         (λ old. LacksCard old.state.table.layout card) }
     ensures word { pending.new ≤ 1 }
 {
-    let answer = on_core!(alloc, handle, is_pending_in(card));
+    let answer = on_core!(handle, is_pending_in(card));
     tell_whether(answer, pending)
 }
 
 /// As in `g1.h`.
 #[unsafe(no_mangle)]
-pub extern "C" fn g1_status(alloc: Global, handle: &mut Handle, totals: &mut Totals) -> u32
+pub extern "C" fn g1_status(handle: &mut Handle, totals: &mut Totals) -> u32
     ensures { ToldByCore (called result handle.old.value handle.new.value)
         (record { pending = totals.new.pending; recorded = totals.new.recorded })
         (totals.new ≡ record { pending = 0; recorded = 0 })
@@ -61,7 +55,7 @@ pub extern "C" fn g1_status(alloc: Global, handle: &mut Handle, totals: &mut Tot
         pending: 0,
         recorded: 0,
     };
-    match on_core!(alloc, handle, Ok(status_in())) {
+    match on_core!(handle, Ok(status_in())) {
         Err(refusal) => refusal.word(),
         Ok(status) => {
             *totals = Totals {

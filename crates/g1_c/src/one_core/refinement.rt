@@ -7,7 +7,6 @@ use crate::calling::on_core;
 use g1_handles::handles::Handle;
 use g1_handles::list::write_list;
 use g1_handles::one_core::refinement::{refine_in, reply_word};
-use std::alloc::Global;
 
 /// What a refinement counted.
 #[repr(C)]
@@ -24,7 +23,6 @@ pub struct Tally {
 /// As in `g1.h`.
 #[unsafe(no_mangle)]
 pub extern "C" fn g1_refine(
-    alloc: Global,
     handle: &mut Handle,
     cards: &[u32],
     refined: &mut [u32],
@@ -43,7 +41,7 @@ pub extern "C" fn g1_refine(
         skipped: 0,
     };
     let room = refined.len();
-    match on_core!(alloc, handle, refine_in(cards, room)) {
+    match on_core!(handle, refine_in(cards, room)) {
         Err(refusal) => refusal.word(),
         Ok(reply) => {
             *tally = Tally {

@@ -6,20 +6,13 @@ use crate::calling::on_core;
 use crate::tell::tell_kind;
 use g1_handles::handles::Handle;
 use g1_handles::one_core::store::store_in;
-use std::alloc::Global;
 
 /// As in `g1.h`.
 #[unsafe(no_mangle)]
-pub extern "C" fn g1_store(
-    alloc: Global,
-    handle: &mut Handle,
-    slot: u32,
-    target: u32,
-    kind: &mut u32,
-) -> u32
+pub extern "C" fn g1_store(handle: &mut Handle, slot: u32, target: u32, kind: &mut u32) -> u32
     ensures { OnCore 0 (called result handle.old.value handle.new.value) (kind.new ≡ 0)
         (λ old new. OfKind kind.new (λ k. StoresTo old slot (reference_of target) k new))
         (λ old. LacksPlace old.state.table.layout slot target) }
 {
-    tell_kind!(on_core!(alloc, handle, store_in(slot, target)), kind)
+    tell_kind!(on_core!(handle, store_in(slot, target)), kind)
 }

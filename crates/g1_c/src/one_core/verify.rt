@@ -6,12 +6,10 @@ use crate::calling::on_core;
 use g1_handles::code::{DONE, NULL};
 use g1_handles::handles::Handle;
 use g1_handles::one_core::verify::verify_in;
-use std::alloc::Global;
 
 /// As in `g1.h`.
 #[unsafe(no_mangle)]
 pub extern "C" fn g1_verify(
-    alloc: Global,
     handle: &mut Handle,
     first: u32,
     count: u32,
@@ -24,7 +22,7 @@ pub extern "C" fn g1_verify(
         (λ old new. Checks old first count references.now differing.new missing.new new)
         (λ old. LacksRanges old.state.table.layout first count first (length references.now)) }
 {
-    match on_core!(alloc, handle, verify_in(first, count, references)) {
+    match on_core!(handle, verify_in(first, count, references)) {
         Err(refusal) => {
             *differing = NULL;
             *missing = NULL;
