@@ -1,9 +1,8 @@
 //! What a crew prints of its book: how many stores there were, and a drain of each region.
 ghost use Rattle.std.specs.Prelude.{◌≡◌};
-ghost use Rattle.g1_replay.specs.{List, [], Err, None, IfSome, length, count_by, Appends};
-ghost use Rattle.g1_replay.specs.{is_store, is_store_command, Command, IsHistory};
-ghost use Rattle.g1_replay.specs.{layout_in, CrewDrained, crew_book, crew_stop, book_draining};
-ghost use Rattle.g1_replay.specs.{PrintsSome};
+ghost use Rattle.g1_replay.specs.{List, None, length, count_by, is_store, is_store_command};
+ghost use Rattle.g1_replay.specs.{Command, IsHistory, layout_in, CrewDrained, crew_book, crew_stop};
+ghost use Rattle.g1_replay.specs.{book_draining, PrintsSome};
 
 use crate::calls::play_call;
 use crate::drains::{Drains, put_drains};
