@@ -1,23 +1,17 @@
 -- Scripts of a crew or a race: they are kept as their trace is read, and fit its heap.
-use Rattle.std.specs.Prelude.{◌≡◌, ◌≢◌, ◌==◌, ◌<◌, ◌≤◌, ◌+◌, ◌∷◌, ◌++◌, ◌-◌, if◌then◌else◌}
+use Rattle.std.specs.Prelude.{◌≡◌, ◌≢◌, ◌==◌, ◌<◌, ◌+◌, ◌∷◌, ◌++◌, ◌-◌}
 use Rattle.g1_replay.specs.{map, zero-add, get_or-map, All-nil, All-cons, All-push, AreScripts, with_flush, ℕ, List, [], suc, add-one, add-zero, length, get_or, set, drop, drop-cons, refl, sym, subst, ap, ◌∙◌, append-nil, inl, inr, Option, Some, None, true, nat_lt, Bool, arith, rules, All, unwrap_or, filter_map, cons_option, cond, count_by, sum_by, sum_by-append, sum_by-cons, sum_by-set, All-head, All-tail, Ask, asks_of, is_store_ask, is_store_command, stores_in, cases_Bool, eq-eqb, eqb-true, ne_eqb, false≢true, get_or-set_same, get_or-set_other, length-set, length-drop, Shape, slot_count, StepFits, ScriptFits, Step, Script, Mutate, Refine, Command, Store, IsCommandOf, AllFrom, AreKept, IsScriptAt, asked_in, own_step, step_for}
-use Rattle.std.proofs.lemmas.List.{map-append, nil_from_length}
+use Rattle.std.proofs.lemmas.List.{map-append}
 use Rattle.g1_steps.specs.Ask.{ask_of}
 use Rattle.g1_steps.specs.declared.crew.desk.Step.TheVariants as step
 use Rattle.g1_trace.specs.declared.command.Command.TheVariants.{Flush}
 
 -- what a command asks of the mutator that it names, and of another
-own_at : (by : ℕ) (s : Step) → (if by == by then Some s else None) ≡ Some s
-own_at by s = rw (eq-eqb by by refl) refl
-
-other_at : (by k : ℕ) (s : Step) → k ≢ by → (if by == k then Some s else None) ≡ None
-other_at by k s differ = rw (ne_eqb by k (λ e. differ (sym e))) refl
-
 pub asked_own : (c : Command) (a : ℕ × Step) → asked_in c ≡ Some a → step_for a.0 c ≡ Some a.1
-asked_own c a e = ap (own_step a.0) e ∙ own_at a.0 a.1
+asked_own c a e = rw (e, eq-eqb a.0 a.0 refl) refl
 
 pub asked_other : (c : Command) (a : ℕ × Step) (k : ℕ) → asked_in c ≡ Some a → k ≢ a.0 → step_for k c ≡ None
-asked_other c a k e differ = ap (own_step k) e ∙ other_at a.0 k a.1 differ
+asked_other c a k e differ = rw (e, ne_eqb a.0 k (λ s. differ (sym s))) refl
 
 pub asked_none : (c : Command) (k : ℕ) → asked_in c ≡ None → step_for k c ≡ None
 asked_none c k e = ap (own_step k) e
@@ -124,11 +118,6 @@ module _ {E : Type 0} (steps : E → List Step) where
 
 -- what is left of a list from a place on
 module _ {E : Type 0} where
-  pub none_left : (k : ℕ) (all now : List E) → now ≡ drop k all → length now ≡ 0 → (length all ≤ k) × (now ≡ drop (k + 1) all)
-  none_left k all now e none =
-      let long : length all - k ≡ 0 = sym (length-drop k all) ∙ ap length (sym e) ∙ none in
-      (omega arith, nil_from_length now none ∙ sym (nil_from_length (drop (k + 1) all) (length-drop (k + 1) all ∙ omega arith)))
-
   pub some_left : (k : ℕ) (all now rest : List E) (item : E) → now ≡ drop k all → 0 < length now → item ≡ get_or now 0 item → rest ≡ drop 1 now
       → (k < length all) × ((d : E) → get_or all k d ≡ item) × (rest ≡ drop (k + 1) all)
   some_left k all now rest item e some first behind =

@@ -28,4 +28,5 @@ use PlayingLemmas.*
 use RaceLemmas.*
 use RanLemmas.*
 use ScriptedLemmas.*
+use SteppedLemmas.*
 use TakenLemmas.*

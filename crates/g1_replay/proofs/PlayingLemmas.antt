@@ -22,11 +22,8 @@ CameTo deeds c old (Err why) new = deeds.did old [] (c ∷ []) [] new × (why �
 
 -- what stops a command that was played
 pub said_stops : (said : Result (List ℕ) Refusal) (out out' : Option (List ℕ)) (r : Result (Unit {0}) Stop) → IsSaid said out out' r → IfErr r MayStop
-said_stops (Ok text) out out' r s = may_fail r s.0
-  where
-    may_fail : (r : Result (Unit {0}) Stop) → (r ≡ Ok tt) ⊎ (r ≡ Err WriteFailed) → IfErr r MayStop
-    may_fail r (inl e) = subst (λ (s : Result (Unit {0}) Stop). IfErr s MayStop) (sym e) tt
-    may_fail r (inr e) = subst (λ (s : Result (Unit {0}) Stop). IfErr s MayStop) (sym e) tt
+said_stops (Ok text) out out' r (inl e, w) = subst (λ (s : Result (Unit {0}) Stop). IfErr s MayStop) (sym e) tt
+said_stops (Ok text) out out' r (inr e, w) = subst (λ (s : Result (Unit {0}) Stop). IfErr s MayStop) (sym e) tt
 said_stops (Err why) out out' r s = subst (λ (s : Result (Unit {0}) Stop). IfErr s MayStop) (sym s.0) (may_refuse why)
   where
     may_refuse : (why : Refusal) → MayStop (stop_of why)

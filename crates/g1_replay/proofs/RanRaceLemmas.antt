@@ -2,7 +2,6 @@
 use Rattle.std.specs.Prelude.{◌≡◌, ◌<◌, ◌≤◌, ◌+◌, ◌∷◌}
 use Rattle.g1_replay.specs.{ℕ, get_or-map, suc, List, [], length, map, ap, sym, subst, ◌∙◌, refl, arith, true, false, append-nil, Option, Some, None, inl, inr, Result, Ok, Err, All, sum_by, filter_map, AllZip, option_or, true≢false, false≢true, le-ltb, lt-ltb, All-nil, All-cons, sum_by-cons, Line, View, StoreHistory, In, histories_of, Among, racer_view, Job, Script, Mutate, Refine, Refusal, Step, Ask, asks_in, asks_of, JobRan, Ran, Member, Racing, Sweeping, IsMemberOf, MemberDid, histories_after, member_rights, AllFrom, IsNewMember, with_flush, IsScriptAt, racer_in, first_refusal, refusal_in}
 use native.Mathlib.Decide.{ℕ_discrete}
-use Rattle.std.proofs.lemmas.List.{nil_from_length}
 use Rattle.g1_race.specs.declared.race.Race.{Race}
 use Rattle.g1_replay.proofs.JobLemmas.{none_first}
 use Rattle.g1_replay.proofs.StoreLemmas.{flush_stores_none, one_history, steps_at, stored_at, stored_by}
@@ -35,10 +34,6 @@ module _ {E : Type 0} (steps : E → List Step) (race : Race) (line : Line) (mut
 -- a job that was not refused, and those behind it
 pub first_left : {D : Type 0} (outcome : D → Option (Result ℕ (ℕ × Refusal))) (ds rest : List D) (d : D) (total : Option Refusal) → ds ≡ d ∷ rest → None ≡ refusal_in (outcome d) → first_refusal (map outcome ds) ≡ total → first_refusal (map outcome rest) ≡ total
 first_left {D = D} outcome ds rest d total e none was = ap (λ (o : Option Refusal). option_or o (first_refusal (map outcome rest))) none ∙ ap (λ (l : List D). first_refusal (map outcome l)) (sym e) ∙ was
-
--- where no job is left, none was refused
-pub none_left : {D : Type 0} (outcome : D → Option (Result ℕ (ℕ × Refusal))) (ds : List D) (total : Option Refusal) → length ds ≡ 0 → first_refusal (map outcome ds) ≡ total → total ≡ None
-none_left outcome ds total e was = sym was ∙ ap (λ l. first_refusal (map outcome l)) (nil_from_length ds e)
 
 module _ {D : Type 0} (member : D → Member) where
   abbrev pub Did : D → List Ask → D → Type 0

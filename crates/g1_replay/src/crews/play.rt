@@ -2,8 +2,8 @@
 //! result.
 ghost use Rattle.std.specs.Prelude.{◌≡◌};
 ghost use Rattle.g1_replay.specs.{List, true, vec_len, All, slot_count, AreScripts, PrintsSome};
-ghost use Rattle.g1_replay.specs.{StepFits, Command, CrewRan, IsScriptReplayed, crewing};
-ghost use Rattle.g1_replay.specs.{spot, streams};
+ghost use Rattle.g1_replay.specs.{StepFits, Command, CrewRan, IsScriptReplayed, crewing, spot};
+ghost use Rattle.g1_replay.specs.{streams};
 ghost use Rattle.g1_replay.specs.Scripted.{Scripted};
 
 use crate::crews::jobs::run_jobs;

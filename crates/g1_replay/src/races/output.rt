@@ -2,8 +2,7 @@
 //! race has become.
 ghost use Rattle.std.specs.Prelude.{◌≡◌};
 ghost use Rattle.g1_replay.specs.{ℕ, List, count_by, Command, Ended, table_of, core_draining};
-ghost use Rattle.g1_replay.specs.{PrintsSome};
-ghost use Rattle.g1_replay.specs.{is_store_command, RaceRan, IsTableLeftBy};
+ghost use Rattle.g1_replay.specs.{PrintsSome, is_store_command, RaceRan, IsTableLeftBy};
 
 use crate::calls::put_call;
 use crate::drains::{Drains, put_drains};

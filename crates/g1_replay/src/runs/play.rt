@@ -1,10 +1,9 @@
 //! The calls of a command, and its output line.
 ghost use Rattle.std.specs.Prelude.{◌≡◌, ◌<◌};
 ghost use Rattle.g1_replay.specs.{true, IfSome, vec_len, slot_count, layout_in, IsCommandCall};
-ghost use Rattle.g1_replay.specs.{IsCommandOf, stepping, at};
-ghost use Rattle.g1_replay.specs.{is_pause, AreStill, IsPlayed};
-ghost use Rattle.g1_replay.specs.{StoresAt, FlushesAt, RefinesAt, WorksAt, IsCallPlayed};
-ghost use Rattle.g1_replay.specs.{StandIf, StandStill};
+ghost use Rattle.g1_replay.specs.{IsCommandOf, stepping, at, is_pause, AreStill, IsPlayed};
+ghost use Rattle.g1_replay.specs.{StoresAt, FlushesAt, RefinesAt, WorksAt, IsCallPlayed, StandIf};
+ghost use Rattle.g1_replay.specs.{StandStill};
 
 use crate::calls::play_call;
 use crate::lines::player::Player;
@@ -23,6 +22,7 @@ impl Player for Machinery {
 
     /// Makes the calls of a command and writes its output line.
     #[inline(always)]
+    #[tactic(auto, using(crate::proofs::played_does, crate::proofs::played_stops))]
     fn play<T: Wait, W: Write>(
         &mut self,
         rt: &T,

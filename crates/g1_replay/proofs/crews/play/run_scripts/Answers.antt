@@ -1,5 +1,5 @@
 use Rattle.std.specs.Prelude.{◌≡◌, ◌+◌}
-use Rattle.g1_replay.specs.{ℕ, All, true, length, ap, arith, subst, sym, ◌∙◌, Shape, slot_count, StepFits, History, BookTerms, layout_in, opened, NoMemory, CrewDrained, crew_book, AreOfCallers, HasCome, IsScriptFor, PrintsSome}
+use Rattle.g1_replay.specs.{ℕ, length, ap, arith, subst, ◌∙◌, Shape, History, BookTerms, layout_in, NoMemory, CrewDrained, crew_book, AreOfCallers, HasCome, IsScriptFor, PrintsSome}
 use Rattle.g1_replay.proofs.{err_is, not_started, crew_ran}
 use Rattle.g1_replay.proofs.JobLemmas.{all_stored, come_for}
 use Rattle.g1_replay.proofs.crews.play.run_scripts.Goals as goal
@@ -13,17 +13,6 @@ returns-in_err-ledgers g c commands many = rw (err_is _ c.from_residual-in_err-l
 pub returns-in_err-book-2 : goal.returns-in_err-book-2
 returns-in_err-book-2 g c commands many = rw (err_is _ c.from_residual-in_err-book-2.ensures.1) (not_started commands c.args.options.now c.args.layout _ (g.W.Write.contents c.args.output.now) c.in_err-book-2.ensures.stops)
 
-pub run_jobs-requires-clause-opened : goal.run_jobs-requires-clause-opened
-run_jobs-requires-clause-opened g c lts lives =
-    let o = c.args.options.now in
-    let same : layout_in c.in_ok-book.book ≡ c.args.layout = ap (λ (h : History). layout_in h) c.in_ok-book.ensures in
-    c.in_ok-book.ensures ∙ ap (λ (l : Shape). opened l o.config o.mutators o.history) (sym same)
-
-pub run_jobs-requires-clause-fits : goal.run_jobs-requires-clause-fits
-run_jobs-requires-clause-fits g c lts lives =
-    let same : layout_in c.in_ok-book.book ≡ c.args.layout = ap (λ (h : History). layout_in h) c.in_ok-book.ensures in
-    subst (λ (l : Shape). All (λ steps. All (StepFits (slot_count l) true) steps.items) c.args.scripts.items) (sym same) c.requires.fits
-
 pub returns : goal.returns
 returns g c commands are =
     let o = c.args.options.now in
@@ -35,4 +24,4 @@ returns g c commands are =
     subst (λ (n : ℕ). HasCome (IsScriptFor o commands) (o.mutators + o.refiners) n c.in_ok-book-2.refused c.in_ok-book-2.book.entries) limit came in
     crew_ran commands o c.args.layout c.in_ok-book-2.refused c.in_ok-book-2.book.entries _ _ _ made
     (subst (λ (l : Shape). PrintsSome (CrewDrained (crew_book o.history l c.in_ok-book-2.refused c.in_ok-book-2.book.entries) commands) (g.W.Write.contents c.args.output.now) (g.W.Write.contents c.put_crew.new.output) c.put_crew.result) same
-    (c.put_crew.ensures.ran commands (λ none. c.in_ok-book-2.ensures.stores ∙ all_stored (λ steps. steps.items) o.rounds c.args.scripts.items _ _ _ _ c.in_ok-book-2.ensures.came none (omega (arith, all)) ∙ are.stored)))
+    (c.put_crew.ensures commands (λ none. c.in_ok-book-2.ensures.stores ∙ all_stored (λ steps. steps.items) o.rounds c.args.scripts.items _ _ _ _ c.in_ok-book-2.ensures.came none (omega (arith, all)) ∙ are.stored)))

@@ -1,8 +1,8 @@
-use Rattle.std.specs.Prelude.{◌≡◌, ◌+◌, ◌++◌}
-use Rattle.g1_replay.specs.{ℕ, suc, drop, map, vec_len, with_flush, ap, ◌∙◌, sym, subst, arith, All, into_iter_items, All-nil, All-push, All-same, slot_count, race_layout, ScriptFits, Member, is_racer, AllFrom, IsNewMember, IsScriptAt}
+use Rattle.std.specs.Prelude.{◌≡◌, ◌+◌}
+use Rattle.g1_replay.specs.{ℕ, suc, drop, vec_len, with_flush, ap, ◌∙◌, sym, subst, arith, into_iter_items, All-push, All-same, slot_count, race_layout, ScriptFits, Member, is_racer, AllFrom, IsNewMember, IsScriptAt}
 use Rattle.g1_race.specs.declared.race.Race.{Race}
 use Rattle.g1_steps.proofs.WorkerLemmas.{started_more}
-use Rattle.g1_replay.proofs.{all_from_next, all_from_rest, all_moved, flushes_fit, script_at_fits}
+use Rattle.g1_replay.proofs.{all_from_next, all_from_rest, flushes_fit, script_at_fits}
 use Rattle.g1_replay.proofs.races.jobs.jobs_of.Goals as goal
 
 pub loop-member-preserved : goal.loop-member-preserved
@@ -38,29 +38,6 @@ loop-member-preserved g c =
           (All-push (λ job. job.desk.fill ≡ c.args.options.now.config.log) _ _ was.logs (c.new.ensures.fill ∙ c.log.ensures.cards));
       left = next.1 ∙ ap (λ n. drop n scripts) past;
     }
-
--- no member has a job at first
-pub loop-member-init : goal.loop-member-init
-loop-member-init g c =
-    let given : into_iter_items c.into_iter-member-iterator.result ≡ c.args.members.items = c.into_iter-member-iterator.ensures.into_iter_gives.0 in
-    let left = c.into_iter-member-iterator.ensures.into_iter_gives.1 in
-    let none = c.in_ok-jobs.ensures.items in
-    let empty : 0 ≡ vec_len c.in_ok-jobs.jobs = sym c.in_ok-jobs.ensures.len in
-    record {
-      len = omega (arith, left, c.in_ok-jobs.ensures.len);
-      room = omega (arith, c.len.ensures, c.in_ok-jobs.ensures.capacity);
-      same = ap (λ jobs. map (λ job. job.desk.member) jobs ++ into_iter_items c.into_iter-member-iterator.result) none ∙ given;
-      rest = subst (λ (n : ℕ). AllFrom (IsNewMember c.args.race.now c.args.line.now c.args.options.now.mutators) n (into_iter_items c.into_iter-member-iterator.result)) empty
-          (subst (AllFrom (IsNewMember c.args.race.now c.args.line.now c.args.options.now.mutators) 0) (sym given) c.requires.members);
-      jobs = subst (λ jobs. AllFrom (λ i job. IsNewMember c.args.race.now c.args.line.now c.args.options.now.mutators i job.desk.member × IsScriptAt (with_flush (λ steps. steps.items)) c.args.options.now.rounds c.args.scripts.items i job.script) 0 jobs) (sym none) tt;
-      fits = subst (λ jobs. All (λ job. ScriptFits (slot_count (race_layout job.desk.race.now)) (is_racer job.desk.member) job.script) jobs) (sym none) (All-nil (λ job. ScriptFits (slot_count (race_layout job.desk.race.now)) (is_racer job.desk.member) job.script));
-      logs = subst (λ jobs. All (λ job. job.desk.fill ≡ c.args.options.now.config.log) jobs) (sym none) (All-nil (λ job. job.desk.fill ≡ c.args.options.now.config.log));
-      left = ap (λ n. drop n c.args.scripts.items) empty;
-    }
-
--- and each has one at the end
-pub returns-clause-members : goal.returns-clause-members
-returns-clause-members g c = all_moved _ (into_iter_items c.loop-member.member-iterator) _ (omega (arith, c.in-None.ensures.steps.0, c.loop-member.member-iterator.rest.ok.0)) c.loop-member.invariant.same
 
 pub new-requires-clause-empty : goal.new-requires-clause-empty
 new-requires-clause-empty g c = (all_from_rest (IsNewMember c.args.race.now c.args.line.now c.args.options.now.mutators) (vec_len c.loop-member.jobs) _ _ _ c.in-Some.ensures.steps.0 c.loop-member.invariant.rest).0.logged

@@ -1,7 +1,7 @@
-use Rattle.std.specs.Prelude.{◌≡◌, ◌∷◌, ◌++◌}
-use Rattle.g1_replay.specs.{List, [], map, ap, subst, arith, length-map, into_iter_items, Member, HasBack, first_refusal}
+use Rattle.std.specs.Prelude.{◌∷◌, ◌++◌}
+use Rattle.g1_replay.specs.{List, [], map, subst, arith, length-map, into_iter_items, Member, HasBack}
 use Rattle.g1_replay.proofs.{all_moved, next_behind}
-use Rattle.g1_replay.proofs.RanRaceLemmas.{first_left, none_left}
+use Rattle.g1_replay.proofs.RanRaceLemmas.{first_left}
 use Rattle.g1_replay.proofs.races.jobs.returned_by.Goals as goal
 
 pub loop-job-preserved : goal.loop-job-preserved
@@ -17,14 +17,6 @@ loop-job-preserved-in_ok-place g c = record {
 }
 
 -- no job is back at first
-pub loop-job-init : goal.loop-job-init
-loop-job-init g c =
-    let given : into_iter_items c.into_iter-job-iterator.result ≡ c.args.jobs.items = c.into_iter-job-iterator.ensures.into_iter_gives.0 in
-    record {
-      back = ([], c.new-returned.ensures, ap (map (λ job. job.desk.member)) given);
-      whole = ap (λ jobs. first_refusal (map (λ job. job.outcome) jobs)) given;
-    }
-
 -- and none is left at the end
 pub returns-clause-back : goal.returns-clause-back
 returns-clause-back g c =
@@ -32,6 +24,3 @@ returns-clause-back g c =
     let left = into_iter_items c.loop-job.job-iterator in
     let none = length-map left (λ job. job.desk.member) in
     subst (λ (ms : List Member). HasBack ms c.loop-job.returned) (all_moved was.0 (map (λ job. job.desk.member) left) _ (omega (arith, none, c.in-None.ensures.steps.0, c.loop-job.job-iterator.rest.ok.0)) was.2) was.1
-
-pub returns-clause-whole : goal.returns-clause-whole
-returns-clause-whole g c = none_left (λ job. job.outcome) (into_iter_items c.loop-job.job-iterator) _ (omega (arith, c.in-None.ensures.steps.0, c.loop-job.job-iterator.rest.ok.0)) c.loop-job.invariant.whole

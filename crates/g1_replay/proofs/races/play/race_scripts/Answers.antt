@@ -1,20 +1,12 @@
 use Rattle.std.proofs.Common.{Vec}
 use Rattle.std.specs.Global.{Global}
-use Rattle.g1_replay.specs.{List, All, true, ap, sym, subst, ◌∙◌, slot_count, StepFits, NoMemory, IsOpenedBy, sum_by, Shape, Machine, Step, stores_in, PrintsSome, RaceRan}
+use Rattle.g1_replay.specs.{List, ap, subst, ◌∙◌, NoMemory, sum_by, Shape, Machine, Step, stores_in, PrintsSome, RaceRan}
 use Rattle.g1_replay.proofs.{err_is, race_stopped}
 use Rattle.g1_replay.proofs.races.play.race_scripts.Goals as goal
 
 pub returns-in_err-opened : goal.returns-in_err-opened
 returns-in_err-opened g c = λ commands of.
     rw (err_is _ c.from_residual.ensures.1) (race_stopped c.args.options.now.mutators c.args.layout commands NoMemory (g.W.Write.contents c.args.output.now) tt)
-
-pub run_race-requires-clause-opened : goal.run_race-requires-clause-opened
-run_race-requires-clause-opened g c lts lives =
-    subst (λ (l : Shape). IsOpenedBy l c.args.options.now c.in_ok-opened.opened) (sym c.in_ok-opened.ensures.layout) c.in_ok-opened.ensures
-
-pub run_race-requires-clause-fits : goal.run_race-requires-clause-fits
-run_race-requires-clause-fits g c lts lives =
-    subst (λ (l : Shape). All (λ steps. All (StepFits (slot_count l) true) steps.items) c.args.scripts.steps.items) (sym c.in_ok-opened.ensures.layout) c.requires.fits
 
 pub returns-in_err-closed : goal.returns-in_err-closed
 returns-in_err-closed g c = λ commands of.
