@@ -1,7 +1,7 @@
 -- A handle lends what it holds: `lent`. Assumes `Logic`.
 use Rattle.std.specs.Prelude.{◌≡◌, ◌∷◌, ◌++◌}
-use Rattle.g1_handles.specs.{ℕ, List, [], refl, sym, ap, ◌∙◌, subst, lit<, id⊢, Option, Some, None, MatchOption, Ura, Fml, SProp, ent, sep, emp, ftrue, fsep, flft, fact, fact_i, WpFn, Calls, Loops, Ptr, block_ptr, null_ptr, ptr_val, tests_null, Global, holds, owns_boxed, ghosts}
-use Rattle.g1_handles.proofs.Prelude.{Sym, Ty, Fn, local, value_local, ty_ptr, assign, place, field, rv_opd, copy, aggregate, seq, return, Val, vptr, vnull, vcons, vnil, Logic, sem, ‵, raw, ◌⊛◌, prop, some, later, at_ret, any_q, ◌$◌, ◌∵◌, !, qed, by, move, keep, drop, use0, use1, await, pick, split, split3, join, regoal, rewrite, feq_i, feq_l, fsplit, fjoin, fpack, whole, sub, agg, stop, fld, lit, of_opd, bin, no_more, and_then, first, blocks, branches, exec, returns, enter, alloc_all, pass_all, free_all, look_at, get, sets, sets_last, env, RattleType, owns, layout, nothing, Struct, after, Ptr-Good}
+use Rattle.g1_handles.specs.{ℕ, List, [], refl, sym, subst, lit<, id⊢, Option, Some, None, MatchOption, Ura, Fml, SProp, ent, sep, emp, ftrue, fsep, flft, fact, fact_i, WpFn, Calls, Loops, Ptr, block_ptr, null_ptr, ptr_val, tests_null, Global, ghosts}
+use Rattle.g1_handles.proofs.Prelude.{Sym, Ty, Fn, local, value_local, ty_ptr, assign, place, field, rv_opd, copy, aggregate, seq, return, Val, vptr, vnull, vcons, vnil, Logic, sem, ‵, raw, ◌⊛◌, prop, some, later, at_ret, any_q, ◌$◌, ◌∵◌, !, qed, by, move, keep, use0, use1, await, pick, split, split3, join, regoal, rewrite, feq_i, feq_l, fsplit, fjoin, fpack, whole, sub, agg, stop, fld, lit, of_opd, bin, no_more, and_then, first, blocks, branches, exec, returns, enter, alloc_all, pass_all, free_all, look_at, get, sets, sets_last, env, RattleType, layout, nothing, Struct, after, Ptr-Good}
 use Rattle.g1_handles.proofs.Values.{Z, both, shape, owned, words_out, words_in, either, some_in}
 use base.Fml.{fres, Lft, GName, Share}
 use base.Fraction.{full_share}

@@ -1,6 +1,6 @@
 -- What a call on what a handle holds says once its result is known.
 use Rattle.std.specs.Prelude.{◌≡◌}
-use Rattle.g1_handles.specs.{◌∙◌, ap, sym, subst, inl, refl, Option, Some, None, Result, Ok, Err, Reason, Ghosts, Member, OfRole, IsRoleRefused, IsVisit}
+use Rattle.g1_handles.specs.{ap, sym, subst, inl, refl, Option, Some, None, Result, Ok, Err, Reason, Ghosts, Member, OfRole, IsRoleRefused, IsVisit}
 use Rattle.g1_handles.specs.declared.code.Reason.TheVariants as refusal
 
 abbrev pub is_ok : {A : Type 0} → Result A Reason → Type 0

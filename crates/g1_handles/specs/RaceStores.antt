@@ -1,5 +1,5 @@
 -- What a racer's stores do that return what was there, depend on it, or are several.
-use Rattle.std.specs.Prelude.{◌≡◌, ◌+◌, ◌<◌, ◌≤◌, ◌∷◌, ◌++◌, if◌then◌else◌}
+use Rattle.std.specs.Prelude.{◌≡◌, ◌<◌, ◌≤◌, ◌∷◌, ◌++◌, if◌then◌else◌}
 use Rattle.g1_handles.specs.Prelude.{ℕ, List, [], Bool, true, slice_index_or, crosses}
 use Rattle.g1_handles.specs.Prelude.{Race, Racer}
 use Rattle.g1_handles.specs.Prelude.{length, take, Option, array_vec_len, Kind, IsFound, slot_card}

@@ -1,5 +1,5 @@
 //! A call on a heap at a pause.
-ghost use Rattle.g1_handles.specs.{Some, Result, FnOnceReturnsAtMut, Pause, Reason, IsRaceWith};
+ghost use Rattle.g1_handles.specs.{Result, FnOnceReturnsAtMut, Pause, Reason, IsRaceWith};
 ghost use Rattle.g1_handles.specs.{IsCalled};
 
 use crate::any_handle::AnyHandle;
@@ -26,20 +26,8 @@ pub fn at_pause<A, F: FnOnce(&mut PausedHeap) -> Result<A, Reason>>(
         handle.old.value result handle.new.value }
 {
     let heap = handle.value_mut().ok_or(Reason::NotOpen)?;
-    call_on(heap, call)
-}
-
-fn call_on<A, F: FnOnce(&mut PausedHeap) -> Result<A, Reason>>(
-    heap: &mut RacingHeap,
-    call: F,
-) -> Result<A, Reason>
-    requires callable { F.IsAlwaysCallable call }
-    requires kept { (old new : Pause) (r : Result A Reason)
-        → FnOnceReturnsAtMut F.FnOnce call old r new → IsRaceWith new.logs old new }
-    ensures { IsCalled (FnOnceReturnsAtMut F.FnOnce call) (Some heap.old) result (Some heap.new) }
-{
-    let RacingHeap::Paused(at) = heap else {
-        return Err(Reason::NotPaused);
-    };
-    call(&mut at.pause)
+    match &mut *heap {
+        RacingHeap::Paused(at) => call(&mut at.pause),
+        RacingHeap::Read(_) | RacingHeap::Racing(_) => Err(Reason::NotPaused),
+    }
 }

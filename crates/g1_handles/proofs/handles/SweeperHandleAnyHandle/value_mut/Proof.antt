@@ -2,7 +2,7 @@
 use Rattle.std.specs.Prelude.{◌∷◌}
 use Rattle.g1_handles.specs.contracts.handles.SweeperHandle as from
 use Rattle.g1_handles.specs.{[], refl, tables, sweeper_row as R}
-use Rattle.g1_handles.proofs.{alive, Stays, stay_dropped, walk_of, proved_at, leaves}
+use Rattle.g1_handles.proofs.{Stays, stay_dropped, walk_of, proved_at, leaves}
 use Rattle.g1_handles.proofs.Lends.{lent}
 use denote.Signature.{plain, mut_ref_to}
 use denote.Triple.Walked.{Goes-spent_ref}

@@ -1,7 +1,7 @@
 -- The call keeps what the boxes and the share are tied to.
 use Rattle.g1_handles.specs.{refl, sym, ap, ◌∙◌, IsRaceWith}
 use Rattle.g1_race_words.specs.declared.view.RaceShape.{RaceShape}
-use Rattle.g1_handles.proofs.heap.at_pause.call_on.Goals as goal
+use Rattle.g1_handles.proofs.heap.at_pause.at_pause.Goals as goal
 
 pub invariant_of-at : goal.invariant_of-at
 invariant_of-at g c =
