@@ -14,7 +14,7 @@ const TRACE: &[u8] = b"heap 4 2 4\nstore 0 0 8\ndrain 1\n";
 /// One byte a read and one byte a write change nothing.
 #[test]
 fn byte_by_byte(rt: HostRuntime) -> Result<(), Fail> {
-    let mut input = BufReader::new(rt.alloc(), failing_after(TRACE, 100))?;
+    let mut input = BufReader::new(rt.alloc(), failing_after(TRACE, 100, 0))?;
     let mut output = taking(rt.alloc(), 100, true);
     let end = replay(&rt, Mode::Run, &mut input, &mut output, &Options::default());
     assert_equal(&rt, end, End::Whole);
@@ -22,9 +22,9 @@ fn byte_by_byte(rt: HostRuntime) -> Result<(), Fail> {
     Ok(())
 }
 
-/// The trace up to each of its bytes, behind which a read fails: what its whole lines print comes
-/// before. A crew and a race run nothing then: 23 bytes are the whole first two lines, and 25 end
-/// in the middle of the third.
+/// The trace up to each of its bytes, behind which a read fails, once also behind its end: what its
+/// whole lines print comes before. A crew and a race run nothing then: 23 bytes are the whole first
+/// two lines, and 25 end in the middle of the third.
 #[test]
 fn reads_that_fail(rt: HostRuntime) -> Result<(), Fail> {
     for room in 0..=TRACE.len() {
@@ -33,15 +33,17 @@ fn reads_that_fail(rt: HostRuntime) -> Result<(), Fail> {
             23..=30 => b"logged\nread failed\n",
             _ => b"logged\ndrained 0\nread failed\n",
         };
-        prints_before_the_failure(&rt, Mode::Run, room, wanted)?;
+        prints_before_the_failure(&rt, Mode::Run, room, 0, wanted)?;
     }
+    let all = b"logged\ndrained 0\nread failed\n";
+    prints_before_the_failure(&rt, Mode::Run, TRACE.len(), 1, all)?;
     for (mode, room) in [
         (Mode::Crew, 23),
         (Mode::Crew, 25),
         (Mode::Race, 23),
         (Mode::Race, 25),
     ] {
-        prints_before_the_failure(&rt, mode, room, b"read failed\n")?;
+        prints_before_the_failure(&rt, mode, room, 0, b"read failed\n")?;
     }
     Ok(())
 }
@@ -50,9 +52,10 @@ fn prints_before_the_failure<R: Abort + Threads + Wait + Sync + AllocGlobal>(
     rt: &R,
     mode: Mode,
     room: usize,
+    ends: usize,
     wanted: &[u8],
 ) -> io::Result<()> {
-    let mut input = BufReader::new(rt.alloc(), failing_after(TRACE, room))?;
+    let mut input = BufReader::new(rt.alloc(), failing_after(TRACE, room, ends))?;
     let mut output: Vec<u8> = Vec::new(rt.alloc());
     let end = replay(rt, mode, &mut input, &mut output, &without_rounds(1000));
     assert_equal(rt, end, End::ReadFailed);
@@ -60,7 +63,7 @@ fn prints_before_the_failure<R: Abort + Threads + Wait + Sync + AllocGlobal>(
     // It would have gone on, and was not asked again.
     let read = input.get_ref();
     assert_equal(rt, read.bytes.len(), TRACE.len().saturating_sub(room));
-    assert_equal(rt, read.reads, room.saturating_add(1));
+    assert_equal(rt, read.reads, room.saturating_add(ends).saturating_add(1));
     Ok(())
 }
 

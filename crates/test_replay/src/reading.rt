@@ -73,7 +73,7 @@ fn lines_across_two_reads(rt: HostRuntime) -> Result<(), Fail> {
 /// With 65 bytes read the line is too long, and no further byte is asked for.
 #[test]
 fn long_line_before_a_failing_read(rt: HostRuntime) -> Result<(), Fail> {
-    let mut input = BufReader::new(rt.alloc(), failing_after(&[b'7'; 66], 65))?;
+    let mut input = BufReader::new(rt.alloc(), failing_after(&[b'7'; 66], 65, 0))?;
     let wanted = (b"line 1: too long\n".as_slice(), End::Refused);
     prints(&rt, &mut input, &Options::default(), wanted);
     assert_equal(&rt, input.get_ref().reads, 65);

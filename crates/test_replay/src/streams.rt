@@ -6,20 +6,23 @@ use std::io;
 use std::io::{ErrorKind, Read, Write};
 
 /// A reader that gives one byte a read, fails once when it has given some bytes, and counts its
-/// reads.
+/// reads. If it has given all, it may tell its end some times before it fails.
 #[derive(Drop)]
 pub(crate) struct Fragile<'a> {
     pub bytes: &'a [u8],
     pub room: usize,
+    pub ends: usize,
     pub failed: bool,
     pub reads: usize,
 }
 
-/// It has given nothing yet, and fails after `room` bytes.
-pub(crate) fn failing_after(bytes: &[u8], room: usize) -> Fragile<'_> {
+/// It has given nothing yet, and fails after `room` bytes, or if these are all after `ends` reads
+/// more.
+pub(crate) fn failing_after(bytes: &[u8], room: usize, ends: usize) -> Fragile<'_> {
     Fragile {
         bytes,
         room,
+        ends,
         failed: false,
         reads: 0,
     }
@@ -30,6 +33,10 @@ impl<'a> Read for Fragile<'a> {
 
     fn read(&mut self, buf: &mut [u8]) -> io::Result<usize> {
         self.reads = self.reads.saturating_add(1);
+        if self.bytes.is_empty() && self.ends > 0 {
+            self.ends -= 1;
+            return Ok(0);
+        }
         if self.room == 0 && !self.failed {
             self.failed = true;
             return Err(io::Error::from(ErrorKind::Other));
