@@ -38,13 +38,13 @@
 //!     Ok(())
 //! }
 //! ```
-mod members;
+mod parties;
 mod paused;
 mod readers;
 mod refiner;
 
 pub use crate::numbers::CollectionSet;
-pub use members::{StoreCounts, SweepCounts};
+pub use parties::{StoreCounts, SweepCounts};
 pub use paused::Members;
 pub use readers::{Reader, Readers};
 pub use refiner::{Handled, Queue, Queued, Refiner};

@@ -1,7 +1,7 @@
 //! A runtime whose mutators race with refinement: two races, and after each a pause in place that
 //! evacuates a region, over a heap of 8 regions of 256 cards of 2 slots.
 ghost use Rattle.std.specs.Prelude.{◌≡◌, ◌≢◌, ◌+◌, All, vec_len};
-ghost use Rattle.g1_race.specs.Members.{race_id, race_shape, racer_race, sweeper_race};
+ghost use Rattle.g1_race.specs.Parties.{race_id, race_shape, racer_race, sweeper_race};
 
 use anyhow::{Context, Result, bail};
 use arrayvec::ArrayVec;
@@ -62,7 +62,7 @@ fn run<R: Threads + Wait + Sync>(
     sweepers: Vec<Sweeper>,
     stores: &[Stores; 2],
 ) -> Result<Paused>
-    requires count { vec_len racers + vec_len sweepers ≡ (race_shape race).members }
+    requires count { vec_len racers + vec_len sweepers ≡ (race_shape race).parties }
     requires racers { All (λ r. racer_race r ≡ race_id race) racers.items }
     requires sweepers { All (λ s. sweeper_race s ≡ race_id race) sweepers.items }
 {

@@ -1,6 +1,6 @@
 -- What a clause of an exported call says once the call's result is known.
 use Rattle.std.specs.Prelude.{◌≡◌, ◌<◌, ◌≤◌, ◌⊎◌}
-use Rattle.g1_c.specs.{ℕ, arith, subst, Option, Some, Result, Ok, Err, Pause, Reason, refusal_word, IsHeapRefused, IsRoleRefused, refl, sym, OfRole, SaysNoMember, IsSameHeap, OfPaused, SaysNoHeap, SaysNotPaused, IsCalled, IsVisit, FnOnceReturnsAtMut, RacingHeap, Ghosts, Member, Called, IsMadeOrRefused, OnHeap, ToldByHeap, ClearReply, cleared_of, Tells, IsTold, MutBor, called_ok, called_why, called_same, role_ok, role_of, role_why, visit_same}
+use Rattle.g1_c.specs.{ℕ, arith, subst, Option, Some, Result, Ok, Err, Pause, Reason, refusal_word, IsHeapRefused, IsRoleRefused, refl, sym, OfRole, SaysNoParty, IsSameHeap, OfPaused, SaysNoHeap, SaysNotPaused, IsCalled, IsVisit, FnOnceReturnsAtMut, RacingHeap, Ghosts, Party, Called, IsMadeOrRefused, OnHeap, ToldByHeap, ClearReply, cleared_of, Tells, IsTold, MutBor, called_ok, called_why, called_same, role_ok, role_of, role_why, visit_same}
 use denote.Param.Members.{Once}
 
 module _ {V : Type 0} (most : ℕ) (call : Called V) (Untold Does : Type 0) (Why : Reason → Type 0) where
@@ -35,27 +35,27 @@ module _ {V A : Type 0} (call : Called V) (told : A) (Untold : Type 0) (Is : A �
 moved : {V : Type 0} (P : V → V → Type 0) {p q x y : V} → p ≡ x → q ≡ y → P p q → P x y
 moved P {p} {q} {x} {y} e f so = subst (λ v. P v y) e (subst (λ v. P p v) f so)
 
-module _ {P : Type 0} {g : Ghosts P} {T : Type 0} (seen : Member P g → P → T) where
-  module _ {F A : Type 0} (h : Once F (MutBor (Member P g) × Unit {0}) (Result A Reason × (MutBor (Member P g) × Unit {0}))) (f : F) where
-    abbrev Made : Member P g → Result A Reason → Member P g → Type 0
+module _ {P : Type 0} {g : Ghosts P} {T : Type 0} (seen : Party P g → P → T) where
+  module _ {F A : Type 0} (h : Once F (MutBor (Party P g) × Unit {0}) (Result A Reason × (MutBor (Party P g) × Unit {0}))) (f : F) where
+    abbrev Made : Party P g → Result A Reason → Party P g → Type 0
     Made m r n = FnOnceReturnsAtMut h f m r n
 
     -- a call that answers
-    pub role_made : (R : T → T → Type 0) (old new : Option (Member P g)) (answer : A) → IsVisit Made old (Ok answer) new
-        → ((m n : MutBor (Member P g)) → h.post f (m, tt) (Ok answer, (n, tt)) → OfRole seen (Some m.now) (λ a. OfRole seen (Some n.now) (λ b. R a b)))
+    pub role_made : (R : T → T → Type 0) (old new : Option (Party P g)) (answer : A) → IsVisit Made old (Ok answer) new
+        → ((m n : MutBor (Party P g)) → h.post f (m, tt) (Ok answer, (n, tt)) → OfRole seen (Some m.now) (λ a. OfRole seen (Some n.now) (λ b. R a b)))
         → OfRole seen old (λ a. OfRole seen new (λ b. R a b))
     role_made R old new answer is so =
         role_ok seen Made R old new answer (λ m n call. moved (λ x y. OfRole seen (Some x) (λ a. OfRole seen (Some y) (λ b. R a b))) call.shows call.leaves (so call.shown call.left call.met)) is
 
     -- one that is refused
-    pub role_refused : (Why : T → Type 0) (old new : Option (Member P g)) (r : Reason) → IsVisit Made old (Err r) new
-        → ((m n : MutBor (Member P g)) → h.post f (m, tt) (Err r, (n, tt)) → SaysNoMember (Some m.now) r ⊎ OfRole seen (Some m.now) Why)
-        → SaysNoMember old r ⊎ OfRole seen old Why
+    pub role_refused : (Why : T → Type 0) (old new : Option (Party P g)) (r : Reason) → IsVisit Made old (Err r) new
+        → ((m n : MutBor (Party P g)) → h.post f (m, tt) (Err r, (n, tt)) → SaysNoParty (Some m.now) r ⊎ OfRole seen (Some m.now) Why)
+        → SaysNoParty old r ⊎ OfRole seen old Why
     role_refused Why old new r is so =
-        role_why seen Made (λ a s. Why a) old new r (λ m n call. moved (λ x y. SaysNoMember (Some x) r ⊎ OfRole seen (Some x) Why) call.shows call.leaves (so call.shown call.left call.met)) is
+        role_why seen Made (λ a s. Why a) old new r (λ m n call. moved (λ x y. SaysNoParty (Some x) r ⊎ OfRole seen (Some x) Why) call.shows call.leaves (so call.shown call.left call.met)) is
 
-    pub role_seen : (R : T → Type 0) (old new : Option (Member P g)) (answer : A) → IsVisit Made old (Ok answer) new
-        → ((m n : MutBor (Member P g)) → h.post f (m, tt) (Ok answer, (n, tt)) → OfRole seen (Some m.now) R) → OfRole seen old R
+    pub role_seen : (R : T → Type 0) (old new : Option (Party P g)) (answer : A) → IsVisit Made old (Ok answer) new
+        → ((m n : MutBor (Party P g)) → h.post f (m, tt) (Ok answer, (n, tt)) → OfRole seen (Some m.now) R) → OfRole seen old R
     role_seen R old new answer is so =
         role_of seen Made R old new answer (λ m n call. moved (λ x y. OfRole seen (Some x) R) call.shows call.leaves (so call.shown call.left call.met)) is
 
@@ -138,22 +138,22 @@ module _ {F : Type 0} (h : Once F (MutBor Pause × Unit {0}) (Result (ℕ × ℕ
   heap_clears R old new word number is call e so =
       subst (λ w. IsSameHeap old new (λ o n. R o (cleared_of w number) n)) e (heap_made h f (λ o n. R o (cleared_of word number) n) old new (word, number) call so)
 
-module _ {P : Type 0} {g : Ghosts P} {T : Type 0} (seen : Member P g → P → T) {F A : Type 0} (h : Once F (MutBor (Member P g) × Unit {0}) (Result A Reason × (MutBor (Member P g) × Unit {0}))) (f : F) where
-  -- a member's call that is refused
-  pub role_not : (most : ℕ) (call : Called (Member P g)) (Untold Does : Type 0) (Why : T → Reason → Type 0) (r : Reason) → IsVisit (Made seen h f) call.old (Err r) call.new
+module _ {P : Type 0} {g : Ghosts P} {T : Type 0} (seen : Party P g → P → T) {F A : Type 0} (h : Once F (MutBor (Party P g) × Unit {0}) (Result A Reason × (MutBor (Party P g) × Unit {0}))) (f : F) where
+  -- a party's call that is refused
+  pub role_not : (most : ℕ) (call : Called (Party P g)) (Untold Does : Type 0) (Why : T → Reason → Type 0) (r : Reason) → IsVisit (Made seen h f) call.old (Err r) call.new
       → call.word ≡ refusal_word r → most < call.word → Untold
-      → ((m n : MutBor (Member P g)) → h.post f (m, tt) (Err r, (n, tt)) → SaysNoMember (Some m.now) r ⊎ OfRole seen (Some m.now) (λ s. Why s r))
-      → ((m n : MutBor (Member P g)) → h.post f (m, tt) (Err r, (n, tt)) → n.now ≡ m.now)
+      → ((m n : MutBor (Party P g)) → h.post f (m, tt) (Err r, (n, tt)) → SaysNoParty (Some m.now) r ⊎ OfRole seen (Some m.now) (λ s. Why s r))
+      → ((m n : MutBor (Party P g)) → h.post f (m, tt) (Err r, (n, tt)) → n.now ≡ m.now)
       → IsMadeOrRefused most call Untold Does (IsRoleRefused seen call.old Why)
   role_not most call Untold Does Why r is word above untold why kept =
       is_refused most call Untold Does (IsRoleRefused seen call.old Why) r word above untold (role_refused seen h f (λ s. Why s r) call.old call.new r is why) (role_same h f call.old call.new (Err r) is kept)
 
   -- a reader's question
-  pub role_answers : (R : A → T → Type 0) (Why : T → Reason → Type 0) (call : Called (Member P g)) (answer : Result A Reason) (told : A) (Untold : Type 0)
+  pub role_answers : (R : A → T → Type 0) (Why : T → Reason → Type 0) (call : Called (Party P g)) (answer : Result A Reason) (told : A) (Untold : Type 0)
       → IsVisit (Made seen h f) call.old answer call.new → Tells answer call.word told Untold
-      → ((a : A) (m n : MutBor (Member P g)) → h.post f (m, tt) (Ok a, (n, tt)) → OfRole seen (Some m.now) (λ s. R a s))
-      → ((r : Reason) (m n : MutBor (Member P g)) → h.post f (m, tt) (Err r, (n, tt)) → SaysNoMember (Some m.now) r ⊎ OfRole seen (Some m.now) (λ s. Why s r))
-      → ((r : Result A Reason) (m n : MutBor (Member P g)) → h.post f (m, tt) (r, (n, tt)) → n.now ≡ m.now)
+      → ((a : A) (m n : MutBor (Party P g)) → h.post f (m, tt) (Ok a, (n, tt)) → OfRole seen (Some m.now) (λ s. R a s))
+      → ((r : Reason) (m n : MutBor (Party P g)) → h.post f (m, tt) (Err r, (n, tt)) → SaysNoParty (Some m.now) r ⊎ OfRole seen (Some m.now) (λ s. Why s r))
+      → ((r : Result A Reason) (m n : MutBor (Party P g)) → h.post f (m, tt) (r, (n, tt)) → n.now ≡ m.now)
       → IsTold call told Untold (λ a. OfRole seen call.old (λ s. R a s)) (IsRoleRefused seen call.old Why)
   role_answers R Why call answer told Untold is tells so why same =
       answers call told Untold (λ a. OfRole seen call.old (λ s. R a s)) (IsRoleRefused seen call.old Why) answer tells

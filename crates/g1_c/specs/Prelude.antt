@@ -19,12 +19,12 @@ pub use Rattle.g1_handles.specs.Counting.{stored_as}
 pub use Rattle.g1_handles.specs.HeapCalls.{IsCalled, IsHeapRefused}
 pub use Rattle.g1_handles.specs.Lacks.{LacksCard, LacksPair, LacksPlace, LacksRanges, LacksRegion}
 pub use Rattle.g1_handles.specs.Lacks.{LacksRow, LacksSlot, LacksSomeRegion, SaysNoData, SaysNoMove}
-pub use Rattle.g1_handles.specs.Life.{HasNewMembers, IsCloseRefused, IsHeapOpenRefused, IsNewHeap}
+pub use Rattle.g1_handles.specs.Life.{HasNewParties, IsCloseRefused, IsHeapOpenRefused, IsNewHeap}
 pub use Rattle.g1_handles.specs.Life.{IsPauseRefused, IsResumeRefused, IsSameHeap, OfHeap, OfPaused}
 pub use Rattle.g1_handles.specs.Life.{SaysNoHeap, SaysNotPaused}
 pub use Rattle.g1_handles.specs.Phases.{AreOnlyItsOwn, AreOnlyItsReaders, BeginsReading}
 pub use Rattle.g1_handles.specs.Phases.{ComesToPause, EndsReading, HoldSame, Resumes}
-pub use Rattle.g1_handles.specs.Own.{RacerMember, ReaderMember}
+pub use Rattle.g1_handles.specs.Own.{RacerParty, ReaderParty}
 pub use Rattle.g1_handles.specs.Queries.{Checks, Finds, Overflows, TellsNextInto, TellsNextMember}
 pub use Rattle.g1_handles.specs.Queries.{TellsWord}
 pub use Rattle.g1_handles.specs.RaceStores.{Exchanges, FindsOther, IsFullAt, StoresAll, Swaps}
@@ -39,20 +39,20 @@ pub use Rattle.g1_handles.specs.Readers.{reader_layout, reading_in, ReadsPair, t
 pub use Rattle.g1_handles.specs.Refusals.{AreMembersRefused, AreStoresRefused, CanStore}
 pub use Rattle.g1_handles.specs.Refusals.{IsCallRefused, IsDrainRefused, IsOpenRefused}
 pub use Rattle.g1_handles.specs.Refusals.{IsRedirectRefused, IsRefinementRefused, IsRoleRefused}
-pub use Rattle.g1_handles.specs.Refusals.{IsSweepRefused, SaysNoMember, SaysNoStore, SaysNotOpen}
+pub use Rattle.g1_handles.specs.Refusals.{IsSweepRefused, SaysNoParty, SaysNoStore, SaysNotOpen}
 pub use Rattle.g1_handles.specs.Replies.{AreOnlyRead, ClearsTo, DrainsTo, FitIn, IsWritten}
 pub use Rattle.g1_handles.specs.Replies.{RedirectsTo, RefersTo, RefinesTo, reply_of, StoresTo}
 pub use Rattle.g1_handles.specs.Sets.{HasFirst}
 pub use Rattle.g1_handles.specs.declared.code.Reason.{Reason}
 pub use Rattle.g1_handles.specs.declared.heap.racing_heap.RacingHeap.{RacingHeap}
-pub use Rattle.g1_handles.specs.declared.member.Member.{Member}
-pub use Rattle.g1_handles.specs.declared.member.Role.{Ghosts}
+pub use Rattle.g1_handles.specs.declared.party.Party.{Party}
+pub use Rattle.g1_handles.specs.declared.party.Role.{Ghosts}
 pub use Rattle.g1_layout.specs.Shape.{slot_count}
 pub use Rattle.g1_layout.specs.declared.kind.Kind.{Kind}
 pub use Rattle.g1_race.specs.Calls.{ClearsAt, Copies, Forgets, Redirects, Refines, StoresAt}
 pub use Rattle.g1_race.specs.Calls.{StoresDataAt, Wipes}
 pub use Rattle.g1_race.specs.Evacuating.{IsRaceWith}
 pub use Rattle.g1_race.specs.Freeing.{FreesAt}
-pub use Rattle.g1_race.specs.Members.{race_layout, race_words}
+pub use Rattle.g1_race.specs.Parties.{race_layout, race_words}
 pub use Rattle.g1_race.specs.Over.{Pause, start_at, table_at}
 pub use Rattle.g1_race.specs.Reading.{IsNextPending}

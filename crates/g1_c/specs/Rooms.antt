@@ -1,7 +1,7 @@
 -- The calls on what each kind of handle holds.
 use Rattle.g1_c.specs.Prelude.{ℕ, Reason, Machine, Between, OfOpen, IsCallRefused, Pause}
 use Rattle.g1_c.specs.Prelude.{RacingHeap, IsSameHeap, IsHeapRefused, Racing, racing_in}
-use Rattle.g1_c.specs.Prelude.{RacerMember, OfRacer, ReaderAt, reading_in, ReaderMember, OfReader}
+use Rattle.g1_c.specs.Prelude.{RacerParty, OfRacer, ReaderAt, reading_in, ReaderParty, OfReader}
 use Rattle.g1_c.specs.Prelude.{IsRoleRefused}
 use Rattle.g1_c.specs.Calls.{Called, IsMadeOrRefused, IsTold}
 
@@ -19,7 +19,7 @@ OnHeap most call Untold Does Why =
     (IsHeapRefused call.old Why)
 
 -- a call by a racer
-abbrev pub OnRacer : ℕ → Called RacerMember → Type 0 → (Racing → Racing → Type 0)
+abbrev pub OnRacer : ℕ → Called RacerParty → Type 0 → (Racing → Racing → Type 0)
     → (Racing → Reason → Type 0) → Type 0
 OnRacer most call Untold Does Why =
     IsMadeOrRefused most call Untold (OfRacer call.old (λ a. OfRacer call.new (λ b. Does a b)))
@@ -39,7 +39,7 @@ ToldByHeap call told Untold Is Why =
     (IsHeapRefused call.old Why)
 
 -- a question to a reader
-abbrev pub ToldByReader : {A : Type 0} → Called ReaderMember → A → Type 0
+abbrev pub ToldByReader : {A : Type 0} → Called ReaderParty → A → Type 0
     → (A → ReaderAt → Type 0) → (ReaderAt → Reason → Type 0) → Type 0
 ToldByReader call told Untold Is Why =
     IsTold call told Untold (λ a. OfReader call.old (λ reader. Is a reader))

@@ -11,7 +11,7 @@
 //!
 //! - [`one_core`] has the calls on a core, for one thread at a time.
 //! - [`heap`] has the collector's calls on a heap whose stores race.
-//! - [`member`] has the calls of a racer, a sweeper or a reader.
+//! - [`party`] has the calls of a racer, a sweeper or a reader.
 //!
 //! A call returns a word below 8 if it was made, and else the word of a
 //! [`Reason`](g1_handles::code::Reason). Only `g1_heap_drain` has done something where it returns
@@ -28,6 +28,6 @@
 
 mod calling;
 pub mod heap;
-pub mod member;
 pub mod one_core;
+pub mod party;
 mod tell;

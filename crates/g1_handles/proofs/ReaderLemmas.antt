@@ -1,7 +1,7 @@
 -- Readers of a pause, behind their handles and in a list.
 use Rattle.std.specs.Prelude.{◌≡◌, ◌<◌}
-use Rattle.g1_handles.specs.{List, Some, None, All, map, sym, ap, subst, Option, IsSomeAnd, length-map, get_or-map, All-map, Race, race_id, race_layout, race_shape, Pause, ended, start_at, table_of, Known, known, ReaderMember, role_in, IsOf, IsReaderAt, AreReadersAt}
-use Rattle.g1_handles.proofs.MemberLemmas.{found}
+use Rattle.g1_handles.specs.{List, Some, None, All, map, sym, ap, subst, Option, IsSomeAnd, length-map, get_or-map, All-map, Race, race_id, race_layout, race_shape, Pause, ended, start_at, table_of, Known, known, ReaderParty, role_in, BelongsTo, IsReaderAt, AreReadersAt}
+use Rattle.g1_handles.proofs.PartyLemmas.{found}
 
 -- what every reader of the pause knows
 abbrev pub KnowsPause : Pause → Known → Type 0
@@ -17,17 +17,17 @@ at_pause race p r id laid is =
     record { knows = is; table = λ i. table_of (ended (laid i) (shape i) (is i).start.words) }
 
 -- handles that got readers of the pause, of this race, have such readers
-pub handed_out : (race : Race) (p : Pause) (ms : List (Option ReaderMember)) (roles : List Known) → race_id race ≡ (p.table_id, p.shape) → race_layout race ≡ p.layout
-    → map role_in ms ≡ map (λ r. Some r) roles → All (KnowsPause p) roles → All (IsOf race) ms → AreReadersAt race p ms
+pub handed_out : (race : Race) (p : Pause) (ms : List (Option ReaderParty)) (roles : List Known) → race_id race ≡ (p.table_id, p.shape) → race_layout race ≡ p.layout
+    → map role_in ms ≡ map (λ r. Some r) roles → All (KnowsPause p) roles → All (BelongsTo race) ms → AreReadersAt race p ms
 handed_out race p ms roles id laid is know of k d below =
     (of k d below, weaker (KnowsPause p) (IsReaderAt race p) _ (λ r knows. at_pause race p r id laid knows) (found role_in (KnowsPause p) ms roles is know k d below))
 
 -- readers of the pause are of its race
-pub all_of_race : (race : Race) (p : Pause) (ms : List (Option ReaderMember)) → AreReadersAt race p ms → All (IsOf race) ms
+pub all_of_race : (race : Race) (p : Pause) (ms : List (Option ReaderParty)) → AreReadersAt race p ms → All (BelongsTo race) ms
 all_of_race race p ms all k d below = (all k d below).0
 
 -- and know what it has
-pub all_know : (race : Race) (p : Pause) (ms : List (Option ReaderMember)) (roles : List Known) → map (λ r. Some r) roles ≡ map role_in ms
+pub all_know : (race : Race) (p : Pause) (ms : List (Option ReaderParty)) (roles : List Known) → map (λ r. Some r) roles ≡ map role_in ms
     → AreReadersAt race p ms → All (KnowsPause p) roles
 all_know race p ms roles is all k d below =
     let has : All (λ o. IsSomeAnd o (KnowsPause p)) (map role_in ms) = All-map (λ o. IsSomeAnd o (KnowsPause p)) role_in ms (λ k d below. weaker (IsReaderAt race p) (KnowsPause p) _ (λ r at. at.knows) (all k d below).1) in

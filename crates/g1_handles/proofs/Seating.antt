@@ -1,4 +1,4 @@
--- Members that leave the boxes that waited for them, the last first.
+-- Parties that leave the boxes that waited for them, the last first.
 use Rattle.std.specs.Prelude.{◌≡◌, ◌<◌, ◌-◌, ◌∷◌, ◌++◌, IsPermutation}
 use Rattle.g1_handles.specs.{drop, ℕ, suc, List, [], Some, length, map, set, take, slice_index_or, ap, ◌∙◌, sym, subst, arith, get_or-take, get_or-set_same, length-set, take-suc, map-append}
 use Rattle.std.proofs.Common.{drop-cons, drop-set-lt}

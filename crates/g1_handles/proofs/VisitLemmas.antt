@@ -1,6 +1,6 @@
 -- What a call on what a handle holds says once its result is known.
 use Rattle.std.specs.Prelude.{◌≡◌}
-use Rattle.g1_handles.specs.{ap, sym, subst, inl, refl, Option, Some, None, Result, Ok, Err, Reason, Ghosts, Member, OfRole, IsRoleRefused, IsVisit}
+use Rattle.g1_handles.specs.{ap, sym, subst, inl, refl, Option, Some, None, Result, Ok, Err, Reason, Ghosts, Party, OfRole, IsRoleRefused, IsVisit}
 use Rattle.g1_handles.specs.declared.code.Reason.TheVariants as refusal
 
 abbrev pub is_ok : {A : Type 0} → Result A Reason → Type 0
@@ -37,17 +37,17 @@ module _ {V A : Type 0} (Q : V → Result A Reason → V → Type 0) where
       → ((p q : V) → Q p r q → q ≡ p) → IsVisit Q old r new → new ≡ old
   visit_same old new r so = visit_by (λ o n. n ≡ o) old new r (λ e. refl) (λ p q is. ap (λ x. Some x) (so p q is))
 
-module _ {P : Type 0} {g : Ghosts P} {T A : Type 0} (seen : Member P g → P → T) (Q : Member P g → Result A Reason → Member P g → Type 0) where
+module _ {P : Type 0} {g : Ghosts P} {T A : Type 0} (seen : Party P g → P → T) (Q : Party P g → Result A Reason → Party P g → Type 0) where
   -- the same of the racer, the sweeper or the reader of a handle
-  pub role_ok : (R : T → T → Type 0) (old new : Option (Member P g)) (answer : A)
-      → ((m n : Member P g) → Q m (Ok answer) n → OfRole seen (Some m) (λ a. OfRole seen (Some n) (λ b. R a b)))
+  pub role_ok : (R : T → T → Type 0) (old new : Option (Party P g)) (answer : A)
+      → ((m n : Party P g) → Q m (Ok answer) n → OfRole seen (Some m) (λ a. OfRole seen (Some n) (λ b. R a b)))
       → IsVisit Q old (Ok answer) new → OfRole seen old (λ a. OfRole seen new (λ b. R a b))
   role_ok R = visit_with Q (λ o n. OfRole seen o (λ a. OfRole seen n (λ b. R a b)))
 
-  pub role_of : (R : T → Type 0) (old new : Option (Member P g)) (answer : A)
-      → ((m n : Member P g) → Q m (Ok answer) n → OfRole seen (Some m) R) → IsVisit Q old (Ok answer) new → OfRole seen old R
+  pub role_of : (R : T → Type 0) (old new : Option (Party P g)) (answer : A)
+      → ((m n : Party P g) → Q m (Ok answer) n → OfRole seen (Some m) R) → IsVisit Q old (Ok answer) new → OfRole seen old R
   role_of R = visit_with Q (λ o _. OfRole seen o R)
 
-  pub role_why : (Why : T → Reason → Type 0) (old new : Option (Member P g)) (r : Reason)
-      → ((m n : Member P g) → Q m (Err r) n → IsRoleRefused seen (Some m) Why r) → IsVisit Q old (Err r) new → IsRoleRefused seen old Why r
+  pub role_why : (Why : T → Reason → Type 0) (old new : Option (Party P g)) (r : Reason)
+      → ((m n : Party P g) → Q m (Err r) n → IsRoleRefused seen (Some m) Why r) → IsVisit Q old (Err r) new → IsRoleRefused seen old Why r
   role_why Why old new r = visit_by Q (λ o _. IsRoleRefused seen o Why r) old new (Err r) (λ e. inl (ap (err_of r) e, refl))

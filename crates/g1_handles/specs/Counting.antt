@@ -3,12 +3,12 @@ use Rattle.std.specs.Prelude.{◌≡◌, ◌<◌, ◌∷◌, if◌then◌else◌
 use Rattle.g1_handles.specs.Prelude.{ℕ, Bool, List, [], length, slice_index_or}
 use Rattle.g1_handles.specs.Prelude.{slice_set, Kind}
 use Rattle.g1_handles.specs.Codes.{kind_word}
-use Rattle.g1_handles.specs.declared.member.counts.MemberCounts.{MemberCounts}
-use Rattle.g1_handles.specs.declared.member.counts.StoreCounts.{StoreCounts}
-use Rattle.g1_handles.specs.declared.member.counts.SweepCounts.{SweepCounts}
+use Rattle.g1_handles.specs.declared.party.counts.PartyCounts.{PartyCounts}
+use Rattle.g1_handles.specs.declared.party.counts.StoreCounts.{StoreCounts}
+use Rattle.g1_handles.specs.declared.party.counts.SweepCounts.{SweepCounts}
 
--- the counts of a member of this number that has done nothing
-abbrev pub no_counts : ℕ → MemberCounts
+-- the counts of a party of this number that has done nothing
+abbrev pub no_counts : ℕ → PartyCounts
 no_counts n = record {
   number = n;
   stores = record { by_kind = 0 ∷ 0 ∷ 0 ∷ 0 ∷ [] };
@@ -35,12 +35,12 @@ and_swept c was_dirty references = record {
   references = (c.references + references) % 2 ^ 64;
 }
 
--- the same of all that a member has counted
-abbrev pub with_store : MemberCounts → Kind → MemberCounts
+-- the same of all that a party has counted
+abbrev pub with_store : PartyCounts → Kind → PartyCounts
 with_store c k =
     record { number = c.number; stores = one_more_of c.stores k; sweeps = c.sweeps }
 
-abbrev pub with_refined_card : MemberCounts → Bool → ℕ → MemberCounts
+abbrev pub with_refined_card : PartyCounts → Bool → ℕ → PartyCounts
 with_refined_card c was_dirty references = record {
   number = c.number;
   stores = c.stores;
@@ -48,6 +48,6 @@ with_refined_card c was_dirty references = record {
 }
 
 -- each of these has counted nothing, and has its index as number
-abbrev pub AreNew : List MemberCounts → Type 0
-AreNew counts = (i : ℕ) (c : MemberCounts) → i < length counts
+abbrev pub AreNew : List PartyCounts → Type 0
+AreNew counts = (i : ℕ) (c : PartyCounts) → i < length counts
     → slice_index_or counts i c ≡ no_counts i

@@ -43,11 +43,11 @@ pub use declared.heap.racing_heap.RacingHeap.{RacingHeap}
 pub use declared.heap.racing_heap.UnderWay.{UnderWay}
 pub use declared.heap.sets.SetTold.{SetTold}
 pub use declared.heap.sets.SetTold.TheVariants.{First}
-pub use declared.member.Member.{Member}
-pub use declared.member.Role.{Ghosts}
-pub use declared.member.batch.BatchEnd.{BatchEnd}
-pub use declared.member.batch.BatchEnd.TheVariants.{Full, Stopped, Whole}
-pub use declared.member.counts.MemberCounts.{MemberCounts}
+pub use declared.party.Party.{Party}
+pub use declared.party.Role.{Ghosts}
+pub use declared.party.batch.BatchEnd.{BatchEnd}
+pub use declared.party.batch.BatchEnd.TheVariants.{Full, Stopped, Whole}
+pub use declared.party.counts.PartyCounts.{PartyCounts}
 pub use declared.one_core.batch.Store.{Store}
 pub use declared.one_core.members.Listed.{Listed}
 pub use declared.one_core.members.Listed.TheVariants.{Members, NoRoom}

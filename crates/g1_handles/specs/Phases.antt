@@ -6,23 +6,23 @@ use Rattle.g1_handles.specs.declared.heap.racing_heap.RacingHeap.{RacingHeap}
 use Rattle.g1_handles.specs.declared.handles.RacerHandle.{RacerHandle}
 use Rattle.g1_handles.specs.declared.handles.ReaderHandle.{ReaderHandle}
 use Rattle.g1_handles.specs.declared.handles.SweeperHandle.{SweeperHandle}
-use Rattle.g1_handles.specs.Life.{OfHeap, OfPaused, OfRacing, IsFor, AreLikeOf, AreOfHeap, log_in}
+use Rattle.g1_handles.specs.Life.{OfHeap, OfPaused, OfRacing, HasParties, MayBelong, Belong, log_in}
 use Rattle.g1_handles.specs.Life.{GoesOn, heap_race, heap_counts, held_counts, idle_counts}
 use Rattle.g1_handles.specs.Racing.{AreClosed, racer_knows, sweeper_knows, counts_of}
 use Rattle.g1_handles.specs.Racing.{held_racers, held_readers, held_sweepers}
-use Rattle.g1_handles.specs.Readers.{AreReadersAt, AreReadersLike, AreReadersOf, IsLentHeap}
+use Rattle.g1_handles.specs.Readers.{AreReadersAt, ReadersMayBelong, ReadersBelong, IsLentHeap}
 use Rattle.g1_handles.specs.Readers.{IsReadBy}
 
--- Members that are as many as the heap's, of races with as many members, are of its race.
+-- Parties that are as many as the heap's, of races with as many parties, are of its race.
 abbrev pub AreOnlyItsOwn : Option RacingHeap → List RacerHandle → List SweeperHandle → Type 0
-AreOnlyItsOwn heap racers sweepers = IsFor heap (length racers) (length sweepers)
-    → AreLikeOf heap (held_racers racers) (held_sweepers sweepers)
-    → AreOfHeap heap (held_racers racers) (held_sweepers sweepers)
+AreOnlyItsOwn heap racers sweepers = HasParties heap (length racers) (length sweepers)
+    → MayBelong heap (held_racers racers) (held_sweepers sweepers)
+    → Belong heap (held_racers racers) (held_sweepers sweepers)
 
 -- The same of readers.
 abbrev pub AreOnlyItsReaders : Option RacingHeap → List ReaderHandle → Type 0
 AreOnlyItsReaders heap readers = IsReadBy heap (length readers)
-    → AreReadersLike heap (held_readers readers) → AreReadersOf heap (held_readers readers)
+    → ReadersMayBelong heap (held_readers readers) → ReadersBelong heap (held_readers readers)
 
 -- These handles hold what they held.
 abbrev pub HoldSame : List RacerHandle → List RacerHandle → List SweeperHandle → List SweeperHandle
@@ -30,7 +30,7 @@ abbrev pub HoldSame : List RacerHandle → List RacerHandle → List SweeperHand
 HoldSame rs rs' ss ss' =
     (held_racers rs' ≡ held_racers rs) × (held_sweepers ss' ≡ held_sweepers ss)
 
--- The race of the heap comes to a pause: all its members, as many racers and sweepers, were behind
+-- The race of the heap comes to a pause: all its parties, as many racers and sweepers, were behind
 -- these handles, which are closed.
 pub record ComesToPause (old new : Option RacingHeap) (rs rs' : List RacerHandle)
     (ss ss' : List SweeperHandle) : Type 0 where
@@ -40,11 +40,11 @@ pub record ComesToPause (old new : Option RacingHeap) (rs rs' : List RacerHandle
   pub race : heap_race new ≡ heap_race old
   pub counts : heap_counts new ≡ held_counts (held_racers rs) (held_sweepers ss)
   pub idle : idle_counts new ≡ idle_counts old
-  pub members : IsFor old (length rs) (length ss) × IsFor new (length rs) (length ss)
-  pub like : AreLikeOf old (held_racers rs) (held_sweepers ss)
+  pub parties : HasParties old (length rs) (length ss) × HasParties new (length rs) (length ss)
+  pub like : MayBelong old (held_racers rs) (held_sweepers ss)
   pub closed : AreClosed (held_racers rs') × AreClosed (held_sweepers ss')
 
--- The race goes on as the pause left it, with all its members behind these handles, which were
+-- The race goes on as the pause left it, with all its parties behind these handles, which were
 -- closed.
 pub record Resumes (old new : Option RacingHeap) (rs rs' : List RacerHandle)
     (ss ss' : List SweeperHandle) : Type 0 where
@@ -53,7 +53,7 @@ pub record Resumes (old new : Option RacingHeap) (rs rs' : List RacerHandle)
   pub race : heap_race new ≡ heap_race old
   pub counts : held_counts (held_racers rs') (held_sweepers ss') ≡ heap_counts old
   pub idle : idle_counts new ≡ idle_counts old
-  pub members : IsFor old (length rs) (length ss) × IsFor new (length rs) (length ss)
+  pub parties : HasParties old (length rs) (length ss) × HasParties new (length rs) (length ss)
   pub closed : AreClosed (held_racers rs) × AreClosed (held_sweepers ss)
 
 -- As many readers read the pause, from behind these handles, which were closed.
@@ -73,5 +73,5 @@ pub record EndsReading (old new : Option RacingHeap) (rs rs' : List ReaderHandle
   pub count : IsReadBy old (length rs)
   pub counts : IsPermutation (idle_counts new)
       (map counts_of (held_readers rs) ++ idle_counts old)
-  pub like : AreReadersLike old (held_readers rs)
+  pub like : ReadersMayBelong old (held_readers rs)
   pub closed : AreClosed (held_readers rs')

@@ -73,12 +73,12 @@ pub use Rattle.g1_race.specs.CollectionSet.{IsNextInto}
 pub use Rattle.g1_race.specs.Evacuating.{forgotten, IsExactAtPause, IsRaceWith, IsSameRace}
 pub use Rattle.g1_race.specs.Evacuating.{one_word, SlotsBecome, wiped}
 pub use Rattle.g1_race.specs.Freeing.{FreesAt}
-pub use Rattle.g1_race.specs.Members.{HasCleaned, HasDiffered, HasNotStored, HasOverwritten}
-pub use Rattle.g1_race.specs.Members.{HasStored}
-pub use Rattle.g1_race.specs.Members.{is_logged, IsKind, IsNewRacer, IsNewSweeper, IsPauseOf}
-pub use Rattle.g1_race.specs.Members.{race_id, race_layout, race_shape, race_words, racer_log}
-pub use Rattle.g1_race.specs.Members.{racer_race, racer_view, sweeper_race, sweeper_start}
-pub use Rattle.g1_race.specs.Members.{sweeper_view}
+pub use Rattle.g1_race.specs.Parties.{HasCleaned, HasDiffered, HasNotStored, HasOverwritten}
+pub use Rattle.g1_race.specs.Parties.{HasStored}
+pub use Rattle.g1_race.specs.Parties.{is_logged, IsKind, IsNewRacer, IsNewSweeper, IsPauseOf}
+pub use Rattle.g1_race.specs.Parties.{race_id, race_layout, race_shape, race_words, racer_log}
+pub use Rattle.g1_race.specs.Parties.{racer_race, racer_view, sweeper_race, sweeper_start}
+pub use Rattle.g1_race.specs.Parties.{sweeper_view}
 pub use Rattle.g1_race.specs.Over.{ended, Pause, start_at, table_at, table_of}
 pub use Rattle.g1_race.specs.Race.{stored_view, word_of}
 pub use Rattle.g1_race.specs.Reading.{IsNextMember, IsNextPending, IsReaderOf, Known, known}

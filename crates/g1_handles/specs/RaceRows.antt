@@ -4,7 +4,7 @@ use Rattle.g1_handles.specs.Prelude.{ℕ, List, [], length, take, slice_index_or
 use Rattle.g1_handles.specs.Prelude.{Option, array_vec_len, Kind, Race, Racer, crosses}
 use Rattle.g1_handles.specs.Prelude.{race_layout, race_shape}
 use Rattle.g1_handles.specs.declared.code.Reason.{Reason}
-use Rattle.g1_handles.specs.Own.{RacerMember}
+use Rattle.g1_handles.specs.Own.{RacerParty}
 use Rattle.g1_handles.specs.Lacks.{IsRow, LacksRow}
 use Rattle.g1_handles.specs.Racing.{Racing}
 use Rattle.g1_handles.specs.RaceWords.{CanStoreWord, SwapsWord}
@@ -35,5 +35,5 @@ pub record StoresRow (a : Racing) (p : ℕ) (words : List ℕ) (count : ℕ) (b 
   pub end : (count ≡ length words) ⊎ IsRowFullAt a.race p words count b.racer
 
 -- a store of the words into the slots from this one on, by the racer of a handle
-abbrev pub IsRowRefused : Option RacerMember → ℕ → List ℕ → Reason → Type 0
+abbrev pub IsRowRefused : Option RacerParty → ℕ → List ℕ → Reason → Type 0
 IsRowRefused m slot words = IsRacerRefused m (λ a. LacksRow (race_layout a.race) slot words)

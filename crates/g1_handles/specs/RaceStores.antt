@@ -9,11 +9,11 @@ use Rattle.g1_handles.specs.declared.one_core.batch.Store.{Store}
 use Rattle.g1_handles.specs.Counting.{with_store}
 use Rattle.g1_handles.specs.Racing.{Racing, Stores}
 use Rattle.g1_handles.specs.Refusals.{CanStore}
-use Rattle.g1_handles.specs.declared.member.batch.BatchEnd.{BatchEnd}
-use Rattle.g1_handles.specs.declared.member.batch.BatchEnd.TheVariants.{Whole, Stopped, Full}
-use Rattle.g1_handles.specs.declared.member.batch.RaceBatch.{RaceBatch}
-use Rattle.g1_handles.specs.declared.member.exchange.Exchange.{Exchange}
-use Rattle.g1_handles.specs.declared.member.exchange.Exchange.TheVariants as exchange
+use Rattle.g1_handles.specs.declared.party.batch.BatchEnd.{BatchEnd}
+use Rattle.g1_handles.specs.declared.party.batch.BatchEnd.TheVariants.{Whole, Stopped, Full}
+use Rattle.g1_handles.specs.declared.party.batch.RaceBatch.{RaceBatch}
+use Rattle.g1_handles.specs.declared.party.exchange.Exchange.{Exchange}
+use Rattle.g1_handles.specs.declared.party.exchange.Exchange.TheVariants as exchange
 use Rattle.g1_handles.specs.Batch.{IsFaultAt}
 use Rattle.g1_handles.specs.Codes.{reference_of}
 

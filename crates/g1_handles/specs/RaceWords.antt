@@ -6,7 +6,7 @@ use Rattle.g1_handles.specs.Prelude.{race_layout, race_shape, racer_view}
 use Rattle.g1_race.specs.Exchanging.{HasStoredWord, HasOtherWord, HasRoomToStore}
 use Rattle.g1_handles.specs.declared.code.Reason.{Reason}
 use Rattle.g1_handles.specs.declared.code.Reason.TheVariants as refusal
-use Rattle.g1_handles.specs.Own.{RacerMember}
+use Rattle.g1_handles.specs.Own.{RacerParty}
 use Rattle.g1_handles.specs.Counting.{with_store}
 use Rattle.g1_handles.specs.Racing.{Racing}
 use Rattle.g1_handles.specs.Lacks.{LacksSlot}
@@ -58,12 +58,12 @@ SaysNoWordStore race racer slot word r = LacksWordPlace race slot word r
     ⊎ (IsWordFor race slot word × SaysFullLog race racer slot word r)
 
 -- a store of the word into the slot by the racer of a handle
-abbrev pub IsSwapWordRefused : Option RacerMember → ℕ → ℕ → Reason → Type 0
+abbrev pub IsSwapWordRefused : Option RacerParty → ℕ → ℕ → Reason → Type 0
 IsSwapWordRefused m slot word =
     IsRacerRefused m (λ a. SaysNoWordStore a.race a.racer slot word)
 
 -- the same where the word that is expected is a word of the heap too
-abbrev pub IsExchangeWordRefused : Option RacerMember → ℕ → ℕ → ℕ → Reason → Type 0
+abbrev pub IsExchangeWordRefused : Option RacerParty → ℕ → ℕ → ℕ → Reason → Type 0
 IsExchangeWordRefused m slot expected word =
     IsRacerRefused m (λ a r. SaysNoWordStore a.race a.racer slot word r
     ⊎ SaysBadWord a.race expected r)

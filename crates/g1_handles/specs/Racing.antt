@@ -1,4 +1,4 @@
--- What the calls on the members of a race do.
+-- What the calls on the parties of a race do.
 use Rattle.std.specs.Prelude.{◌≡◌, ◌≤◌, ◌^◌, ◌∷◌, if◌then◌else◌, ◌+◌}
 use Rattle.g1_handles.specs.Prelude.{ℕ, List, [], map, All}
 use Rattle.g1_handles.specs.Prelude.{Option, Some, None, IsSome, IsSomeAnd, false, Bool}
@@ -6,49 +6,49 @@ use Rattle.g1_handles.specs.Prelude.{length, arc_value, Kind, Null, Race, Racer,
 use Rattle.g1_handles.specs.Prelude.{IsWord, IsFound, HasStored, stored_view, race_shape}
 use Rattle.g1_handles.specs.Prelude.{racer_view, sweeper_start, sweeper_view, HasCleaned}
 use Rattle.g1_race_words.specs.Steps.{no_seat}
-use Rattle.g1_handles.specs.declared.member.Role.{Ghosts}
-use Rattle.g1_handles.specs.declared.member.Member.{Member}
+use Rattle.g1_handles.specs.declared.party.Role.{Ghosts}
+use Rattle.g1_handles.specs.declared.party.Party.{Party}
 use Rattle.g1_handles.specs.declared.handles.RacerHandle.{RacerHandle}
-use Rattle.g1_handles.specs.declared.member.counts.MemberCounts.{MemberCounts}
+use Rattle.g1_handles.specs.declared.party.counts.PartyCounts.{PartyCounts}
 use Rattle.g1_handles.specs.declared.handles.SweeperHandle.{SweeperHandle}
 use Rattle.g1_handles.specs.declared.handles.ReaderHandle.{ReaderHandle}
-use Rattle.g1_handles.specs.Own.{RacerMember, SweeperMember, ReaderMember}
+use Rattle.g1_handles.specs.Own.{RacerParty, SweeperParty, ReaderParty}
 use Rattle.g1_handles.specs.Counting.{no_counts, with_store, with_refined_card}
 
 -- a racer with its race, and what it has counted
 pub record Racing : Type 0 where
   pub race : Race
   pub racer : Racer
-  pub counts : MemberCounts
+  pub counts : PartyCounts
 
 -- a sweeper with its race, and what it has counted
 pub record Sweeping : Type 0 where
   pub race : Race
   pub sweeper : Sweeper
-  pub counts : MemberCounts
+  pub counts : PartyCounts
 
-abbrev pub racing : Race → Racer → MemberCounts → Racing
+abbrev pub racing : Race → Racer → PartyCounts → Racing
 racing race racer counts = record { race = race; racer = racer; counts = counts }
 
-abbrev pub racing_in : RacerMember → Racer → Racing
+abbrev pub racing_in : RacerParty → Racer → Racing
 racing_in m racer = racing (arc_value m.race) racer m.counts
 
-abbrev pub sweeping_in : SweeperMember → Sweeper → Sweeping
+abbrev pub sweeping_in : SweeperParty → Sweeper → Sweeping
 sweeping_in m sweeper =
     record { race = arc_value m.race; sweeper = sweeper; counts = m.counts }
 
-module _ {P : Type 0} {g : Ghosts P} {T : Type 0} (seen : Member P g → P → T) where
+module _ {P : Type 0} {g : Ghosts P} {T : Type 0} (seen : Party P g → P → T) where
   -- the handle has a racer, a sweeper or a reader, and what is seen of it is so
-  abbrev pub OfRole : Option (Member P g) → (T → Type 0) → Type 0
+  abbrev pub OfRole : Option (Party P g) → (T → Type 0) → Type 0
   OfRole None Q = ⊥
   OfRole (Some m) Q = IsSomeAnd m.role (λ p. Q (seen m p))
 
 -- the handle has a racer, and it is so of it
-abbrev pub OfRacer : Option RacerMember → (Racing → Type 0) → Type 0
+abbrev pub OfRacer : Option RacerParty → (Racing → Type 0) → Type 0
 OfRacer m Q = OfRole racing_in m Q
 
 -- the handle has a sweeper, and it is so of it
-abbrev pub OfSweeper : Option SweeperMember → (Sweeping → Type 0) → Type 0
+abbrev pub OfSweeper : Option SweeperParty → (Sweeping → Type 0) → Type 0
 OfSweeper m Q = OfRole sweeping_in m Q
 
 -- a racer before and after a store of the place t to slot p
@@ -93,13 +93,13 @@ pub record Sweeps (a : Sweeping) (card : ℕ) (b : Sweeping) : Type 0 where
   pub counts : b.counts ≡ with_refined_card a.counts was_dirty references
 
 -- what the handles hold
-abbrev pub held_racers : List RacerHandle → List (Option RacerMember)
+abbrev pub held_racers : List RacerHandle → List (Option RacerParty)
 held_racers hs = map (λ h. h.value) hs
 
-abbrev pub held_sweepers : List SweeperHandle → List (Option SweeperMember)
+abbrev pub held_sweepers : List SweeperHandle → List (Option SweeperParty)
 held_sweepers hs = map (λ h. h.value) hs
 
-abbrev pub held_readers : List ReaderHandle → List (Option ReaderMember)
+abbrev pub held_readers : List ReaderHandle → List (Option ReaderParty)
 held_readers hs = map (λ h. h.value) hs
 
 -- what this racer or sweeper knows
@@ -113,31 +113,31 @@ AreClosed values = All (λ v. v ≡ None) values
 
 module _ {P : Type 0} {g : Ghosts P} where
   -- the racer, the sweeper or the reader behind a handle, if there is one
-  abbrev pub role_in : Option (Member P g) → Option P
+  abbrev pub role_in : Option (Party P g) → Option P
   role_in None = None
   role_in (Some m) = m.role
 
-  -- what the member behind a handle has counted
-  abbrev pub counts_of : Option (Member P g) → MemberCounts
+  -- what the party behind a handle has counted
+  abbrev pub counts_of : Option (Party P g) → PartyCounts
   counts_of None = no_counts 0
   counts_of (Some m) = m.counts
 
-  -- the handle has a member with its role, whose race has this many members
-  abbrev pub IsAmong : ℕ → Option (Member P g) → Type 0
-  IsAmong members m =
-      IsSomeAnd m (λ x. IsSome x.role × ((race_shape (arc_value x.race)).members ≡ members))
+  -- the handle has a party with its role, whose race has this many parties
+  abbrev pub TakesPart : ℕ → Option (Party P g) → Type 0
+  TakesPart parties m =
+      IsSomeAnd m (λ x. IsSome x.role × ((race_shape (arc_value x.race)).parties ≡ parties))
 
-  -- the handle's member is of this race
-  abbrev pub IsOf : Race → Option (Member P g) → Type 0
-  IsOf race m = IsSomeAnd m (λ x. arc_value x.race ≡ race)
+  -- the handle's party is of this race
+  abbrev pub BelongsTo : Race → Option (Party P g) → Type 0
+  BelongsTo race m = IsSomeAnd m (λ x. arc_value x.race ≡ race)
 
   -- the same, and it has its role, of which this holds
-  abbrev pub IsOfWith : Race → (P → Type 0) → Option (Member P g) → Type 0
-  IsOfWith race Q m = IsOf race m × IsSomeAnd (role_in m) Q
+  abbrev pub BelongsAs : Race → (P → Type 0) → Option (Party P g) → Type 0
+  BelongsAs race Q m = BelongsTo race m × IsSomeAnd (role_in m) Q
 
 -- what the racer or the sweeper behind a handle knows
-abbrev pub racer_knows : Option RacerMember → View
+abbrev pub racer_knows : Option RacerParty → View
 racer_knows m = role_view racer_view (role_in m)
 
-abbrev pub sweeper_knows : Option SweeperMember → View
+abbrev pub sweeper_knows : Option SweeperParty → View
 sweeper_knows m = role_view sweeper_view (role_in m)

@@ -9,22 +9,22 @@ use Rattle.g1_handles.specs.declared.code.Reason.TheVariants as refusal
 use Rattle.g1_handles.specs.declared.heap.racing_heap.AtPause.{AtPause}
 use Rattle.g1_handles.specs.declared.heap.racing_heap.BeingRead.{BeingRead}
 use Rattle.g1_handles.specs.declared.heap.racing_heap.RacingHeap.{RacingHeap}
-use Rattle.g1_handles.specs.Own.{ReaderMember}
+use Rattle.g1_handles.specs.Own.{ReaderParty}
 use Rattle.g1_handles.specs.Life.{OfPaused, OfRead, HasRacers, HasReaders, SaysNoHeap}
-use Rattle.g1_handles.specs.Life.{SaysNotPaused, AreFor, OfAtPause, boxed_counts}
-use Rattle.g1_handles.specs.Racing.{OfRole, AreClosed, IsAmong, IsOfWith}
-use Rattle.g1_handles.specs.Refusals.{SaysNoMember, IsRoleRefused}
+use Rattle.g1_handles.specs.Life.{SaysNotPaused, FillRoom, OfAtPause, boxed_counts}
+use Rattle.g1_handles.specs.Racing.{OfRole, AreClosed, TakesPart, BelongsAs}
+use Rattle.g1_handles.specs.Refusals.{SaysNoParty, IsRoleRefused}
 
 -- a reader with its race
 pub record ReaderAt : Type 0 where
   pub race : Race
   pub reader : Known
 
-abbrev pub reading_in : ReaderMember → Known → ReaderAt
+abbrev pub reading_in : ReaderParty → Known → ReaderAt
 reading_in m reader = record { race = arc_value m.race; reader = reader }
 
 -- the handle has a reader, and it is so of it
-abbrev pub OfReader : Option ReaderMember → (ReaderAt → Type 0) → Type 0
+abbrev pub OfReader : Option ReaderParty → (ReaderAt → Type 0) → Type 0
 OfReader m Q = OfRole reading_in m Q
 
 -- how the heap that a reader reads is laid out
@@ -41,8 +41,8 @@ pub record IsReaderAt (race : Race) (p : Pause) (r : Known) : Type 0 where
   pub table : table_read race r ≡ table_at p
 
 -- the handles are of readers of this race at this pause
-abbrev pub AreReadersAt : Race → Pause → List (Option ReaderMember) → Type 0
-AreReadersAt race p readers = All (IsOfWith race (IsReaderAt race p)) readers
+abbrev pub AreReadersAt : Race → Pause → List (Option ReaderParty) → Type 0
+AreReadersAt race p readers = All (BelongsAs race (IsReaderAt race p)) readers
 
 -- a heap at a pause, and the same while readers read it
 pub record IsLentPause (a : AtPause) (b : BeingRead) : Type 0 where
@@ -58,7 +58,7 @@ IsLentHeap old read = OfAtPause old (λ a. OfRead read (IsLentPause a))
 -- the heap is read by this many readers, which are not in their handles
 pub record AreOut (count : ℕ) (b : BeingRead) : Type 0 where
   pub counted : b.readers.out.count ≡ count
-  pub boxes : AreFor (arc_value b.race) count b.readers.out.boxes b.readers.out.roles
+  pub boxes : FillRoom (arc_value b.race) count b.readers.out.boxes b.readers.out.roles
   pub readers : All (IsReaderOf b.reading) b.readers.out.roles.items
 
 -- of the readers of a heap at a pause each is out or in no handle, by its number
@@ -71,31 +71,31 @@ abbrev pub IsReadBy : Option RacingHeap → ℕ → Type 0
 IsReadBy h count = OfRead h (λ b. count ≡ b.readers.out.count)
 
 -- the handles are of readers that read the heap
-abbrev pub AreReadersOf : Option RacingHeap → List (Option ReaderMember) → Type 0
-AreReadersOf h readers = OfRead h (λ b. AreReadersAt (arc_value b.race) b.reading.pause readers)
+abbrev pub ReadersBelong : Option RacingHeap → List (Option ReaderParty) → Type 0
+ReadersBelong h readers = OfRead h (λ b. AreReadersAt (arc_value b.race) b.reading.pause readers)
 
--- these readers are of races with as many members as that of the heap
-abbrev pub AreReadersLike : Option RacingHeap → List (Option ReaderMember) → Type 0
-AreReadersLike h readers =
-    OfRead h (λ b. All (IsAmong (race_shape (arc_value b.race)).members) readers)
+-- these readers are of races with as many parties as that of the heap
+abbrev pub ReadersMayBelong : Option RacingHeap → List (Option ReaderParty) → Type 0
+ReadersMayBelong h readers =
+    OfRead h (λ b. All (TakesPart (race_shape (arc_value b.race)).parties) readers)
 
 -- the heap of the first handle is to be read by readers in these handles
-abbrev pub IsReadRefused : Option RacingHeap → List (Option ReaderMember) → Reason → Type 0
+abbrev pub IsReadRefused : Option RacingHeap → List (Option ReaderParty) → Reason → Type 0
 IsReadRefused h readers r =
     SaysNoHeap h r ⊎ SaysNotPaused h r
-    ⊎ ((r ≡ refusal.BadHandles) × OfPaused h (λ p. p.shape.members < length readers))
+    ⊎ ((r ≡ refusal.BadHandles) × OfPaused h (λ p. p.shape.parties < length readers))
     ⊎ ((r ≡ refusal.AlreadyOpen) × (AreClosed readers → ⊥))
 
 -- the readers of these handles are to end their reading of the heap; whether they are of its race,
 -- each given once, is found out by counts, of which no proof knows, if as many read it
-abbrev pub IsReadEndRefused : Option RacingHeap → List (Option ReaderMember) → Reason → Type 0
+abbrev pub IsReadEndRefused : Option RacingHeap → List (Option ReaderParty) → Reason → Type 0
 IsReadEndRefused h readers r =
     SaysNoHeap h r
     ⊎ ((r ≡ refusal.NotPaused) × HasRacers h)
     ⊎ ((r ≡ refusal.BadHandles) × (OfPaused h (λ p. Unit {0}) ⊎ HasReaders h)
     × (IsReadBy h (length readers) → ⊥))
     ⊎ (IsReadBy h (length readers)
-    × (Any (λ m. SaysNoMember m r) readers ⊎ (r ≡ refusal.OtherRace)))
+    × (Any (λ m. SaysNoParty m r) readers ⊎ (r ≡ refusal.OtherRace)))
 
 -- the answer is whether the card is recorded for the region, both of the heap
 pub record ReadsPair (a : ReaderAt) (card region : ℕ) (answer : Bool) : Type 0 where
@@ -104,5 +104,5 @@ pub record ReadsPair (a : ReaderAt) (card region : ℕ) (answer : Bool) : Type 0
   pub has : IsTrue answer ↔ IsRecorded (table_of_reader a) card region
 
 -- a call by the reader of a handle, which is refused of the reader for this
-abbrev pub IsReaderRefused : Option ReaderMember → (ReaderAt → Reason → Type 0) → Reason → Type 0
+abbrev pub IsReaderRefused : Option ReaderParty → (ReaderAt → Reason → Type 0) → Reason → Type 0
 IsReaderRefused m Why r = IsRoleRefused reading_in m Why r

@@ -7,9 +7,9 @@ use Rattle.g1_handles.specs.Prelude.{true, crosses, word_of}
 use Rattle.g1_race.specs.Exchanging.{HasRoomToStore}
 use Rattle.g1_handles.specs.declared.code.Reason.{Reason}
 use Rattle.g1_handles.specs.declared.code.Reason.TheVariants as refusal
-use Rattle.g1_handles.specs.declared.member.Role.{Ghosts}
-use Rattle.g1_handles.specs.declared.member.Member.{Member}
-use Rattle.g1_handles.specs.Own.{RacerMember, SweeperMember}
+use Rattle.g1_handles.specs.declared.party.Role.{Ghosts}
+use Rattle.g1_handles.specs.declared.party.Party.{Party}
+use Rattle.g1_handles.specs.Own.{RacerParty, SweeperParty}
 use Rattle.g1_handles.specs.Codes.{IsStoreOf, OfOpen, reference_of}
 use Rattle.g1_handles.specs.Lacks.{LacksCard, LacksRegion, LacksPlace, SaysNoData, SaysNoMove}
 use Rattle.g1_handles.specs.Racing.{Racing, role_in, OfRole, racing_in, sweeping_in}
@@ -34,9 +34,9 @@ SaysFewer given room r = (r ≡ refusal.NoRoom) × (room < given)
 abbrev pub SaysTooMany : ℕ → Reason → Type 0
 SaysTooMany given r = (r ≡ refusal.TooManyCards) × (256 < given)
 
--- the handle has no racer, sweeper or reader: it is closed, since no member waits in a handle
-abbrev pub SaysNoMember : {P : Type 0} {g : Ghosts P} → Option (Member P g) → Reason → Type 0
-SaysNoMember m r = (r ≡ refusal.NotOpen) × (role_in m ≡ None)
+-- the handle has no racer, sweeper or reader: it is closed, since no party waits in a handle
+abbrev pub SaysNoParty : {P : Type 0} {g : Ghosts P} → Option (Party P g) → Reason → Type 0
+SaysNoParty m r = (r ≡ refusal.NotOpen) × (role_in m ≡ None)
 
 -- the racer can store the target to the slot: the heap has both, and the log has room if the
 -- reference crosses regions
@@ -56,33 +56,33 @@ SaysNoStore race racer slot target r =
     ⊎ (IsStoreOf (race_layout race) slot target
     × SaysFullLog race racer slot (word_of (reference_of target)) r)
 
--- a call by the member of a handle, which is refused of what is seen of it for this
-abbrev pub IsRoleRefused : {P : Type 0} {g : Ghosts P} {T : Type 0} → (Member P g → P → T)
-    → Option (Member P g) → (T → Reason → Type 0) → Reason → Type 0
-IsRoleRefused seen m Why r = SaysNoMember m r ⊎ OfRole seen m (λ a. Why a r)
+-- a call by the party of a handle, which is refused of what is seen of it for this
+abbrev pub IsRoleRefused : {P : Type 0} {g : Ghosts P} {T : Type 0} → (Party P g → P → T)
+    → Option (Party P g) → (T → Reason → Type 0) → Reason → Type 0
+IsRoleRefused seen m Why r = SaysNoParty m r ⊎ OfRole seen m (λ a. Why a r)
 
 -- a call by the racer of a handle, which is refused of the racer for this
-abbrev pub IsRacerRefused : Option RacerMember → (Racing → Reason → Type 0) → Reason → Type 0
+abbrev pub IsRacerRefused : Option RacerParty → (Racing → Reason → Type 0) → Reason → Type 0
 IsRacerRefused m Why r = IsRoleRefused racing_in m Why r
 
 -- a store of the target into the slot by the racer of a handle
-abbrev pub IsRaceStoreRefused : Option RacerMember → ℕ → ℕ → Reason → Type 0
+abbrev pub IsRaceStoreRefused : Option RacerParty → ℕ → ℕ → Reason → Type 0
 IsRaceStoreRefused m slot target =
     IsRacerRefused m (λ a. SaysNoStore a.race a.racer slot target)
 
 -- a compare-and-swap of what is expected for the target
-abbrev pub IsRaceExchangeRefused : Option RacerMember → ℕ → ℕ → ℕ → Reason → Type 0
+abbrev pub IsRaceExchangeRefused : Option RacerParty → ℕ → ℕ → ℕ → Reason → Type 0
 IsRaceExchangeRefused m slot expected target =
     IsRacerRefused m (λ a r. SaysNoStore a.race a.racer slot target r
     ⊎ LacksPlace (race_layout a.race) slot expected r)
 
 -- a store of data by the racer of a handle
-abbrev pub IsRaceDataRefused : Option RacerMember → ℕ → ℕ → Reason → Type 0
+abbrev pub IsRaceDataRefused : Option RacerParty → ℕ → ℕ → Reason → Type 0
 IsRaceDataRefused m slot word =
     IsRacerRefused m (λ a. SaysNoData (race_layout a.race) slot word)
 
 -- the refinement of the card by the sweeper of a handle, which takes no memory
-abbrev pub IsSweepRefused : Option SweeperMember → ℕ → Reason → Type 0
+abbrev pub IsSweepRefused : Option SweeperParty → ℕ → Reason → Type 0
 IsSweepRefused m card =
     IsRoleRefused sweeping_in m (λ b. LacksCard (race_layout b.race) card)
 
@@ -111,7 +111,7 @@ IsDrainRefused l region room refined_room r =
     LacksRegion l region r ⊎ SaysNoRoom l room r ⊎ SaysNoRoom l refined_room r
     ⊎ (r ≡ refusal.NoMemory)
 
--- the question for the members of the region
+-- the question for the parties of the region
 abbrev pub AreMembersRefused : Shape → ℕ → Reason → Type 0
 AreMembersRefused l region r = LacksRegion l region r ⊎ (r ≡ refusal.NoMemory)
 

@@ -58,13 +58,13 @@ pub enum Reason {
     /// A racer's log is full.
     LogFull,
     /// The number of racers or sweepers is not the heap's, or more readers were given than it has
-    /// members, or another number than read it; or a heap may not have so many.
+    /// parties, or another number than read it; or a heap may not have so many.
     BadHandles,
-    /// The handles are not those of all members, or of all readers, of the heap, each given once.
+    /// The handles are not those of all parties, or of all readers, of the heap, each given once.
     OtherRace,
-    /// The heap's members are out, or readers read it.
+    /// The heap's parties are out, or readers read it.
     NotPaused,
-    /// The heap is at a pause: its members are in.
+    /// The heap is at a pause: its parties are in.
     NotRacing,
     /// A word below 2^32 where data is stored, or one that no slot may have.
     BadWord,

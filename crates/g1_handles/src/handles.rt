@@ -2,18 +2,18 @@
 //! behind a pointer, or nothing if the pointer is null.
 //!
 //! Contracts see what a handle holds, or `None` if it is closed. Dropping a handle frees nothing:
-//! `g1_close` frees a core, and `g1_heap_close` a heap with its members, each of which a pause or
+//! `g1_close` frees a core, and `g1_heap_close` a heap with its parties, each of which a pause or
 //! the end of a reading has taken in.
 ghost use Rattle.std.specs.Prelude.{◌≡◌};
 ghost use Rattle.g1_handles.specs.Prelude.{Option, Some, refl, coded_option, Machine, machine_code};
 ghost use Rattle.g1_handles.specs.declared.heap.racing_heap.RacingHeap.{RacingHeap};
 ghost use Rattle.g1_handles.specs.Own.{holds, core_row, heap_row, racer_row, sweeper_row};
-ghost use Rattle.g1_handles.specs.Own.{reader_row, RacerMember, SweeperMember, ReaderMember};
+ghost use Rattle.g1_handles.specs.Own.{reader_row, RacerParty, SweeperParty, ReaderParty};
 
 use crate::any_handle::AnyHandle;
 use crate::heap::racing_heap::RacingHeap;
-use crate::member::Member;
 use crate::nullable_box::NullableBox;
+use crate::party::Party;
 use g1_core::Core;
 use g1_race::{Racer, Reader, Sweeper};
 use std::alloc::Global;
@@ -133,7 +133,7 @@ unsafe impl Send for HeapHandle {}
 pub struct RacerHandle {
     at: *mut u8,
     alloc: Global,
-    pub ghost value: { Option RacerMember } by { coded_option racer_row.coded },
+    pub ghost value: { Option RacerParty } by { coded_option racer_row.coded },
 }
 
 impl Model for RacerHandle {
@@ -141,7 +141,7 @@ impl Model for RacerHandle {
 }
 
 impl AnyHandle for RacerHandle {
-    type Value = Member<Racer>;
+    type Value = Party<Racer>;
 
     ghost value = { λ h. h.value };
 
@@ -149,7 +149,7 @@ impl AnyHandle for RacerHandle {
 
     ghost holds = { λ h x. refl };
 
-    fn from_nullable(boxed: NullableBox<Member<Racer>>) -> RacerHandle
+    fn from_nullable(boxed: NullableBox<Party<Racer>>) -> RacerHandle
         ensures { result.value ≡ boxed.value }
     {
         let NullableBox { at, alloc } = boxed;
@@ -159,18 +159,18 @@ impl AnyHandle for RacerHandle {
         }
     }
 
-    fn into_nullable(self) -> NullableBox<Member<Racer>>
+    fn into_nullable(self) -> NullableBox<Party<Racer>>
         ensures { result.value ≡ self.value }
     {
         let RacerHandle { at, alloc } = self;
         NullableBox {
-            at: at as *mut Member<Racer>,
+            at: at as *mut Party<Racer>,
             alloc,
         }
     }
 
-    fn value_mut(&mut self) -> Option<&mut Member<Racer>> {
-        let at = self.at as *mut Member<Racer>;
+    fn value_mut(&mut self) -> Option<&mut Party<Racer>> {
+        let at = self.at as *mut Party<Racer>;
         if at.is_null() {
             None
         } else {
@@ -187,7 +187,7 @@ unsafe impl Send for RacerHandle {}
 pub struct SweeperHandle {
     at: *mut u8,
     alloc: Global,
-    pub ghost value: { Option SweeperMember } by { coded_option sweeper_row.coded },
+    pub ghost value: { Option SweeperParty } by { coded_option sweeper_row.coded },
 }
 
 impl Model for SweeperHandle {
@@ -195,7 +195,7 @@ impl Model for SweeperHandle {
 }
 
 impl AnyHandle for SweeperHandle {
-    type Value = Member<Sweeper>;
+    type Value = Party<Sweeper>;
 
     ghost value = { λ h. h.value };
 
@@ -203,7 +203,7 @@ impl AnyHandle for SweeperHandle {
 
     ghost holds = { λ h x. refl };
 
-    fn from_nullable(boxed: NullableBox<Member<Sweeper>>) -> SweeperHandle
+    fn from_nullable(boxed: NullableBox<Party<Sweeper>>) -> SweeperHandle
         ensures { result.value ≡ boxed.value }
     {
         let NullableBox { at, alloc } = boxed;
@@ -213,18 +213,18 @@ impl AnyHandle for SweeperHandle {
         }
     }
 
-    fn into_nullable(self) -> NullableBox<Member<Sweeper>>
+    fn into_nullable(self) -> NullableBox<Party<Sweeper>>
         ensures { result.value ≡ self.value }
     {
         let SweeperHandle { at, alloc } = self;
         NullableBox {
-            at: at as *mut Member<Sweeper>,
+            at: at as *mut Party<Sweeper>,
             alloc,
         }
     }
 
-    fn value_mut(&mut self) -> Option<&mut Member<Sweeper>> {
-        let at = self.at as *mut Member<Sweeper>;
+    fn value_mut(&mut self) -> Option<&mut Party<Sweeper>> {
+        let at = self.at as *mut Party<Sweeper>;
         if at.is_null() {
             None
         } else {
@@ -241,7 +241,7 @@ unsafe impl Send for SweeperHandle {}
 pub struct ReaderHandle {
     at: *mut u8,
     alloc: Global,
-    pub ghost value: { Option ReaderMember } by { coded_option reader_row.coded },
+    pub ghost value: { Option ReaderParty } by { coded_option reader_row.coded },
 }
 
 impl Model for ReaderHandle {
@@ -249,7 +249,7 @@ impl Model for ReaderHandle {
 }
 
 impl AnyHandle for ReaderHandle {
-    type Value = Member<Reader>;
+    type Value = Party<Reader>;
 
     ghost value = { λ h. h.value };
 
@@ -257,7 +257,7 @@ impl AnyHandle for ReaderHandle {
 
     ghost holds = { λ h x. refl };
 
-    fn from_nullable(boxed: NullableBox<Member<Reader>>) -> ReaderHandle
+    fn from_nullable(boxed: NullableBox<Party<Reader>>) -> ReaderHandle
         ensures { result.value ≡ boxed.value }
     {
         let NullableBox { at, alloc } = boxed;
@@ -267,18 +267,18 @@ impl AnyHandle for ReaderHandle {
         }
     }
 
-    fn into_nullable(self) -> NullableBox<Member<Reader>>
+    fn into_nullable(self) -> NullableBox<Party<Reader>>
         ensures { result.value ≡ self.value }
     {
         let ReaderHandle { at, alloc } = self;
         NullableBox {
-            at: at as *mut Member<Reader>,
+            at: at as *mut Party<Reader>,
             alloc,
         }
     }
 
-    fn value_mut(&mut self) -> Option<&mut Member<Reader>> {
-        let at = self.at as *mut Member<Reader>;
+    fn value_mut(&mut self) -> Option<&mut Party<Reader>> {
+        let at = self.at as *mut Party<Reader>;
         if at.is_null() {
             None
         } else {

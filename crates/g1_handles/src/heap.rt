@@ -1,8 +1,8 @@
 //! A heap whose stores race.
 //!
-//! - [`racing_heap`] is the heap: at a pause, read there or with its members out.
-//! - [`open`] begins and ends it, [`resume`] hands its members out, and [`pause`] takes them in.
-//!   Before anything changes, a pause checks that it was given all members of the heap
+//! - [`racing_heap`] is the heap: at a pause, read there or with its parties out.
+//! - [`open`] begins and ends it, [`resume`] hands its parties out, and [`pause`] takes them in.
+//!   Before anything changes, a pause checks that it was given all parties of the heap
 //!   (`one_race`).
 //! - [`queries`], [`scan`], [`sets`], [`drains`], [`stores`], [`row`], [`copy`], [`evacuation`],
 //!   [`words`] and [`verify`] are the collector's calls at a pause, on an [`at_pause::PausedHeap`].

@@ -6,7 +6,7 @@
 //! - [`one_core`] is a core, for one thread at a time.
 //! - [`heap`] is a heap whose stores race: how it begins, pauses, is read and ends, and the
 //!   collector's calls at a pause.
-//! - [`member`] is a racer, a sweeper or a reader of such a heap, with its calls.
+//! - [`party`] is a racer, a sweeper or a reader of such a heap, with its calls.
 //!
 //! What serves them all: [`handles`] has the handles, [`any_handle`] says what they have in
 //! common, and [`sent`] that each may go to another thread. A handle has the words of a box behind
@@ -29,7 +29,7 @@ pub mod code;
 pub mod handles;
 pub mod heap;
 pub mod list;
-pub mod member;
 mod nullable_box;
 pub mod one_core;
+pub mod party;
 pub mod sent;

@@ -77,18 +77,18 @@ into_back k old new region p same i = (i.0, i.1, slot_back k old new p i.0 same 
 
 -- as a table
 
-module _ (k : RaceShape) (l : layout.Shape) (laid : k ≡ shape_of l k.members) where
+module _ (k : RaceShape) (l : layout.Shape) (laid : k ≡ shape_of l k.parties) where
   enters_word : (words : List ℕ) (slot region : ℕ) → Enters (table_of (ended l k words)) slot region → Into k words region slot
   enters_word words slot region h =
-      let w = crossing_back (ended l k words) k.members slot h.place h.refers (λ q. h.outside (q ∙ h.into)) in
+      let w = crossing_back (ended l k words) k.parties slot h.place h.refers (λ q. h.outside (q ∙ h.into)) in
       subst (λ (s : RaceShape). Into s words region slot) (sym laid) (w.0, w.1, (at_untake words (k.slots + k.cards) slot w.0 w.2).1, w.3, w.4 ∙ h.into)
 
   pub word_enters : (words : List ℕ) (slot region : ℕ) → Into k words region slot → Enters (table_of (ended l k words)) slot region
   word_enters words slot region i = let x = subst (λ (s : RaceShape). Into s words region slot) laid i in record {
     place = x.0 - 1;
-    refers = word_refers (ended l k words) slot x.0 x.1 (at_take words (k.slots + k.cards) slot x.0 (omega (arith, i.1)) x.2) (crosses_reference (shape_of l k.members) slot x.0 x.3);
+    refers = word_refers (ended l k words) slot x.0 x.1 (at_take words (k.slots + k.cards) slot x.0 (omega (arith, i.1)) x.2) (crosses_reference (shape_of l k.parties) slot x.0 x.3);
     into = x.4;
-    outside = λ q. crosses_apart (shape_of l k.members) slot x.0 x.3 (q ∙ sym x.4);
+    outside = λ q. crosses_apart (shape_of l k.parties) slot x.0 x.3 (q ∙ sym x.4);
   }
 
   -- what a clear answers

@@ -54,7 +54,7 @@ same_region d card c pos le lt = grind arith
 pub past_region : (d card : ℕ) → 0 < d → card < (card / d + 1) * d
 past_region d card pos = grind arith
 
-module _ (k : RaceShape) (l : layout.Shape) (laid : k ≡ shape_of l k.members) (words : List ℕ) (h : IsBegun (started k words)) (regions : List ℕ) (low : All (λ r. r < k.regions) regions) where
+module _ (k : RaceShape) (l : layout.Shape) (laid : k ≡ shape_of l k.parties) (words : List ℕ) (h : IsBegun (started k words)) (regions : List ℕ) (low : All (λ r. r < k.regions) regions) where
   abbrev Into : ℕ → Type 0
   Into c = IsRecordedInto (table_of (ended l k words)) regions c
 

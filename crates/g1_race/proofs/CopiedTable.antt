@@ -21,7 +21,7 @@ word_bound s p parts lt = word_fits (table.target_of s.table p) (slot_count s.ta
 
 -- each reference of a core's table is covered by the marks and the bits that are placed for it
 
-core_covered : (s : State) (l : layout.Shape) (k : RaceShape) (words : List ℕ) → l ≡ s.table.layout → k ≡ shape_of l k.members → IsSound s → IsWholeShape k
+core_covered : (s : State) (l : layout.Shape) (k : RaceShape) (words : List ℕ) → l ≡ s.table.layout → k ≡ shape_of l k.parties → IsSound s → IsWholeShape k
     → ((c : ℕ) → c < k.cards → get_elem? words (mark_word k c) ≡ some (as_number (set_of.contains s.table.pending c)))
     → ((x : ℕ × ℕ) → set_of.contains s.table.recorded x ≡ true → HasBit k words x)
     → AreCovered k s.table words
@@ -29,7 +29,7 @@ core_covered s l k words lay laid parts shaped marks on p lt cr =
     let t = s.table in
     let n = word_of (table.target_of t p) in
     let some_n = word_some (table.target_of t p) n refl (crosses_reference k p n cr).0 in
-    let same : k ≡ shape_of t.layout k.members = laid ∙ ap (λ (x : layout.Shape). shape_of x k.members) lay in
+    let same : k ≡ shape_of t.layout k.parties = laid ∙ ap (λ (x : layout.Shape). shape_of x k.parties) lay in
     let back : region_of t.layout some_n.0 ≡ region_at k n = ap (λ (x : RaceShape). some_n.0 / x.span) (sym same) ∙ ap (λ (q : ℕ). q / k.span) (let f : some_n.0 ≡ n - 1 = omega (arith, some_n.2) in f) in
     let card : slot_card k p ≡ layout.card_of t.layout p = ap (λ (x : RaceShape). p / x.size) same in
     elim (parts.cover p some_n.0 (record { refers = some_n.1; across = λ e. crosses_apart k p n cr (ap (λ (x : RaceShape). p / x.span) same ∙ (e ∙ back)) })) [
@@ -86,20 +86,20 @@ module _ (s : State) (m : ℕ) (words : List ℕ) (parts : IsSound s) (few : slo
         (λ x e. let o = parts.recorded x.0 x.1 e in to_pairs first.pairs x (set_listed k words x (o.0, o.1) (h.on x e))) i;
   }
 
-pub copied : (s : State) (l : layout.Shape) (k : RaceShape) (words : List ℕ) → l ≡ s.table.layout → k ≡ shape_of l k.members → IsSound s → IsWholeShape k → IsCopy k s.table words → table_of (ended l k words) ≡ s.table
+pub copied : (s : State) (l : layout.Shape) (k : RaceShape) (words : List ℕ) → l ≡ s.table.layout → k ≡ shape_of l k.parties → IsSound s → IsWholeShape k → IsCopy k s.table words → table_of (ended l k words) ≡ s.table
 copied s l k words lay laid parts shaped copy =
-    let path : k ≡ shape_of s.table.layout k.members = laid ∙ ap (λ (x : layout.Shape). shape_of x k.members) lay in
-    (λ i. table_of (ended (lay i) (path i) words)) ∙ copy_at s k.members words parts (let e : k.slots ≡ slot_count s.table.layout = ap (λ (x : RaceShape). x.slots) path in let f = shaped.3 in omega (arith, e, f)) (subst (λ (q : RaceShape). IsCopy q s.table words) path copy)
+    let path : k ≡ shape_of s.table.layout k.parties = laid ∙ ap (λ (x : layout.Shape). shape_of x k.parties) lay in
+    (λ i. table_of (ended (lay i) (path i) words)) ∙ copy_at s k.parties words parts (let e : k.slots ≡ slot_count s.table.layout = ap (λ (x : RaceShape). x.slots) path in let f = shaped.3 in omega (arith, e, f)) (subst (λ (q : RaceShape). IsCopy q s.table words) path copy)
 
 -- slots that refer to what they refer to in a table hold no data
-pub words_placed : (t : Table) (l : layout.Shape) (k : RaceShape) (old new : List ℕ) → l ≡ t.layout → k ≡ shape_of l k.members → ArePlaced k t old new k.slots → HasWordsOf t new
+pub words_placed : (t : Table) (l : layout.Shape) (k : RaceShape) (old new : List ℕ) → l ≡ t.layout → k ≡ shape_of l k.parties → ArePlaced k t old new k.slots → HasWordsOf t new
 words_placed t l k old new lay laid placed p lt =
     let slots : k.slots ≡ slot_count t.layout = ap (λ (s : RaceShape). s.slots) laid ∙ ap slot_count lay in
     let low : p < k.slots = omega (arith, lt, slots) in
     placed.slots p low low
 
 -- the three steps, from a heap of nulls
-module _ (s : State) (l : layout.Shape) (k : RaceShape) (old a b : List ℕ) (pairs : List (ℕ × ℕ)) (lay : l ≡ s.table.layout) (laid : k ≡ shape_of l k.members) (parts : IsSound s) (shaped : IsWholeShape k)
+module _ (s : State) (l : layout.Shape) (k : RaceShape) (old a b : List ℕ) (pairs : List (ℕ × ℕ)) (lay : l ≡ s.table.layout) (laid : k ≡ shape_of l k.parties) (parts : IsSound s) (shaped : IsWholeShape k)
     (null : old ≡ zeros (word_count k)) (recorded : set_of.from_list pairs ≡ s.table.recorded) (notes : Notes k old a pairs) where
   zero_is : (i : ℕ) → i < k.slots + k.cards → get_elem? a i ≡ some 0
   zero_is i lt = notes.front i lt ∙ (ap (λ (ws : List ℕ). get_elem? ws i) null ∙ zero_at (word_count k) i (omega (arith, lt)))

@@ -50,7 +50,7 @@ module _ (k : RaceShape) (words : List ℕ) where
       let most : n * k.cards ≤ 4294967295 * 4294967295 = mul-le-mul (let few_regions : n ≤ 4294967295 = omega (arith, le, one, shaped.6, shaped.3) in few_regions) (let few_cards : k.cards ≤ 4294967295 = omega (arith, cards_fit k shaped) in few_cards) in
       omega (arith, at_most n, most)
 
-module _ (k : RaceShape) (l : layout.Shape) (laid : k ≡ shape_of l k.members) (words : List ℕ) (h : IsBegun (started k words)) where
+module _ (k : RaceShape) (l : layout.Shape) (laid : k ≡ shape_of l k.parties) (words : List ℕ) (h : IsBegun (started k words)) where
   abbrev all : List (List ℕ)
   all = lists k words k.regions
 

@@ -5,7 +5,7 @@ use Rattle.g1_layout.specs.Shape as layout
 use Rattle.g1_race.proofs.FlagWords.{flag_ended}
 use Rattle.g1_race.proofs.PauseStores.{logged_store}
 
-module _ (k : RaceShape) (l : layout.Shape) (laid : k ≡ shape_of l k.members) (p : ℕ) (lt : p < k.slots) (target : Option ℕ) (n : ℕ) (back : target_of_word n ≡ target) where
+module _ (k : RaceShape) (l : layout.Shape) (laid : k ≡ shape_of l k.parties) (p : ℕ) (lt : p < k.slots) (target : Option ℕ) (n : ℕ) (back : target_of_word n ≡ target) where
   pub dirtied_here : (seen new : List ℕ) (card : ℕ) → card ≡ slot_card k p → IsDirtied k seen new card → get_elem? new (mark_word k (slot_card k p)) ≡ some 1
   dirtied_here seen new card is d =
       let low = card_below k p d.begun.shaped lt in

@@ -6,7 +6,7 @@ use Rattle.g1_layout.specs.Shape as layout
 use Rattle.g1_race.proofs.Ends.{crosses_apart, recorded_set, region_of_quotient, set_recorded, word_refers}
 
 -- the pairs that are not kept are gone, and nothing else has changed
-pub retained_is : (k : RaceShape) (l : layout.Shape) (laid : k ≡ shape_of l k.members) (old new : List ℕ) (keep : ℕ × ℕ → Bool) → IsBegun (started k old) → IsBegun (started k new) → AreUnset k old new (λ x. keep x ≡ false)
+pub retained_is : (k : RaceShape) (l : layout.Shape) (laid : k ≡ shape_of l k.parties) (old new : List ℕ) (keep : ℕ × ℕ → Bool) → IsBegun (started k old) → IsBegun (started k new) → AreUnset k old new (λ x. keep x ≡ false)
     → table_of (ended l k new) ≡ record { layout = l; refs = refs_of (ended l k old); pending = (table_of (ended l k old)).pending; recorded = fin.retain (table_of (ended l k old)).recorded keep }
 retained_is k l laid old new keep b h g = λ i. record {
   layout = l;
@@ -35,7 +35,7 @@ card_in n region c some_card e = let is : region * n + c % n ≡ c = ap (λ (m :
 pub in_card : (n region c : ℕ) → region * n ≤ c → c < region * n + n → c / n ≡ region
 in_card n region c le lt = grind (arith, div-mul-add)
 
-module _ (k : RaceShape) (l : layout.Shape) (laid : k ≡ shape_of l k.members) (shaped : IsWholeShape k) where
+module _ (k : RaceShape) (l : layout.Shape) (laid : k ≡ shape_of l k.parties) (shaped : IsWholeShape k) where
   cards_is : k.cards ≡ l.regions * l.cards
   cards_is = ap (λ (s : RaceShape). s.cards) laid
 
@@ -55,7 +55,7 @@ module _ (k : RaceShape) (l : layout.Shape) (laid : k ≡ shape_of l k.members) 
     closed_words words closed p n lt at cr le below =
         closed p (n - 1) (record {
           refers = word_refers (ended l k words) p n (omega (arith, lt, ap (λ (s : RaceShape). s.slots) laid)) (at_take words (k.slots + k.cards) p n (omega (arith, lt)) at) (crosses_reference k p n cr);
-          across = crosses_apart (shape_of l k.members) p n (subst (λ (s : RaceShape). crosses s p n ≡ true) laid cr);
+          across = crosses_apart (shape_of l k.parties) p n (subst (λ (s : RaceShape). crosses s p n ≡ true) laid cr);
         }) (sym (region_of_quotient l p) ∙ (ap (λ (s : RaceShape). p / s.size / l.cards) (sym laid)
         ∙ in_card l.cards region (slot_card k p) (subst (λ (m : ℕ). region * m ≤ slot_card k p) each le) (subst (λ (m : ℕ). slot_card k p < region * m + m) each below)))
 

@@ -19,7 +19,7 @@ count_next p xs i d lt = elim (cases_Bool (p (get_or xs i d))) [
   | inr e ↦ omega (arith, count_by_more_no p xs i d lt e, ap as_number e)
 ]
 
-module _ (k : RaceShape) (l : layout.Shape) (laid : k ≡ shape_of l k.members) where
+module _ (k : RaceShape) (l : layout.Shape) (laid : k ≡ shape_of l k.parties) where
   refs_len : (words : List ℕ) → IsBegun (started k words) → length (refs_of (ended l k words)) ≡ slot_count l
   refs_len words h = length-map (take (slot_count l) (front k words)) target_of_word ∙ length-take-le (slot_count l) (front k words) (omega (arith, h.sized, slots_are k l laid, length-take (k.slots + k.cards) words))
 

@@ -9,7 +9,7 @@ use Rattle.g1_race.proofs.Ends.{target_data, target_some}
 same_under : (a b r : ℕ) → (not (eqb a b) && eqb b r) ≡ (not (eqb a r) && eqb b r)
 same_under a b r = grind (arith, nat_tests)
 
-module _ (k : RaceShape) (l : layout.Shape) (laid : k ≡ shape_of l k.members) where
+module _ (k : RaceShape) (l : layout.Shape) (laid : k ≡ shape_of l k.parties) where
   pub span_is : k.span ≡ l.cards * l.slots
   span_is = ap (λ (s : RaceShape). s.span) laid
 

@@ -15,7 +15,7 @@ pub slot_in : (k : RaceShape) (region i : ℕ) → IsWholeShape k → region < k
 slot_in k region i shaped lt below = omega (arith, mul-add-lt region k.span i k.regions lt below, shaped.6)
 
 -- what a slot with this word refers to
-pub slot_gives : (k : RaceShape) (l : layout.Shape) (words : List ℕ) (p n : ℕ) → k ≡ shape_of l k.members → p < k.slots → get_elem? words p ≡ some n → get_or (refs_of (ended l k words)) p None ≡ target_of_word n
+pub slot_gives : (k : RaceShape) (l : layout.Shape) (words : List ℕ) (p n : ℕ) → k ≡ shape_of l k.parties → p < k.slots → get_elem? words p ≡ some n → get_or (refs_of (ended l k words)) p None ≡ target_of_word n
 slot_gives k l words p n laid lt at = let slots : k.slots ≡ slot_count l = ap (λ (s : RaceShape). s.slots) laid in
     word_gives (ended l k words) p n (omega (arith, lt, slots)) (at_take words (k.slots + k.cards) p n (omega (arith, lt)) at)
 
@@ -26,7 +26,7 @@ pending_stays SameRegion pending card quiet = refl
 pending_stays Null pending card quiet = refl
 pending_stays AlreadyDirty pending card quiet = refl
 
-module _ (k : RaceShape) (l : layout.Shape) (laid : k ≡ shape_of l k.members) (p : ℕ) (lt : p < k.slots) (target : Option ℕ) (n : ℕ) (back : target_of_word n ≡ target) where
+module _ (k : RaceShape) (l : layout.Shape) (laid : k ≡ shape_of l k.parties) (p : ℕ) (lt : p < k.slots) (target : Option ℕ) (n : ℕ) (back : target_of_word n ≡ target) where
   -- the kind of the store
 
   pub kind_null : (t : Table) → n ≡ 0 → kind_of t p target ≡ Null
@@ -40,7 +40,7 @@ module _ (k : RaceShape) (l : layout.Shape) (laid : k ≡ shape_of l k.members) 
 
   pub kind_across : (words : List ℕ) → crosses k p n ≡ true → kind_of (table_of (ended l k words)) p target ≡ cond (fin.contains (table_of (ended l k words)).pending (layout.card_of l p)) AlreadyDirty Logged
   kind_across words cr = ap (kind_of (table_of (ended l k words)) p) (sym back ∙ target_some n (crosses_reference k p n cr))
-      ∙ ap (kind_at words) (ne_eqb (region_of l p) (region_of l (n - 1)) (crosses_apart (shape_of l k.members) p n (subst (λ (s : RaceShape). crosses s p n ≡ true) laid cr)))
+      ∙ ap (kind_at words) (ne_eqb (region_of l p) (region_of l (n - 1)) (crosses_apart (shape_of l k.parties) p n (subst (λ (s : RaceShape). crosses s p n ≡ true) laid cr)))
 
   -- the slot is written
 

@@ -21,7 +21,7 @@ members_room k old new region r = at_most_both (is_member k new region) (is_memb
     (λ (u : (get_elem? old (mark_word k c) ≡ some 1) × BeganInto k old (c, region)). inr (mark_is k old c 1 u.0 refl))
     (r.only (c, region) lt (eqb-true _ 1 e)))
 
-module _ (k : RaceShape) (l : layout.Shape) (laid : k ≡ shape_of l k.members) where
+module _ (k : RaceShape) (l : layout.Shape) (laid : k ≡ shape_of l k.parties) where
   pub slots_are : k.slots ≡ slot_count l
   slots_are = ap (λ (s : RaceShape). s.slots) laid
 
@@ -52,7 +52,7 @@ module _ (k : RaceShape) (l : layout.Shape) (laid : k ≡ shape_of l k.members) 
   pub holds_now : (words : List ℕ) (c r : ℕ) → IsWholeShape k → BeganInto k words (c, r) → Holds (table_of (ended l k words)) c r
   holds_now words c r shaped b =
       let at : get_elem? (front k words) b.0 ≡ some b.1 = at_take words (k.slots + k.cards) b.0 b.1 (let lt : b.0 < k.slots = b.3.0 in omega (arith, lt)) b.2 in
-      began_holds (ended l k words) k.members c r (subst IsWholeShape laid shaped) (subst (λ (s : RaceShape). BeganInto s (front k words) (c, r)) laid (b.0, b.1, at, b.3, b.4))
+      began_holds (ended l k words) k.parties c r (subst IsWholeShape laid shaped) (subst (λ (s : RaceShape). BeganInto s (front k words) (c, r)) laid (b.0, b.1, at, b.3, b.4))
 
   -- the table that words make, by what it has
   pub table_is : (new : List ℕ) (t : Table) → IsBegun (started k new) → t.layout ≡ l → refs_of (ended l k new) ≡ t.refs → ((c : ℕ) → IsPending (table_of (ended l k new)) c → IsPending t c) → ((c : ℕ) → IsPending t c → IsPending (table_of (ended l k new)) c)

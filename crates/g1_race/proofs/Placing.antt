@@ -99,7 +99,7 @@ all_in P (y ∷ ys) all x (inl e) = subst P e (all zero y (omega arith))
 all_in P (y ∷ ys) all x (inr i) = all_in P ys (λ j d lt. all (suc j) d (omega (arith, lt))) x i
 
 -- the pairs that a core lists
-pub listed_cross : (l : layout.Shape) (k : RaceShape) (pairs : List (ℕ × ℕ)) → k ≡ shape_of l k.members → IsWholeShape k → All (IsPairOf l) pairs → (x : ℕ × ℕ) → In pairs x → IsPair k x × IsOfCrossing k x
+pub listed_cross : (l : layout.Shape) (k : RaceShape) (pairs : List (ℕ × ℕ)) → k ≡ shape_of l k.parties → IsWholeShape k → All (IsPairOf l) pairs → (x : ℕ × ℕ) → In pairs x → IsPair k x × IsOfCrossing k x
 listed_cross l k pairs laid shaped all x i =
     let pair = all_in (IsPairOf l) pairs all x i in
-    subst (λ (s : RaceShape). IsPair s x × IsOfCrossing s x) (sym laid) ((pair.0, pair.1), pair_crosses l k.members x (subst IsWholeShape laid shaped) pair)
+    subst (λ (s : RaceShape). IsPair s x × IsOfCrossing s x) (sym laid) ((pair.0, pair.1), pair_crosses l k.parties x (subst IsWholeShape laid shaped) pair)

@@ -5,7 +5,7 @@ use Rattle.g1_race.specs.Prelude.{array_vec_len}
 use Rattle.g1_race.specs.Prelude.{RaceShape, View, IsReference, IsWord, slot_card, crosses, IsFound}
 use Rattle.g1_race.specs.declared.race.Racer.{Racer}
 use Rattle.g1_race.specs.Race.{stored_view}
-use Rattle.g1_race.specs.Members.{is_logged, racer_log, racer_view}
+use Rattle.g1_race.specs.Parties.{is_logged, racer_log, racer_view}
 
 -- the kind of a store of this word to the slot: data is stored as null is
 abbrev pub IsWordKind : RaceShape → ℕ → ℕ → Kind → Type 0

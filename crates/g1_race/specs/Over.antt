@@ -42,7 +42,7 @@ ended layout heap words =
 
 -- what the words of a closed race keep
 pub record IsEnded (heap : RaceShape) (layout : layout.Shape) (words : List ℕ) : Type 0 where
-  pub laid : heap ≡ shape_of layout heap.members
+  pub laid : heap ≡ shape_of layout heap.parties
   pub begun : IsBegun (started heap words)
 
 -- a race at a pause: its layout, also in plain numbers, the words of its table, where they lie and

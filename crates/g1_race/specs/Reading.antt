@@ -3,7 +3,7 @@ use Rattle.std.specs.Prelude.{◌≡◌, ◌≤◌}
 use Rattle.g1_race.specs.Prelude.{ℕ, Option, Some, None, TableId, Table, IsPending, IsRecorded}
 use Rattle.g1_race.specs.Prelude.{RaceShape, Start}
 use Rattle.g1_race.specs.declared.race.Race.{Race}
-use Rattle.g1_race.specs.Members.{race_id}
+use Rattle.g1_race.specs.Parties.{race_id}
 use Rattle.g1_race.specs.Over.{Pause, ended, start_at, table_of}
 
 -- the pause, which table it is at, and how many readers there are
@@ -18,7 +18,7 @@ pub record Known : Type 0 where
   pub start : Start
   pub weight : ℕ
 
--- a reader that a pause hands out has the weight of one member
+-- a reader that a pause hands out has the weight of one party
 abbrev pub known : TableId → Start → Known
 known table_id begin = record { table_id = table_id; start = begin; weight = 1 }
 
@@ -37,7 +37,7 @@ table_read race reader = table_of (ended race.layout race.shape reader.start.wor
 -- the reader is the pause's own: it has all the weight, and may write
 pub record IsPauseReader (race : Race) (reader : Known) : Type 0 where
   pub here : reader_race reader ≡ race_id race
-  pub weight : reader.weight ≡ race.shape.members
+  pub weight : reader.weight ≡ race.shape.parties
 
 -- the least pending card at or after `from`
 abbrev pub IsNextPending : Table → ℕ → Option ℕ → Type 0

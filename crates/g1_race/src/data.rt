@@ -18,7 +18,7 @@ impl Racer {
     /// Returns the slot's word as it was: 0 for null, the number of a slot plus 1, or data.
     ///
     /// It is a store as [`Racer::store`] makes it of null: one atomic step, no mark, no log. For
-    /// the machinery the slot is null then. Takes no memory and never waits. Any other member may
+    /// the machinery the slot is null then. Takes no memory and never waits. Any other party may
     /// make its calls concurrently. The racer and the slot must be of this race.
     pub fn store_data(&mut self, race: &Race, slot: Slot, word: u64) -> u64
         requires race { racer_race self.old ≡ race_id race.now }

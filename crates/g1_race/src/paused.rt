@@ -1,7 +1,7 @@
 //! A race at a pause: its whole table is known, and stays in place.
 //!
 //! - `open` begins a heap of nulls, and `begin` one with a core's table. `resume` returns the race
-//!   and its members. `holds` says how a pause owns its race, and `shared` lets threads keep their
+//!   and its parties. `holds` says how a pause owns its race, and `shared` lets threads keep their
 //!   shares of the race over the pause.
 //! - `access` has what a pause reads and stores. `listed` has the recorded pairs and the dirty
 //!   cards, which `next` finds, and `verify` checks them for a debug build. `next_into` finds the
@@ -59,7 +59,7 @@ pub struct Paused<R: HoldsRace = Race> {
 impl<R: HoldsRace> Model for Paused<R> {
     ghost use Rattle.std.specs.Prelude.{◌≡◌, ◌+◌};
     ghost use Rattle.g1_race.specs.Prelude.{map, vec_len, IsBegun, started};
-    ghost use Rattle.g1_race.specs.Members.{at_pause_of, racer_log};
+    ghost use Rattle.g1_race.specs.Parties.{at_pause_of, racer_log};
     ghost use Rattle.g1_race.specs.Over.{Pause};
     ghost use Rattle.g1_race.specs.Reading.{IsPauseReader};
 
@@ -71,7 +71,7 @@ impl<R: HoldsRace> Model for Paused<R> {
     ghost invariant = { λ a. let race = R.held a.race in
         IsPauseReader race a.reader
         × IsBegun (started race.shape a.reader.start.words)
-        × (vec_len a.racers + vec_len a.sweepers ≡ race.shape.members) };
+        × (vec_len a.racers + vec_len a.sweepers ≡ race.shape.parties) };
 }
 
 // A race with its pause's own reader, which has all the weight: what the pause writes with.

@@ -1,11 +1,11 @@
-//! The race and its members.
+//! The race and its parties: its racers and sweepers.
 //!
 //! A racer or a sweeper has a seat at the table of words: a token of no bytes at run time, which
 //! carries what its thread knows, in the proofs alone ([`View`](crate::View)).
 //!
 //! - `barrier` has the stores of a racer, and `exchange` those that return what the slot had.
 //! - `refinement` is that of a sweeper.
-//! - `pause` takes the members back, and the race comes to a pause.
+//! - `pause` takes the parties back, and the race comes to a pause.
 
 mod barrier;
 mod exchange;
@@ -31,10 +31,10 @@ pub struct Race {
     pub(crate) layout: Layout,
     // The layout in plain numbers, with the number of racers and sweepers.
     pub(crate) shape: RaceShape,
-    ghost laid: { shape ≡ shape_of layout shape.members },
+    ghost laid: { shape ≡ shape_of layout shape.parties },
     ghost key_is: { table.shape ≡ shape },
     ghost shaped: { IsWholeShape shape },
-    ghost some: { 0 < shape.members },
+    ghost some: { 0 < shape.parties },
 }
 
 /// A mutator's part in a race: its right to write slots and to dirty cards, and its dirty card
@@ -47,7 +47,7 @@ pub struct Racer {
     // Vacant at a pause: its shape is that of no race.
     pub(crate) seat: RaceSeat,
     pub(crate) log: ArrayVec<Card, 256>,
-    ghost racing: { 0 < seat.me.0.shape.members → IsRacing seat.me.0 },
+    ghost racing: { 0 < seat.me.0.shape.parties → IsRacing seat.me.0 },
 }
 
 /// A refinement thread's part in a race: its right to clean cards, to read their slots and to
@@ -57,5 +57,5 @@ pub struct Racer {
 #[derive(Drop)]
 pub struct Sweeper {
     pub(crate) seat: RaceSeat,
-    ghost sweeping: { 0 < seat.me.0.shape.members → IsSweeping seat.me.0 },
+    ghost sweeping: { 0 < seat.me.0.shape.parties → IsSweeping seat.me.0 },
 }

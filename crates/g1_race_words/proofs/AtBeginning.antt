@@ -36,7 +36,7 @@ pub same_word : (words : List ℕ) (count i m n : ℕ) → get_elem? (take count
 same_word words count i m n was is = some-injective m n (sym (at_untake words count i m was).1 ∙ is)
 
 -- a race begins with any words that one can start with, where no seat answers for anything
-pub raced_fresh : (k : RaceShape) (words : List ℕ) (views : List View) → IsBegun (started k words) → ((seat : ℕ) (u : View) → get_elem? views seat ≡ some u → IsBlank u) → weigh views ≡ k.members → Numbered k views → Raced (beginning (started k words)) words views
+pub raced_fresh : (k : RaceShape) (words : List ℕ) (views : List View) → IsBegun (started k words) → ((seat : ℕ) (u : View) → get_elem? views seat ≡ some u → IsBlank u) → weigh views ≡ k.parties → Numbered k views → Raced (beginning (started k words)) words views
 raced_fresh k words views h blank all numbered = record {
   sized = h.sized;
   bounded = h.bounded;
@@ -95,8 +95,8 @@ null_begun k shaped = let all = word_count k in record {
 }
 
 -- a heap begins at a pause
-pub going_first : (k : RaceShape) → IsWholeShape k → Going k (zeros (word_count k)) (frozen_seat (null_of k) k.members ∷ [])
-going_first k shaped = let all = word_count k in let start = frozen_seat (null_of k) k.members in going_fresh k (zeros all) (start ∷ []) true (null_begun k shaped)
+pub going_first : (k : RaceShape) → IsWholeShape k → Going k (zeros (word_count k)) (frozen_seat (null_of k) k.parties ∷ [])
+going_first k shaped = let all = word_count k in let start = frozen_seat (null_of k) k.parties in going_fresh k (zeros all) (start ∷ []) true (null_begun k shaped)
     (raced_fresh k (zeros all) (start ∷ []) (null_begun k shaped) (λ seat u at. subst IsBlank (only start u seat at) ((refl, refl, refl, refl), refl, refl, refl, refl, refl)) (omega arith) (λ m. let e = none_below m in omega arith))
     (λ seat v at heavy. subst (λ (u : View). (start_of u ≡ null_of k) × (u.frozen ≡ true)) (only start v seat at) (refl, refl))
     (λ seat v at. subst (λ (u : View). u.spare ≤ u.weight) (only start v seat at) (omega arith))

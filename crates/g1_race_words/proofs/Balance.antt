@@ -85,7 +85,7 @@ balance_stays : (k : RaceShape) (began words new : List ℕ) (views : List View)
     → SameSlots k words new → Balanced k began words views → Balanced k began new (set views id w)
 balance_stays k began words new views id v w at same over slots = balance_same k began words new views (set views id w) slots (λ f q. total_same (stored_sum f q) views id v w at (ap (sum_in f q) same)) (λ f q. total_same (overwritten_sum f q) views id v w at (ap (sum_at f q) over))
 
--- the race after a step of a member that stores nothing: what the step may change is given
+-- the race after a step of a party that stores nothing: what the step may change is given
 pub raced_step : (begun : Begun) (words new : List ℕ) (views : List View) (id : ℕ) (v w : View) → get_elem? views id ≡ some v → v.weight ≡ 1 → (w.weight ≡ v.weight) × (v.spare ≡ w.spare) × (v.histories ≡ w.histories) × (v.overwritten ≡ w.overwritten) → length new ≡ length words → SameSlots begun.shape words new
     → Covered begun.shape begun.pairs new (set views id w) → Recorded begun.shape begun.words (set views id w) → PairsKept begun.shape begun.pairs new (set views id w) → Claimed begun.shape begun.words new (set views id w) → MarksCounted begun.shape begun.words new (set views id w) → Flagged begun.shape new (set views id w)
     → Raced begun words views → Raced begun new (set views id w)

@@ -37,7 +37,7 @@ module _ (z : TableId) (k : RaceShape) (fits : z.words ≡ word_count k) (shaped
   on_front : (i : ℕ) (f : ℕ → ℕ) → i < k.slots + k.cards → Flags i f
   on_front i f lt words sized = front_bits k words i (f (get_or words i 0)) (λ c. v.owed ≡ Some c) lt
 
-  -- a member's step on a word, where the race goes on
+  -- a party's step on a word, where the race goes on
   swaps : (i : ℕ) (f : ℕ → ℕ) (w : ℕ → View) (then : ℕ → Me (Unit {0}) View → Type 0) → i < z.words → Sits k v → ((n : ℕ) → Stays v (w n)) → Flags i f → ((n : ℕ) → Owing (w n))
       → ((words : List ℕ) (views : List View) (h : Going k words views) → get_elem? views s.id ≡ some v
       → Raced (begun k words views h) (set words i (f (get_or words i 0))) (set views s.id (w (get_or words i 0))) × then (get_or words i 0) (w (get_or words i 0), s.me.1))

@@ -1,4 +1,4 @@
--- What a member's step finds at a slot and at a mark.
+-- What a party's step finds at a slot and at a mark.
 use Rattle.std.specs.Prelude.{◌≡◌, ◌<◌, ◌≤◌}
 use Rattle.g1_race_words.specs.{ℕ, List, get_or, sym, ◌∙◌, subst, ⊎_elim, arith, some, some-injective, get_elem?, set, refl, RaceShape, View, Start, Going, Raced, beginning, mark_word, Sits, IsFound, HasMade, Makes, May, WordStep, after, found_by, left_by, place_of}
 use Rattle.g1_race_words.proofs.Plain.{read_at}
@@ -18,7 +18,7 @@ pub found_mark : (k : RaceShape) (c : ℕ) (words : List ℕ) (views : List View
 found_mark k c words views h lt = let is = read_at words (mark_word k c) (omega (arith, h.raced.sized, lt)) in
     ⊎_elim (λ x. omega (arith, some-injective _ _ (sym is ∙ x.0))) (λ x. omega (arith, some-injective _ _ (sym is ∙ x.0))) (h.raced.claimed c lt)
 
--- a member's step, by which the race goes on
+-- a party's step, by which the race goes on
 pub has_made : (k : RaceShape) (id : ℕ) (v : View) (step : WordStep) (words : List ℕ) (views : List View) (h : Going k words views) → get_elem? views id ≡ some v → Sits k v → May k step v → get_elem? words (place_of k step) ≡ some (found_by step)
     → Raced (begun k words views h) (set words (place_of k step) (left_by k step)) (set views id (after step v)) → HasMade v step
 has_made k id v step words views h at sits may found goes = let same = sym (h.agreed id v at (omega (arith, sits.weight))).0 in record {

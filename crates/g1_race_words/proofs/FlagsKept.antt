@@ -29,7 +29,7 @@ flags_from k first words new views after bits stays owes h = record {
       (owes c (seat, v, at, o));
 }
 
--- a member's step
+-- a party's step
 pub flags_step : (k : RaceShape) (first words new : List ℕ) (views : List View) (id : ℕ) (v w : View) → get_elem? views id ≡ some v → BitsFrom k words new (λ c. Owes c v) → ((c : ℕ) → StoresTo k c v → StoresTo k c w)
     → ((c : ℕ) → Owes c w → Owes c v ⊎ StoresTo k c w) → FlagsKept k first words views → FlagsKept k first new (set views id w)
 flags_step k first words new views id v w at bits stays owes h = flags_from k first words new views after

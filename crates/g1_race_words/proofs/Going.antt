@@ -5,14 +5,14 @@ use Rattle.g1_race_words.proofs.Plain.{weigh_all, each_set, each_snoc}
 use Rattle.g1_race_words.proofs.FlagsKept.{flags_split, flags_join, flags_enter}
 
 -- where one seat has all the weight, no other answers for anything
-pub others_blank : (begun : Begun) (words : List ℕ) (views : List View) (id : ℕ) (v : View) → Raced begun words views → get_elem? views id ≡ some v → v.weight ≡ begun.shape.members
+pub others_blank : (begun : Begun) (words : List ℕ) (views : List View) (id : ℕ) (v : View) → Raced begun words views → get_elem? views id ≡ some v → v.weight ≡ begun.shape.parties
     → (seat : ℕ) (u : View) → get_elem? views seat ≡ some u → ¬ (seat ≡ id) → IsBlank u
 others_blank begun words views id v h at all seat u there apart = h.weighed.1 seat u there (weigh_all views id seat v u at there apart (h.weighed.0 ∙ sym all))
 
 abbrev pub Agrees : Start → Bool → View → Type 0
 Agrees begin frozen v = 0 < v.weight → (start_of v ≡ begin) × (v.frozen ≡ frozen)
 
--- a member's step leaves its seat's weight, beginning and numbers
+-- a party's step leaves its seat's weight, beginning and numbers
 abbrev pub Stays : View → View → Type 0
 Stays v w = (w.weight ≡ v.weight) × (start_of w ≡ start_of v) × (w.frozen ≡ v.frozen) × (w.spare ≡ v.spare)
 
@@ -33,7 +33,7 @@ module _ (k : RaceShape) (words : List ℕ) (views : List View) (h : Going k wor
   pub known : (id : ℕ) (v : View) → get_elem? views id ≡ some v → 0 < v.weight → v.frozen ≡ true → words ≡ v.began_words
   known id v at heavy e = let mine = h.agreed id v at heavy in h.still (sym mine.1 ∙ e) ∙ sym (ap (λ (b : Start). b.words) mine.0)
 
-  -- a member's step
+  -- a party's step
   pub going_step : (new : List ℕ) (id : ℕ) (v w : View) → get_elem? views id ≡ some v → 0 < v.weight → v.frozen ≡ false → Stays v w → Raced begun new (set views id w) → FlagsKept k h.first new (set views id w) → Going k new (set views id w)
   going_step new id v w at heavy moving (weight, same, flag, spare) raced flags = record {
     first = h.first;

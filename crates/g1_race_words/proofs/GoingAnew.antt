@@ -15,7 +15,7 @@ total_alone f (u ∷ us) (suc id) v w at none = let a = none 0 u refl (λ e. abs
 
 -- a seat with all the weight
 
-module _ (k : RaceShape) (words : List ℕ) (views : List View) (id : ℕ) (v : View) (all : v.weight ≡ k.members) (pos : 0 < k.members) (h : Going k words views) (at : get_elem? views id ≡ some v) where
+module _ (k : RaceShape) (words : List ℕ) (views : List View) (id : ℕ) (v : View) (all : v.weight ≡ k.parties) (pos : 0 < k.parties) (h : Going k words views) (at : get_elem? views id ≡ some v) where
   pub mine : (start_of v ≡ started k h.first) × (v.frozen ≡ h.frozen)
   mine = h.agreed id v at (omega (arith, all, pos))
 
@@ -38,14 +38,14 @@ module _ (k : RaceShape) (words : List ℕ) (views : List View) (id : ℕ) (v : 
   no_numbers m seat u there ne = let few = h.spared seat u there in let empty = light seat u there ne in numbers_none m u (others seat u there ne).1 (omega (arith, few, empty))
 
   -- a race begins anew, with any words that one can start with
-  pub going_anew : (new : List ℕ) (w : View) → IsBegun (started k new) → IsBlank w → w.weight ≡ k.members → w.spare ≤ k.members → start_of w ≡ started k new → Going k new (set views id w)
+  pub going_anew : (new : List ℕ) (w : View) → IsBegun (started k new) → IsBlank w → w.weight ≡ k.parties → w.spare ≤ k.parties → start_of w ≡ started k new → Going k new (set views id w)
   going_anew new w b still weight spare is = going_fresh k new (set views id w) w.frozen b
       (raced_fresh k new (set views id w) b (each_set views id w IsBlank others still)
       (let a = total_set (λ u. u.weight) views id v w at in let t = h.raced.weighed.0 in omega (arith, a, t, all, weight))
       (λ m.
       let a = total_alone (numbers m) views id v w at (no_numbers m) in
       let t : tally m w.histories ≡ 0 = ap (tally m) still.1 in
-      let c = below_up_to m w.spare k.members spare in omega (arith, a, t, c)))
+      let c = below_up_to m w.spare k.parties spare in omega (arith, a, t, c)))
       (each_set views id w (λ (u : View). Agrees (started k new) w.frozen u) (λ seat u there ne lt. let z = light seat u there ne in absurd (omega (arith, z, lt))) (λ lt. (is, refl)))
       (each_set views id w (λ (u : View). u.spare ≤ u.weight) (λ seat u there ne. h.spared seat u there) (omega (arith, weight, spare)))
       (each_set views id w IsBlank others still)

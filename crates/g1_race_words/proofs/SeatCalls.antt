@@ -55,9 +55,9 @@ module _ (z : TableId) (k : RaceShape) (fits : z.words ≡ word_count k) (shaped
         (v, keeps, tt, rw (set-get_or t.words p 0, set_again t.views s.id v at) h, (refl, ap (λ (l : List ℕ). get_elem? l p) (sym (known k t.words t.views h s.id v at heavy (frozen_blank here).0)) ∙ read_at t.words p (omega (arith, h.raced.sized, lt)))),
   )
 
-  module _ (pos : 0 < k.members) where
+  module _ (pos : 0 < k.parties) where
     -- the words are learned
-    pub freeze_owed : v.weight ≡ k.members → AtRest v → Owed 0 (λ n. n) (λ n after. Freezes s.me after)
+    pub freeze_owed : v.weight ≡ k.parties → AtRest v → Owed 0 (λ n. n) (λ n after. Freezes s.me after)
     freeze_owed all rest = (
       table,
       some_word,
@@ -84,7 +84,7 @@ module _ (z : TableId) (k : RaceShape) (fits : z.words ≡ word_count k) (shaped
 
     module _ (paused : IsPaused z k s) where
       -- the race begins anew, with these words
-      anew : (p : ℕ) (f : ℕ → ℕ) (w : View) → p < z.words → IsBegun (started k w.began_words) → set v.began_words p (f (get_or v.began_words p 0)) ≡ w.began_words → IsBlank w → w.weight ≡ v.weight → w.spare ≤ k.members → w.shape ≡ v.shape → Owed p f (Is (λ _. w))
+      anew : (p : ℕ) (f : ℕ → ℕ) (w : View) → p < z.words → IsBegun (started k w.began_words) → set v.began_words p (f (get_or v.began_words p 0)) ≡ w.began_words → IsBlank w → w.weight ≡ v.weight → w.spare ≤ k.parties → w.shape ≡ v.shape → Owed p f (Is (λ _. w))
       anew p f w lt begun is still weight spare shape = (
         table,
         lt,

@@ -10,7 +10,7 @@ use Rattle.g1_race_words.proofs.Flags.{flags_moved}
 use Rattle.g1_race_words.proofs.Balance.{sum_both, sum_in_both, sum_in, none_in, balance_same}
 use Rattle.g1_race_words.proofs.Unchanged.{stored_same, same_slots, recorded_same, claimed_same, counted_same}
 
--- a member's seat is split off from a seat that answers for nothing
+-- a party's seat is split off from a seat that answers for nothing
 
 held_split_blank : (views : List View) (id : ℕ) (v left right : View) → get_elem? views id ≡ some v → v.histories ≡ left.histories → ((h : StoreHistory) → In right.histories h → h.1 ≡ [])
     → (h : StoreHistory) → (Held histories_of views h → Held histories_of (set views id left ++ right ∷ []) h) × (Held histories_of (set views id left ++ right ∷ []) h → Held histories_of views h ⊎ (h.1 ≡ []))
@@ -54,7 +54,7 @@ raced_split begun words views id v right still heavy one fewer fresh claims clea
   flagged = flags_moved begun.shape words words views after (λ c lt m. m) (λ c b. b) (λ c. (held_split flagged_of views id v (after_split v) right at refl flag_none c).1) h.flagged;
 }
 
--- a seat takes in a member's seat that is at rest
+-- a seat takes in a party's seat that is at rest
 
 weighed_join : (k : RaceShape) (views : List View) (id : ℕ) (v : View) (other : ℕ) (u spent : View) → u.weight ≡ 1 → IsBlank spent → spent.weight ≡ 0
     → get_elem? views id ≡ some v → ¬ (other ≡ id) → get_elem? (set views id (both v u)) other ≡ some u → Weighed k views → Weighed k (set (set views id (both v u)) other spent)

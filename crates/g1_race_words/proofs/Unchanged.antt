@@ -4,7 +4,7 @@ use Rattle.g1_race_words.specs.{subst, ℕ, List, [], set, Some, None, sym, ap, 
 use Rattle.g1_race_words.proofs.Plain.{total_same, each_set, SameHeld, held_same, total_set}
 use Rattle.g1_race_words.proofs.CoverStores.{mark_apart}
 
--- the weight, at a step of one member
+-- the weight, at a step of one party
 
 pub weighed_step : (k : RaceShape) (views : List View) (id : ℕ) (v w : View) → get_elem? views id ≡ some v → v.weight ≡ 1 → w.weight ≡ 1 → Weighed k views → Weighed k (set views id w)
 weighed_step k views id v w at a b h = (

@@ -153,10 +153,10 @@ total part (view ∷ views) = part view + total part views
 abbrev pub weigh : List View → ℕ
 weigh views = total (λ v. v.weight) views
 
--- the views have as much weight as there are members, and one with none answers for nothing
+-- the views have as much weight as there are parties, and one with none answers for nothing
 abbrev pub Weighed : RaceShape → List View → Type 0
 Weighed heap views =
-    (weigh views ≡ heap.members) × ((seat : ℕ) (v : View) → get_elem? views seat ≡ some v
+    (weigh views ≡ heap.parties) × ((seat : ℕ) (v : View) → get_elem? views seat ≡ some v
     → v.weight ≡ 0 → IsBlank v)
 
 abbrev pub as_number : Bool → ℕ
@@ -175,10 +175,10 @@ history_count number view = tally number view.histories
 abbrev pub numbers : ℕ → View → ℕ
 numbers number view = as_number (nat_lt number view.spare) + history_count number view
 
--- each number below that of the members stands once at most: in one history of one view, or with
+-- each number below that of the parties stands once at most: in one history of one view, or with
 -- one that can still give it; and no other number stands anywhere
 abbrev pub Numbered : RaceShape → List View → Type 0
-Numbered heap views = (m : ℕ) → total (numbers m) views ≤ as_number (nat_lt m heap.members)
+Numbered heap views = (m : ℕ) → total (numbers m) views ≤ as_number (nat_lt m heap.parties)
 
 -- each slot has the word that some racer stored to it last, or the one that it began with, and no
 -- racer has stored to it
@@ -324,7 +324,7 @@ IsOfCrossing heap pair =
 abbrev pub IsWholeShape : RaceShape → Type 0
 IsWholeShape heap =
     (heap.slots ≡ heap.cards * heap.size) × (0 < heap.size) × (0 < heap.span)
-    × (heap.slots < 2 ^ 32) × (heap.members < 2 ^ 32) × (0 < heap.cards)
+    × (heap.slots < 2 ^ 32) × (heap.parties < 2 ^ 32) × (0 < heap.cards)
     × (heap.slots ≡ heap.regions * heap.span) × (heap.cards ≤ heap.row * 64)
     × (heap.bits ≡ heap.regions * heap.row) × (heap.bits < 2 ^ 32)
 

@@ -15,7 +15,7 @@ pub record Words : Type 0 where
   pub shape : RaceShape
   pub address : Ptr
 
--- a member's seat while mutators run: it is of this race, and has one member's weight
+-- a party's seat while mutators run: it is of this race, and has one party's weight
 pub record Sits (heap : RaceShape) (view : View) : Type 0 where
   pub shape : view.shape ≡ heap
   pub weight : view.weight ≡ 1
@@ -40,7 +40,7 @@ abbrev pub HoldsBit : RaceShape → View → ℕ × ℕ → ℕ → Type 0
 HoldsBit heap view pair word =
     (view.held ≡ pair ∷ []) × IsPair heap pair × (word ≡ bit_word heap pair)
 
--- the seat of a pause that ends, with the share of a member still to give
+-- the seat of a pause that ends, with the share of a party still to give
 abbrev pub IsWholeSeat : View → Type 0
 IsWholeSeat view = (begin : Start) × (weight : ℕ) × (view ≡ whole_seat begin weight) × (0 < weight)
 
@@ -55,7 +55,7 @@ pub record IsAtPause (table_id : TableId) (heap : RaceShape) (seat : Seat (Unit 
 pub record IsPaused (table_id : TableId) (heap : RaceShape) (seat : Seat (Unit {0}) View)
     : Type 0 where
   pub here : IsAtPause table_id heap seat
-  pub all : seat.me.0.weight ≡ heap.members
+  pub all : seat.me.0.weight ≡ heap.parties
 
 -- at some moment of the race, with the seat's view so, the slot had the word
 pub record IsFound (view : View) (slot word : ℕ) : Type 0 where

@@ -1,4 +1,4 @@
--- The kinds of step that members make on the words of a race: each is made on one word by one seat.
+-- The kinds of step that parties make on the words of a race: each is made on one word by one seat.
 use Rattle.std.specs.Prelude.{◌≡◌, ◌<◌, ◌^◌, ◌==◌, if◌then◌else◌, ◌∷◌, ◌++◌, ◌⊎◌}
 use Rattle.g1_race_words.specs.Prelude.{ℕ, bit_or, List, [], map, slice_set, Some, None, some}
 use Rattle.g1_race_words.specs.Prelude.{get_elem?}

@@ -138,7 +138,7 @@ sought view word = record view { held = unset view.shape word view.held }
 abbrev pub recorded : View → View
 recorded view = record view { held = [] }
 
--- one member's share of the weight is cut off, and the number that goes with it
+-- one party's share of the weight is cut off, and the number that goes with it
 abbrev pub after_split : View → View
 after_split view = record view { weight = view.weight - 1; spare = view.spare - 1 }
 
@@ -180,5 +180,5 @@ no_seat =
       regions = 0;
       row = 0;
       bits = 0;
-      members = 0;
+      parties = 0;
     })) 0 []

@@ -19,7 +19,7 @@
 //!   set.
 //! - Seats are made, split and joined. Each of these is a load of the first word, whose value
 //!   nothing uses.
-//! - At a pause, the one seat that has the weight of all members learns the words, reads and writes
+//! - At a pause, the one seat that has the weight of all parties learns the words, reads and writes
 //!   them, and lets them change again.
 //! - That seat may give shares of what it knows to readers ([`RaceTable::split_reader`]), each of
 //!   which reads words ([`RaceTable::see`]). They join it again before a word changes.

@@ -1,4 +1,4 @@
-//! The steps of a pause. The one seat that has the weight of all members makes them.
+//! The steps of a pause. The one seat that has the weight of all parties makes them.
 ghost use Rattle.std.specs.Prelude.{◌≡◌, ◌<◌};
 ghost use Rattle.g1_race_words.specs.Prelude.{slice_set};
 ghost use Rattle.g1_race_words.specs.Rule.{AtRest, IsBegun, started, word_count};
@@ -41,7 +41,7 @@ impl RaceTable {
     /// beginning of the race. No word changes.
     pub fn freeze(&self, seat: &mut RaceSeat)
         requires table { seat.old.table_id ≡ self.now.table_id }
-        requires all { seat.old.me.0.weight ≡ self.now.shape.members }
+        requires all { seat.old.me.0.weight ≡ self.now.shape.parties }
         requires rest { AtRest seat.old.me.0 }
         ensures table { seat.new.table_id ≡ seat.old.table_id }
         ensures told { Freezes seat.old.me seat.new.me }

@@ -11,5 +11,5 @@ impl TableRule<(), View, RaceShape> for RaceRule {
 
     ghost holds = { λ k s. Going k s.words s.views };
 
-    ghost first = { λ k. frozen_seat (null_of k) k.members };
+    ghost first = { λ k. frozen_seat (null_of k) k.parties };
 }

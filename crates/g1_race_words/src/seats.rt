@@ -71,7 +71,7 @@ impl RaceTable {
         RaceSeat { seat }
     }
 
-    /// Makes a vacant seat, such as a join leaves. It stands in for the seat of a member that a
+    /// Makes a vacant seat, such as a join leaves. It stands in for the seat of a party that a
     /// pause has taken, and its shape is that of no race.
     pub fn vacant(&self) -> RaceSeat
         ensures table { result.table_id ≡ self.now.table_id }
@@ -115,12 +115,12 @@ impl RaceTable {
         }
     }
 
-    /// Joins the seat of a member at rest to another seat, which takes in what the member knows.
-    /// The member's seat is used up.
+    /// Joins the seat of a party at rest to another seat, which takes in what the party knows.
+    /// The party's seat is used up.
     pub fn join(&self, seat: &mut RaceSeat, other: RaceSeat)
         requires table { (seat.old.table_id ≡ self.now.table_id)
             × (other.table_id ≡ self.now.table_id) }
-        requires member { (other.me.0.weight ≡ 1) × AtRest other.me.0 }
+        requires party { (other.me.0.weight ≡ 1) × AtRest other.me.0 }
         ensures table { seat.new.table_id ≡ seat.old.table_id }
         ensures view { seat.new.me ≡ (both seat.old.me.0 other.me.0, seat.old.me.1) }
     {

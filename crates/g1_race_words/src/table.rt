@@ -37,7 +37,7 @@ impl Model for RaceTable {
 
     ghost invariant = { λ a. (a.table.shared.table_id.words ≡ word_count a.table.shared.key)
         × (a.table.shared.table_id.slots ≡ 0)
-        × IsWholeShape a.table.shared.key × (0 < a.table.shared.key.members) };
+        × IsWholeShape a.table.shared.key × (0 < a.table.shared.key.parties) };
 }
 
 /// A seat at the words of a race. It has no bytes.
@@ -68,11 +68,11 @@ impl RaceTable {
     #[tactic(auto, using(crate::proofs::going_first, crate::proofs::null_begun))]
     pub fn open(alloc: Global, shape: RaceShape) -> Result<(RaceTable, RaceSeat), AllocError>
         requires shape { IsWholeShape shape }
-        requires members { 0 < shape.members }
+        requires parties { 0 < shape.parties }
         ensures shape { IfOk result (λ r. r.0.shape ≡ shape) }
         ensures seat { IfOk result (λ r. IsPaused r.0.table_id shape r.1) }
         ensures words { IfOk result (λ r.
-            r.1.me ≡ (frozen_seat (null_of shape) shape.members, [])) }
+            r.1.me ≡ (frozen_seat (null_of shape) shape.parties, [])) }
     {
         let zeros = vec![in alloc; 0u64; shape.slots + shape.cards + shape.bits + shape.row]?;
         let (table, seat) = Table::of_words(alloc, &zeros, &shape)?;

@@ -32,12 +32,12 @@ some_place : (t : Option ℕ) (n : ℕ) → n ≢ 0 → n ≡ word_of t → (pla
 some_place None n ne e = absurd (ne e)
 some_place (Some place) n ne e = let w : n ≡ place + 1 = e in (place, refl, omega arith)
 
-module _ (e : Ended) (members mutators : ℕ) (commands : List Command) (views sweepers : List View) (over : IsOver (null_begun e.layout members) e.words views sweepers)
+module _ (e : Ended) (parties mutators : ℕ) (commands : List Command) (views sweepers : List View) (over : IsOver (null_begun e.layout parties) e.words views sweepers)
     (each : (h : StoreHistory) → Among histories_of views h → (m : ℕ) × (m < mutators) × (h.1 ≡ own m commands))
     (every : (m : ℕ) → m < mutators → (h : StoreHistory) × Among histories_of views h × (h.1 ≡ own m commands))
     (low : (m slot word : ℕ) → m < mutators → In (own m commands) (slot, word) → word < 2 ^ 32) where
   abbrev begun : Begun
-  begun = null_begun e.layout members
+  begun = null_begun e.layout parties
 
   refs_left : AreLeftBy e.layout mutators commands (refs_of e)
   refs_left = record {
@@ -60,9 +60,9 @@ module _ (e : Ended) (members mutators : ℕ) (commands : List Command) (views s
           inr (refers ∙ ap target_of_word null, λ m lt. let own_h = every m lt in none_last (last_by m slot commands) (sym (last_own m slot commands) ∙ ap (λ (l : List (ℕ × ℕ)). last_to slot l) (sym own_h.2) ∙ x.1 own_h.0 own_h.1)))
           (over.last slot n lt at)
 
-  stored_into : (card region : ℕ) → AmongStores (shape_of e.layout members) views (card, region) → StoresInto e.layout commands card region
+  stored_into : (card region : ℕ) → AmongStores (shape_of e.layout parties) views (card, region) → StoresInto e.layout commands card region
   stored_into card region s =
-      let k = shape_of e.layout members in
+      let k = shape_of e.layout parties in
       let slot = s.1 in
       let n = s.2 in
       let by = each s.0 s.3 in
@@ -78,9 +78,9 @@ module _ (e : Ended) (members mutators : ℕ) (commands : List Command) (views s
       }
 
   -- nothing was there at the beginning
-  had : (card region : ℕ) → AmongStores (shape_of e.layout members) views (card, region) ⊎ BeganInto (shape_of e.layout members) begun.words (card, region) ⊎ In begun.pairs (card, region) → StoresInto e.layout commands card region
+  had : (card region : ℕ) → AmongStores (shape_of e.layout parties) views (card, region) ⊎ BeganInto (shape_of e.layout parties) begun.words (card, region) ⊎ In begun.pairs (card, region) → StoresInto e.layout commands card region
   had card region (inl s) = stored_into card region s
-  had card region (inr (inl b)) = absurd ((crosses_reference (shape_of e.layout members) b.0 b.1 b.3.2).0 (at_zeros (slot_count e.layout + card_count e.layout) b.0 b.1 b.2))
+  had card region (inr (inl b)) = absurd ((crosses_reference (shape_of e.layout parties) b.0 b.1 b.3.2).0 (at_zeros (slot_count e.layout + card_count e.layout) b.0 b.1 b.2))
   had card region (inr (inr i)) = absurd i
 
   pub table_left : IsCovered (table_of e) → ((x : ℕ × ℕ) → Contains e.pairs x → IsPairOf e.layout x) → ((x : ℕ × ℕ) → Contains e.pairs x → IsKnown begun sweepers x) → IsTableLeftBy mutators commands e
@@ -90,6 +90,6 @@ module _ (e : Ended) (members mutators : ℕ) (commands : List Command) (views s
     pairs = λ card region r. within (card, region) (in_pairs e.pairs (card, region) r);
     had = λ card region h. ⊎_elim
         (λ (r : IsRecorded (table_of e) card region). had card region (known_once begun e.words views sweepers over card region (known (card, region) (in_pairs e.pairs (card, region) r))))
-        (λ (x : Holds (table_of e) card region). had card region (stored_now begun e.words views sweepers over card region (in_shape e members card region x)))
+        (λ (x : Holds (table_of e) card region). had card region (stored_now begun e.words views sweepers over card region (in_shape e parties card region x)))
         h;
   }

@@ -1,6 +1,6 @@
--- Lists whose items fit their places, and lists of members, by kinds.
+-- Lists whose items fit their places, and lists of parties, by kinds.
 use Rattle.std.specs.Prelude.{◌≡◌, ◌+◌, ◌∷◌, ◌++◌}
-use Rattle.g1_replay.specs.{Some, None, IfSome, cons_option, ℕ, suc, List, [], length, map, ap, sym, subst, ◌∙◌, refl, arith, append_assoc, All, Option, append-nil, sum_by, filter_map, filter_map-append, All-nil, All-cons, All-head, All-tail, sum_by-cons, sum_by_push, Line, sender_rights, taker_rights, IsSenderOf, IsTakerOf, null_of, race_id, racer_race, racer_start, sweeper_race, sweeper_start, Member, Racing, Sweeping, IsMemberOf, member_rights, AllFrom, racer_in, sender_in, sweeper_in, taker_in}
+use Rattle.g1_replay.specs.{Some, None, IfSome, cons_option, ℕ, suc, List, [], length, map, ap, sym, subst, ◌∙◌, refl, arith, append_assoc, All, Option, append-nil, sum_by, filter_map, filter_map-append, All-nil, All-cons, All-head, All-tail, sum_by-cons, sum_by_push, Line, sender_rights, taker_rights, IsSenderOf, IsTakerOf, null_of, race_id, racer_race, racer_start, sweeper_race, sweeper_start, Party, Racing, Sweeping, IsPartyOf, party_rights, AllFrom, racer_in, sender_in, sweeper_in, taker_in}
 use Rattle.std.proofs.lemmas.List.{nil_from_length}
 use Rattle.g1_race.specs.declared.race.Race.{Race}
 
@@ -20,14 +20,14 @@ module _ {A : Type 0} (P : ℕ → A → Type 0) where
 pub all_moved : {B : Type 0} (old rest all : List B) → length rest ≡ 0 → old ++ rest ≡ all → old ≡ all
 all_moved old rest all e was = sym (append-nil old) ∙ ap (λ l. old ++ l) (sym (nil_from_length rest e)) ∙ was
 
--- one member more is back
-pub back_more : {B : Type 0} (kind : Member → Option B) (old new one : List B) (members : List Member) (m : Member) → old ≡ filter_map kind members → new ≡ old ++ one → filter_map kind (m ∷ []) ≡ one → new ≡ filter_map kind (members ++ m ∷ [])
-back_more kind old new one members m was e is = e ∙ ap (λ l. l ++ one) was ∙ ap (λ l. filter_map kind members ++ l) (sym is) ∙ sym (filter_map-append kind members (m ∷ []))
+-- one party more is back
+pub back_more : {B : Type 0} (kind : Party → Option B) (old new one : List B) (parties : List Party) (m : Party) → old ≡ filter_map kind parties → new ≡ old ++ one → filter_map kind (m ∷ []) ≡ one → new ≡ filter_map kind (parties ++ m ∷ [])
+back_more kind old new one parties m was e is = e ∙ ap (λ l. l ++ one) was ∙ ap (λ l. filter_map kind parties ++ l) (sym is) ∙ sym (filter_map-append kind parties (m ∷ []))
 
 -- the first of the jobs that are left is behind those that were
-pub next_behind : {D : Type 0} (member : D → Member) (members : List Member) (ds rest : List D) (d : D) (m : Member) (all : List Member) → ds ≡ d ∷ rest → m ≡ member d → members ++ map member ds ≡ all → (members ++ m ∷ []) ++ map member rest ≡ all
-next_behind member members ds rest d m all q e was =
-    append_assoc members (m ∷ []) (map member rest) ∙ ap (λ x. members ++ x ∷ map member rest) e ∙ ap (λ l. members ++ map member l) (sym q) ∙ was
+pub next_behind : {D : Type 0} (party : D → Party) (parties : List Party) (ds rest : List D) (d : D) (m : Party) (all : List Party) → ds ≡ d ∷ rest → m ≡ party d → parties ++ map party ds ≡ all → (parties ++ m ∷ []) ++ map party rest ≡ all
+next_behind party parties ds rest d m all q e was =
+    append_assoc parties (m ∷ []) (map party rest) ∙ ap (λ x. parties ++ x ∷ map party rest) e ∙ ap (λ l. parties ++ map party l) (sym q) ∙ was
 
 -- what is chosen from a list whose items give what it is to be
 chosen_before : {B : Type 0} (Q : B → Type 0) (o : Option B) (ys : List B) → IfSome o Q → All Q ys → All Q (cons_option o ys)
@@ -38,37 +38,37 @@ pub all_chosen : {A B : Type 0} (P : A → Type 0) (Q : B → Type 0) (f : A →
 all_chosen P Q f each [] all = All-nil Q
 all_chosen P Q f each (x ∷ xs) all = chosen_before Q (f x) (filter_map f xs) (each x (All-head P x xs all)) (all_chosen P Q f each xs (All-tail P x xs all))
 
--- what a member is of: the race, which began with nulls, and the line
-pub racer_of : (race : Race) (line : Line) (m : Member) → IsMemberOf race line m → IfSome (racer_in m) (λ r. (racer_race r ≡ race_id race) × (racer_start r ≡ null_of race.shape))
+-- what a party is of: the race, which began with nulls, and the line
+pub racer_of : (race : Race) (line : Line) (m : Party) → IsPartyOf race line m → IfSome (racer_in m) (λ r. (racer_race r ≡ race_id race) × (racer_start r ≡ null_of race.shape))
 racer_of race line (Racing r s) of = (of.0, of.2)
 racer_of race line (Sweeping w t) of = tt
 
-pub sweeper_of : (race : Race) (line : Line) (m : Member) → IsMemberOf race line m → IfSome (sweeper_in m) (λ w. (sweeper_race w ≡ race_id race) × (sweeper_start w ≡ null_of race.shape))
+pub sweeper_of : (race : Race) (line : Line) (m : Party) → IsPartyOf race line m → IfSome (sweeper_in m) (λ w. (sweeper_race w ≡ race_id race) × (sweeper_start w ≡ null_of race.shape))
 sweeper_of race line (Racing r s) of = tt
 sweeper_of race line (Sweeping w t) of = (of.0, of.2)
 
-pub sender_of : (race : Race) (line : Line) (m : Member) → IsMemberOf race line m → IfSome (sender_in m) (IsSenderOf line)
+pub sender_of : (race : Race) (line : Line) (m : Party) → IsPartyOf race line m → IfSome (sender_in m) (IsSenderOf line)
 sender_of race line (Racing r s) of = of.1
 sender_of race line (Sweeping w t) of = tt
 
-pub taker_of : (race : Race) (line : Line) (m : Member) → IsMemberOf race line m → IfSome (taker_in m) (IsTakerOf line)
+pub taker_of : (race : Race) (line : Line) (m : Party) → IsPartyOf race line m → IfSome (taker_in m) (IsTakerOf line)
 taker_of race line (Racing r s) of = tt
 taker_of race line (Sweeping w t) of = of.1
 
-pub sorted_length : (ms : List Member) → length (filter_map racer_in ms) + length (filter_map sweeper_in ms) ≡ length ms
+pub sorted_length : (ms : List Party) → length (filter_map racer_in ms) + length (filter_map sweeper_in ms) ≡ length ms
 sorted_length [] = refl
 sorted_length (Racing r s ∷ ms) = let rest = sorted_length ms in omega (arith, rest)
 sorted_length (Sweeping w t ∷ ms) = let rest = sorted_length ms in omega (arith, rest)
 
-pub sorted_rights : (ms : List Member) → sum_by sender_rights (filter_map sender_in ms) + sum_by taker_rights (filter_map taker_in ms) ≡ sum_by member_rights ms
+pub sorted_rights : (ms : List Party) → sum_by sender_rights (filter_map sender_in ms) + sum_by taker_rights (filter_map taker_in ms) ≡ sum_by party_rights ms
 sorted_rights [] = refl
-sorted_rights (Racing r s ∷ ms) = let rest = sorted_rights ms in omega (arith, rest, sum_by-cons sender_rights s (filter_map sender_in ms), sum_by-cons member_rights (Racing r s) ms)
-sorted_rights (Sweeping w t ∷ ms) = let rest = sorted_rights ms in omega (arith, rest, sum_by-cons taker_rights t (filter_map taker_in ms), sum_by-cons member_rights (Sweeping w t) ms)
+sorted_rights (Racing r s ∷ ms) = let rest = sorted_rights ms in omega (arith, rest, sum_by-cons sender_rights s (filter_map sender_in ms), sum_by-cons party_rights (Racing r s) ms)
+sorted_rights (Sweeping w t ∷ ms) = let rest = sorted_rights ms in omega (arith, rest, sum_by-cons taker_rights t (filter_map taker_in ms), sum_by-cons party_rights (Sweeping w t) ms)
 
--- rights that go from an end into a member
-pub rights_move : {Y : Type 0} (h : Y → ℕ) (ms now : List Member) (ys rest : List Y) (m : Member) (y : Y) (total : ℕ) → now ≡ ms ++ m ∷ [] → ys ≡ rest ++ y ∷ [] → member_rights m ≡ h y → sum_by member_rights ms + sum_by h ys ≡ total
-    → sum_by member_rights now + sum_by h rest ≡ total
+-- rights that go from an end into a party
+pub rights_move : {Y : Type 0} (h : Y → ℕ) (ms now : List Party) (ys rest : List Y) (m : Party) (y : Y) (total : ℕ) → now ≡ ms ++ m ∷ [] → ys ≡ rest ++ y ∷ [] → party_rights m ≡ h y → sum_by party_rights ms + sum_by h ys ≡ total
+    → sum_by party_rights now + sum_by h rest ≡ total
 rights_move h ms now ys rest m y total p q e was =
-    let a : sum_by member_rights now ≡ sum_by member_rights ms + member_rights m = ap (λ l. sum_by member_rights l) p ∙ sum_by_push member_rights ms m in
+    let a : sum_by party_rights now ≡ sum_by party_rights ms + party_rights m = ap (λ l. sum_by party_rights l) p ∙ sum_by_push party_rights ms m in
     let b : sum_by h ys ≡ sum_by h rest + h y = ap (λ l. sum_by h l) q ∙ sum_by_push h rest y in
     omega (arith, a, b, e, was)

@@ -1,18 +1,18 @@
--- What the members of a race have stored once its jobs were run.
+-- What the parties of a race have stored once its jobs were run.
 use Rattle.std.specs.Prelude.{◌≡◌, ◌<◌, ◌≤◌, ◌+◌, ◌∷◌}
-use Rattle.g1_replay.specs.{ℕ, get_or-map, suc, List, [], length, map, ap, sym, subst, ◌∙◌, refl, arith, true, false, append-nil, Option, Some, None, inl, inr, Result, Ok, Err, All, sum_by, filter_map, AllZip, option_or, true≢false, false≢true, le-ltb, lt-ltb, All-nil, All-cons, sum_by-cons, Line, View, StoreHistory, In, histories_of, Among, racer_view, Job, Script, Mutate, Refine, Refusal, Step, Ask, asks_in, asks_of, JobRan, Ran, Member, Racing, Sweeping, IsMemberOf, MemberDid, histories_after, member_rights, AllFrom, IsNewMember, with_flush, IsScriptAt, racer_in, first_refusal, refusal_in}
+use Rattle.g1_replay.specs.{ℕ, get_or-map, suc, List, [], length, map, ap, sym, subst, ◌∙◌, refl, arith, true, false, append-nil, Option, Some, None, inl, inr, Result, Ok, Err, All, sum_by, filter_map, AllZip, option_or, true≢false, false≢true, le-ltb, lt-ltb, All-nil, All-cons, sum_by-cons, Line, View, StoreHistory, In, histories_of, Among, racer_view, Job, Script, Mutate, Refine, Refusal, Step, Ask, asks_in, asks_of, JobRan, Ran, Party, Racing, Sweeping, IsPartyOf, PartyDid, histories_after, party_rights, AllFrom, IsNewParty, with_flush, IsScriptAt, racer_in, first_refusal, refusal_in}
 use native.Mathlib.Decide.{ℕ_discrete}
 use Rattle.g1_race.specs.declared.race.Race.{Race}
 use Rattle.g1_replay.proofs.JobLemmas.{none_first}
 use Rattle.g1_replay.proofs.StoreLemmas.{flush_stores_none, one_history, steps_at, stored_at, stored_by}
 
--- what member k has stored once its script was run
-abbrev pub HasRun : (mutators : ℕ) → (ℕ → List (ℕ × ℕ)) → ℕ → Member → Type 0
+-- what party k has stored once its script was run
+abbrev pub HasRun : (mutators : ℕ) → (ℕ → List (ℕ × ℕ)) → ℕ → Party → Type 0
 HasRun mutators own k (Racing r s) = (k < mutators) × ((number : ℕ) × ((racer_view r).histories ≡ (number, own k) ∷ []))
 HasRun mutators own k (Sweeping w t) = mutators ≤ k
 
 module _ {E : Type 0} (steps : E → List Step) (race : Race) (line : Line) (mutators rounds : ℕ) (scripts : List E) (len : length scripts ≡ mutators) where
-  run_of : (k : ℕ) (m n : Member) (script : Script) → IsNewMember race line mutators k m × IsScriptAt (with_flush steps) rounds scripts k script → MemberDid m (asks_in script) n → HasRun mutators (stored_at steps scripts) k n
+  run_of : (k : ℕ) (m n : Party) (script : Script) → IsNewParty race line mutators k m × IsScriptAt (with_flush steps) rounds scripts k script → PartyDid m (asks_in script) n → HasRun mutators (stored_at steps scripts) k n
   run_of k (Racing r s) (Racing r' s') (Mutate made) j d =
       let number = j.0.fresh.0 in
       let own = j.1.0 in
@@ -35,9 +35,9 @@ module _ {E : Type 0} (steps : E → List Step) (race : Race) (line : Line) (mut
 pub first_left : {D : Type 0} (outcome : D → Option (Result ℕ (ℕ × Refusal))) (ds rest : List D) (d : D) (total : Option Refusal) → ds ≡ d ∷ rest → None ≡ refusal_in (outcome d) → first_refusal (map outcome ds) ≡ total → first_refusal (map outcome rest) ≡ total
 first_left {D = D} outcome ds rest d total e none was = ap (λ (o : Option Refusal). option_or o (first_refusal (map outcome rest))) none ∙ ap (λ (l : List D). first_refusal (map outcome l)) (sym e) ∙ was
 
-module _ {D : Type 0} (member : D → Member) where
+module _ {D : Type 0} (party : D → Party) where
   abbrev pub Did : D → List Ask → D → Type 0
-  Did d asks e = MemberDid (member d) asks (member e)
+  Did d asks e = PartyDid (party d) asks (party e)
 
   -- a job that was not refused made all its calls
   did_all : (asks : List Ask) (d e : D) (o : Option (Result ℕ (ℕ × Refusal))) → refusal_in o ≡ None → Ran Did asks d o e → Did d asks e
@@ -47,30 +47,30 @@ module _ {D : Type 0} (member : D → Member) where
 
   -- what the jobs of a race leave
   pub record AreRun (race : Race) (line : Line) (mutators : ℕ) (own : ℕ → List (ℕ × ℕ)) (k : ℕ) (js ds : List (Job D)) : Type 0 where
-    pub run : AllFrom (HasRun mutators own) k (map (λ job. member job.desk) ds)
-    pub of : All (IsMemberOf race line) (map (λ job. member job.desk) ds)
-    pub rights : sum_by member_rights (map (λ job. member job.desk) ds) ≡ sum_by member_rights (map (λ job. member job.desk) js)
-    pub len : length (map (λ job. member job.desk) ds) ≡ length (map (λ job. member job.desk) js)
+    pub run : AllFrom (HasRun mutators own) k (map (λ job. party job.desk) ds)
+    pub of : All (IsPartyOf race line) (map (λ job. party job.desk) ds)
+    pub rights : sum_by party_rights (map (λ job. party job.desk) ds) ≡ sum_by party_rights (map (λ job. party job.desk) js)
+    pub len : length (map (λ job. party job.desk) ds) ≡ length (map (λ job. party job.desk) js)
 
   module _ {E : Type 0} (steps : E → List Step) (race : Race) (line : Line) (mutators rounds : ℕ) (scripts : List E) (many : length scripts ≡ mutators) where
-    pub are_run : (k : ℕ) (js ds : List (Job D)) → AllFrom (λ i job. IsNewMember race line mutators i (member job.desk) × IsScriptAt (with_flush steps) rounds scripts i job.script) k js → AllZip (JobRan Did) js ds → first_refusal (map (λ job. job.outcome) ds) ≡ None → AreRun race line mutators (stored_at steps scripts) k js ds
-    are_run k [] [] all r none = record { run = tt; of = All-nil (IsMemberOf race line); rights = refl; len = refl }
+    pub are_run : (k : ℕ) (js ds : List (Job D)) → AllFrom (λ i job. IsNewParty race line mutators i (party job.desk) × IsScriptAt (with_flush steps) rounds scripts i job.script) k js → AllZip (JobRan Did) js ds → first_refusal (map (λ job. job.outcome) ds) ≡ None → AreRun race line mutators (stored_at steps scripts) k js ds
+    are_run k [] [] all r none = record { run = tt; of = All-nil (IsPartyOf race line); rights = refl; len = refl }
     are_run k (x ∷ xs) (y ∷ ys) all r none =
         let first = none_first (refusal_in y.outcome) (first_refusal (map (λ job. job.outcome) ys)) none in
         let did = did_all (asks_in x.script) x.desk y.desk y.outcome first.0 r.0.1 in
         let rest = are_run (suc k) xs ys all.1 r.1 first.1 in
-        let ms = map (λ (job : Job D). member job.desk) xs in
-        let ns = map (λ (job : Job D). member job.desk) ys in
+        let ms = map (λ (job : Job D). party job.desk) xs in
+        let ns = map (λ (job : Job D). party job.desk) ys in
         record {
-          run = (run_of steps race line mutators rounds scripts many k (member x.desk) (member y.desk) x.script all.0 did, rest.run);
-          of = All-cons (IsMemberOf race line) (member y.desk) ns (did.race ∙ all.0.0.of.0, did.home ∙ all.0.0.of.1, did.start ∙ all.0.0.of.2) rest.of;
-          rights = omega (arith, did.rights, rest.rights, sum_by-cons member_rights (member x.desk) ms, sum_by-cons member_rights (member y.desk) ns);
+          run = (run_of steps race line mutators rounds scripts many k (party x.desk) (party y.desk) x.script all.0 did, rest.run);
+          of = All-cons (IsPartyOf race line) (party y.desk) ns (did.race ∙ all.0.0.of.0, did.home ∙ all.0.0.of.1, did.start ∙ all.0.0.of.2) rest.of;
+          rights = omega (arith, did.rights, rest.rights, sum_by-cons party_rights (party x.desk) ms, sum_by-cons party_rights (party y.desk) ns);
           len = ap suc rest.len;
         }
     are_run k js ds all r none = absurd r
 
 -- what the racers know
-abbrev pub views_of : List Member → List View
+abbrev pub views_of : List Party → List View
 views_of ms = map racer_view (filter_map racer_in ms)
 
 module _ (mutators : ℕ) (own : ℕ → List (ℕ × ℕ)) where
@@ -82,14 +82,14 @@ module _ (mutators : ℕ) (own : ℕ → List (ℕ × ℕ)) where
       last (inr nothing) = absurd nothing
 
   -- each history is that of some mutator
-  pub each_own : (k : ℕ) (ms : List Member) → AllFrom (HasRun mutators own) k ms → (h : StoreHistory) → Among histories_of (views_of ms) h → (m : ℕ) × (m < mutators) × (h.1 ≡ own m)
+  pub each_own : (k : ℕ) (ms : List Party) → AllFrom (HasRun mutators own) k ms → (h : StoreHistory) → Among histories_of (views_of ms) h → (m : ℕ) × (m < mutators) × (h.1 ≡ own m)
   each_own k [] all h a = absurd a
   each_own k (Racing r s ∷ ms) all h (inl i) = (k, all.0.0, one_of (racer_view r).histories all.0.1.0 (own k) h all.0.1.1 i)
   each_own k (Racing r s ∷ ms) all h (inr a) = each_own (suc k) ms all.1 h a
   each_own k (Sweeping w t ∷ ms) all h a = each_own (suc k) ms all.1 h a
 
   -- each mutator's stores are some history
-  pub every_own : (k : ℕ) (ms : List Member) → AllFrom (HasRun mutators own) k ms → (m : ℕ) → k ≤ m → m < mutators → m < k + length ms → (h : StoreHistory) × Among histories_of (views_of ms) h × (h.1 ≡ own m)
+  pub every_own : (k : ℕ) (ms : List Party) → AllFrom (HasRun mutators own) k ms → (m : ℕ) → k ≤ m → m < mutators → m < k + length ms → (h : StoreHistory) × Among histories_of (views_of ms) h × (h.1 ≡ own m)
   every_own k [] all m le lt there = absurd (omega arith)
   every_own k (Sweeping w t ∷ ms) all m le lt there = absurd (let past : mutators ≤ k = all.0 in omega arith)
   every_own k (Racing r s ∷ ms) all m le lt there = pick (ℕ_discrete k m) (λ above. every_own (suc k) ms all.1 m above lt (omega arith))

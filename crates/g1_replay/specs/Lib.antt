@@ -14,7 +14,7 @@ pub mod CoreDrains
 pub mod RaceJobs
 pub mod Scripts
 pub mod Still
-pub mod Members
+pub mod Parties
 pub mod Played
 pub mod Stepped
 pub mod Opened
@@ -33,7 +33,7 @@ pub use CoreDrains.*
 pub use RaceJobs.*
 pub use Scripts.*
 pub use Still.*
-pub use Members.*
+pub use Parties.*
 pub use Played.*
 pub use Stepped.*
 pub use Opened.*
@@ -43,9 +43,9 @@ pub use declared.lines.line.Byte.{Byte}
 pub use declared.lines.line.Part.{Part}
 pub use declared.lines.line.Part.TheVariants.{Failed, More, Nothing}
 pub use declared.lines.source.Commands.{Commands}
-pub use declared.races.desk.Member.{Member}
-pub use declared.races.desk.Member.TheVariants.{Racing, Sweeping}
-pub use declared.races.members.Returned.{Returned}
+pub use declared.races.desk.Party.{Party}
+pub use declared.races.desk.Party.TheVariants.{Racing, Sweeping}
+pub use declared.races.parties.Returned.{Returned}
 pub use declared.races.opening.OpenRace.{OpenRace}
 pub use declared.runs.machinery.Machinery.{Machinery}
 pub use declared.stop.Stop.{Stop}

@@ -62,10 +62,10 @@ pub use Rattle.g1_log.specs.declared.ends.Sender.{Sender}
 pub use Rattle.g1_log.specs.declared.ends.Taker.{Taker}
 pub use Rattle.g1_log.specs.declared.line.Line.{Line}
 pub use Rattle.g1_options.specs.declared.options.Options.{Options}
-pub use Rattle.g1_race.specs.Members.{AreFreshRacers, AreFreshSweepers, HaveBegun, IsFreshRacer}
-pub use Rattle.g1_race.specs.Members.{IsFreshSweeper, null_begun, race_begun, race_id, race_layout}
-pub use Rattle.g1_race.specs.Members.{race_shape, racer_race, racer_start, racer_view, sweeper_race}
-pub use Rattle.g1_race.specs.Members.{sweeper_start, sweeper_view}
+pub use Rattle.g1_race.specs.Parties.{AreFreshRacers, AreFreshSweepers, HaveBegun, IsFreshRacer}
+pub use Rattle.g1_race.specs.Parties.{IsFreshSweeper, null_begun, race_begun, race_id, race_layout}
+pub use Rattle.g1_race.specs.Parties.{race_shape, racer_race, racer_start, racer_view, sweeper_race}
+pub use Rattle.g1_race.specs.Parties.{sweeper_start, sweeper_view}
 pub use Rattle.g1_race.specs.Over.{core_of, Ended, refs_of, table_of, target_of_word}
 pub use Rattle.g1_race.specs.Race.{Among, AmongStores, IsKnown, IsOver, shape_of, word_of}
 pub use Rattle.g1_race.specs.declared.race.Race.{Race}

@@ -5,10 +5,10 @@ use Rattle.g1_replay.specs.Prelude.{Sender, Taker, Line, Race, Racer, Sweeper, r
 use Rattle.g1_replay.specs.Prelude.{refs_of, table_of, Holds, IsCovered, IsRecorded, IsPairOf}
 use Rattle.g1_replay.specs.Prelude.{Step, Command}
 use Rattle.g1_steps.specs.declared.crew.desk.Step.TheVariants as step
-use Rattle.g1_replay.specs.declared.races.desk.Member.{Member}
-use Rattle.g1_replay.specs.declared.races.desk.Member.TheVariants.{Racing, Sweeping}
-use Rattle.g1_replay.specs.declared.races.members.Returned.{Returned}
-use Rattle.g1_replay.specs.Members.{IsMemberOf, is_racer, member_logged}
+use Rattle.g1_replay.specs.declared.races.desk.Party.{Party}
+use Rattle.g1_replay.specs.declared.races.desk.Party.TheVariants.{Racing, Sweeping}
+use Rattle.g1_replay.specs.declared.races.parties.Returned.{Returned}
+use Rattle.g1_replay.specs.Parties.{IsPartyOf, is_racer, party_logged}
 use Rattle.g1_replay.specs.Race.{AreLeftBy, StoresInto}
 
 -- each item fits its place, the first of them place k
@@ -17,44 +17,44 @@ AllFrom P k [] = Unit {0}
 AllFrom P k (x ∷ xs) = P k x × AllFrom P (suc k) xs
 
 -- it has stored nothing
-abbrev pub HasStoredNothing : Member → Type 0
+abbrev pub HasStoredNothing : Party → Type 0
 HasStoredNothing (Racing r s) = (number : ℕ) × ((racer_view r).histories ≡ (number, []) ∷ [])
 HasStoredNothing (Sweeping w t) = Unit {0}
 
--- Member k of a race that has not begun: the mutators come first.
-pub record IsNewMember (race : Race) (line : Line) (mutators k : ℕ) (m : Member) : Type 0 where
-  pub of : IsMemberOf race line m
+-- Party k of a race that has not begun: the mutators come first.
+pub record IsNewParty (race : Race) (line : Line) (mutators k : ℕ) (m : Party) : Type 0 where
+  pub of : IsPartyOf race line m
   pub kind : is_racer m ≡ nat_lt k mutators
-  pub logged : member_logged m ≡ 0
+  pub logged : party_logged m ≡ 0
   pub fresh : HasStoredNothing m
 
 -- in a race a script ends with a flush
 abbrev pub with_flush : {E : Type 0} → (E → List Step) → E → List Step
 with_flush steps e = steps e ++ step.Flush ∷ []
 
--- what a member is and has
-abbrev pub racer_in : Member → Option Racer
+-- what a party is and has
+abbrev pub racer_in : Party → Option Racer
 racer_in (Racing r s) = Some r
 racer_in (Sweeping w t) = None
 
-abbrev pub sender_in : Member → Option Sender
+abbrev pub sender_in : Party → Option Sender
 sender_in (Racing r s) = Some s
 sender_in (Sweeping w t) = None
 
-abbrev pub sweeper_in : Member → Option Sweeper
+abbrev pub sweeper_in : Party → Option Sweeper
 sweeper_in (Racing r s) = None
 sweeper_in (Sweeping w t) = Some w
 
-abbrev pub taker_in : Member → Option Taker
+abbrev pub taker_in : Party → Option Taker
 taker_in (Racing r s) = None
 taker_in (Sweeping w t) = Some t
 
--- These members are back, each kind in a list of its own, as are the ends of the queue.
-pub record HasBack (members : List Member) (returned : Returned) : Type 0 where
-  pub racers : returned.racers.items ≡ filter_map racer_in members
-  pub senders : returned.senders.items ≡ filter_map sender_in members
-  pub sweepers : returned.sweepers.items ≡ filter_map sweeper_in members
-  pub takers : returned.takers.items ≡ filter_map taker_in members
+-- These parties are back, each kind in a list of its own, as are the ends of the queue.
+pub record HasBack (parties : List Party) (returned : Returned) : Type 0 where
+  pub racers : returned.racers.items ≡ filter_map racer_in parties
+  pub senders : returned.senders.items ≡ filter_map sender_in parties
+  pub sweepers : returned.sweepers.items ≡ filter_map sweeper_in parties
+  pub takers : returned.takers.items ≡ filter_map taker_in parties
 
 -- The table that a race of these commands leaves: its references are those that the stores may
 -- leave; it is covered; each recorded pair is of a card outside its region; and each card that

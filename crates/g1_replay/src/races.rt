@@ -1,12 +1,12 @@
 //! A replay by threads whose stores race.
 //!
 //! - `play` runs it to its end.
-//! - `opening` opens it, `members` and `desk` are those of the threads, `jobs` makes their calls,
+//! - `opening` opens it, `parties` and `desk` are those of the threads, `jobs` makes their calls,
 //!   and `output` prints what they leave.
 
 mod desk;
 mod jobs;
-mod members;
 mod opening;
 mod output;
+mod parties;
 pub(crate) mod play;

@@ -1,7 +1,7 @@
 //! The calls of a race by one racer and one sweeper, and those at the pause of a race.
 ghost use Rattle.std.specs.Prelude.{◌≡◌};
 ghost use Rattle.arrayvec.specs.ArrayVec.{array_vec_len};
-ghost use Rattle.g1_race.specs.Members.{race_id, race_layout, racer_race, sweeper_race};
+ghost use Rattle.g1_race.specs.Parties.{race_id, race_layout, racer_race, sweeper_race};
 
 use crate::core_calls::CoreCalls;
 use crate::stores::Barrier;

@@ -1,6 +1,6 @@
 //! The cycle: making a core of a closed race and a race of a core take memory.
 ghost use Rattle.std.specs.Prelude.{◌≡◌, IfOk};
-ghost use Rattle.g1_race.specs.Members.{race_shape, AreFreshRacers, AreFreshSweepers};
+ghost use Rattle.g1_race.specs.Parties.{race_shape, AreFreshRacers, AreFreshSweepers};
 
 use crate::machinery::{REFERENCES, new_core};
 use crate::race::{are_refined, closed_after, raced};
@@ -66,7 +66,7 @@ fn resumed<R: Eprint + AllocGlobal>(
     rt: &R,
     mut on: OnCore,
 ) -> Result<(Race, Vec<Racer>, Vec<Sweeper>), Failure>
-    ensures members { IfOk result (λ r. (race_shape r.0).members ≡ 2) }
+    ensures parties { IfOk result (λ r. (race_shape r.0).parties ≡ 2) }
     ensures racers { IfOk result (λ r. AreFreshRacers r.0 1 r.1) }
     ensures sweepers { IfOk result (λ r. AreFreshSweepers r.0 1 r.2) }
 {

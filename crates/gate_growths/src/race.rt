@@ -1,7 +1,7 @@
 //! The race: opening it takes memory, and refinement takes none.
 ghost use Rattle.std.specs.Prelude.{◌≡◌, IfOk};
-ghost use Rattle.g1_race.specs.Members.{race_id, race_shape, racer_race, sweeper_race};
-ghost use Rattle.g1_race.specs.Members.{AreFreshRacers, AreFreshSweepers};
+ghost use Rattle.g1_race.specs.Parties.{race_id, race_shape, racer_race, sweeper_race};
+ghost use Rattle.g1_race.specs.Parties.{AreFreshRacers, AreFreshSweepers};
 
 use crate::machinery::REFERENCES;
 use g1_layout::{Kind, Layout};
@@ -17,7 +17,7 @@ fn new_race<R: Eprint + AllocGlobal>(
     rt: &R,
     layout: Layout,
 ) -> Result<(Race, Vec<Racer>, Vec<Sweeper>), Failure>
-    ensures members { IfOk result (λ r. (race_shape r.0).members ≡ 2) }
+    ensures parties { IfOk result (λ r. (race_shape r.0).parties ≡ 2) }
     ensures racers { IfOk result (λ r. AreFreshRacers r.0 1 r.1) }
     ensures sweepers { IfOk result (λ r. AreFreshSweepers r.0 1 r.2) }
 {
@@ -50,7 +50,7 @@ pub(crate) fn raced(
     references: &[(u32, u32)],
     cards: u32,
 ) -> Result<Closed, Failure>
-    requires members { (race_shape race).members ≡ 2 }
+    requires parties { (race_shape race).parties ≡ 2 }
     requires racers { AreFreshRacers race 1 racers }
     requires sweepers { AreFreshSweepers race 1 sweepers }
 {

@@ -1,6 +1,6 @@
 //! The life of a heap whose stores race: it begins at a pause, goes on, pauses again, and ends at a
 //! pause.
-ghost use Rattle.g1_c.specs.{IsMadeOrRefused, called, Opens, HasNewMembers, OfPaused, IsNewHeap};
+ghost use Rattle.g1_c.specs.{IsMadeOrRefused, called, Opens, HasNewParties, OfPaused, IsNewHeap};
 ghost use Rattle.g1_c.specs.{layout_of, IsHeapOpenRefused, HoldSame, Resumes, IsResumeRefused};
 ghost use Rattle.g1_c.specs.{held_racers, held_sweepers, AreOnlyItsOwn, ComesToPause};
 ghost use Rattle.g1_c.specs.{IsPauseRefused, Closes, IsCloseRefused};
@@ -23,7 +23,7 @@ pub extern "C" fn g1_heap_open(
     sweepers: u32,
 ) -> u32
     ensures { IsMadeOrRefused 0 (called result heap.old.value heap.new.value) (Unit {0})
-        (Opens heap.old.value (HasNewMembers heap.new.value
+        (Opens heap.old.value (HasNewParties heap.new.value
         × OfPaused heap.new.value (IsNewHeap (layout_of counts.now) racers sweepers)))
         (IsHeapOpenRefused heap.old.value (layout_of counts.now) racers sweepers) }
 {
@@ -47,8 +47,8 @@ pub extern "C" fn g1_heap_resume(
 
 /// As in `g1.h`.
 ///
-/// Members of other heaps are refused before anything changes, by counts of each race's owners. No
-/// proof knows what these counts say, so the condition `one` stands for them: members that are as
+/// Parties of other heaps are refused before anything changes, by counts of each race's owners. No
+/// proof knows what these counts say, so the condition `one` stands for them: parties that are as
 /// many as the heap's are of its race. Nothing relies on the condition before the counts are taken.
 #[unsafe(no_mangle)]
 pub extern "C" fn g1_heap_pause(

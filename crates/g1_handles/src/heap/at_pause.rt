@@ -10,11 +10,11 @@ use g1_race::{Paused, Race};
 use std::alloc::Global;
 use std::sync::Arc;
 
-/// A heap at a pause. It holds a share of its race, so the waiting members can keep theirs.
+/// A heap at a pause. It holds a share of its race, so the waiting parties can keep theirs.
 pub type PausedHeap = Paused<Arc<Race, Global>>;
 
 /// Makes a call on the heap of a handle, which is at a pause. Returns `NotOpen`, or `NotPaused` if
-/// the heap's members are out or readers read it: nothing has changed.
+/// the heap's parties are out or readers read it: nothing has changed.
 pub fn at_pause<A, F: FnOnce(&mut PausedHeap) -> Result<A, Reason>>(
     handle: &mut HeapHandle,
     call: F,

@@ -3,15 +3,15 @@ ghost use Rattle.std.specs.Prelude.{◌≡◌, ◌<◌};
 ghost use Rattle.g1_handles.specs.{IsTrue, Some, None, All, IfOk, IfErr, OnOk, OnErr};
 ghost use Rattle.g1_handles.specs.{vec_len, arc_value, layout_of, IsNewHeap};
 ghost use Rattle.g1_handles.specs.{IsHeapOpenRefused, AreHeapCounts, OfPaused, IsCloseRefused};
-ghost use Rattle.g1_handles.specs.{HasNewMembers, AreNew, boxed_counts};
+ghost use Rattle.g1_handles.specs.{HasNewParties, AreNew, boxed_counts};
 
 use crate::any_handle::{AnyHandle, closed, into_box, is_closed, opened};
 use crate::code::Reason;
 use crate::handles::HeapHandle;
 use crate::heap::racing_heap::{AtPause, RacingHeap, Readers, Room};
-use crate::member::counts::MemberCounts;
-use crate::member::{Member, Role};
 use crate::one_core::open::Counts;
+use crate::party::counts::PartyCounts;
+use crate::party::{Party, Role};
 use core::mem::replace;
 use g1_layout::{Layout, NoMemory};
 use g1_race::{Paused, Race};
@@ -32,7 +32,7 @@ pub fn open_heap(
 ) -> Result<(), Reason>
     ensures opened { OnOk result
         (OfPaused handle.new.value (IsNewHeap (layout_of counts.now) racers sweepers)) }
-    ensures members { OnOk result (HasNewMembers handle.new.value) }
+    ensures parties { OnOk result (HasNewParties handle.new.value) }
     ensures closed { OnOk result (handle.old.value ≡ None) }
     ensures why { IfErr result (λ refusal.
         IsHeapOpenRefused handle.old.value (layout_of counts.now) racers sweepers refusal) }
@@ -68,7 +68,7 @@ fn new_heap(
     requires { AreHeapCounts racers sweepers }
     ensures opened { IfOk result (λ heap.
         OfPaused (Some heap.value) (IsNewHeap layout racers sweepers)) }
-    ensures members { IfOk result (λ heap. HasNewMembers (Some heap.value)) }
+    ensures parties { IfOk result (λ heap. HasNewParties (Some heap.value)) }
 {
     let paused = Paused::open(alloc, layout, racers, sweepers)?;
     let (pause, race) = paused.shared(alloc)?;
@@ -101,35 +101,35 @@ fn idle_readers(alloc: Global, race: &Arc<Race, Global>, count: usize) -> Result
     Ok(Readers { idle, out })
 }
 
-/// As many members that wait, each in its box, and have counted nothing. The number of each is its
+/// As many parties that wait, each in its box, and have counted nothing. The number of each is its
 /// index.
 fn waiting<P: Role>(
     alloc: Global,
     race: &Arc<Race, Global>,
     count: usize,
-) -> Result<Vec<Box<Member<P>>>, NoMemory>
-    ensures count { IfOk result (λ members. vec_len members ≡ count) }
-    ensures race { IfOk result (λ members.
-        All (λ m. arc_value m.value.race ≡ arc_value race.now) members.items) }
-    ensures counts { IfOk result (λ members. AreNew (boxed_counts members)) }
+) -> Result<Vec<Box<Party<P>>>, NoMemory>
+    ensures count { IfOk result (λ parties. vec_len parties ≡ count) }
+    ensures race { IfOk result (λ parties.
+        All (λ m. arc_value m.value.race ≡ arc_value race.now) parties.items) }
+    ensures counts { IfOk result (λ parties. AreNew (boxed_counts parties)) }
 {
-    let mut members = Vec::with_capacity(alloc, count)?;
+    let mut parties = Vec::with_capacity(alloc, count)?;
     for number in 0..count {
         let race = Arc::try_clone(race)?;
-        let member = Member {
+        let party = Party {
             race,
             role: None,
-            counts: MemberCounts::none(number),
+            counts: PartyCounts::none(number),
             apart: [0; 8],
         };
-        members.push(Box::new(alloc, member)?)?;
+        parties.push(Box::new(alloc, party)?)?;
     }
-    Ok(members)
+    Ok(parties)
 }
 
 /// Closes a heap at a pause, and frees all that it has.
 ///
-/// Returns `NotOpen`, or `NotPaused` if its members are out or readers read it: the handle has not
+/// Returns `NotOpen`, or `NotPaused` if its parties are out or readers read it: the handle has not
 /// changed.
 pub fn close_heap(alloc: Global, handle: &mut HeapHandle) -> Result<(), Reason>
     ensures closed { OnOk result (handle.new.value ≡ None) }

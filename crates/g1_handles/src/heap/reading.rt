@@ -10,7 +10,7 @@ use crate::code::Reason;
 use crate::handles::{HeapHandle, ReaderHandle};
 use crate::heap::racing_heap::{AtPause, BeingRead, RacingHeap, Readers, Room};
 use crate::heap::resume::hand_out_to;
-use crate::member::{Member, Role};
+use crate::party::{Party, Role};
 use core::mem::replace_with;
 
 /// Lets threads read the heap of a handle, which is at a pause, and puts a reader into each of
@@ -49,7 +49,7 @@ pub fn read_heap(handle: &mut HeapHandle, readers: &mut [ReaderHandle]) -> Resul
 
 /// Lends a heap at a pause to this many readers, which are not handed out yet.
 fn lend(heap: RacingHeap, count: usize) -> (RacingHeap, ())
-    requires { OfPaused (Some heap) (λ p. count ≤ p.shape.members) }
+    requires { OfPaused (Some heap) (λ p. count ≤ p.shape.parties) }
     ensures lent { IsLentHeap (Some heap) (Some result.0) }
     ensures out { OfRead (Some result.0) (AreOut count) }
     ensures shared { OfAtPause (Some heap) (λ a. OfRead (Some result.0) (AreShared a)) }
@@ -89,10 +89,10 @@ fn lend(heap: RacingHeap, count: usize) -> (RacingHeap, ())
     (RacingHeap::Read(being_read), ())
 }
 
-/// Moves this many boxes of members that wait from one list to another.
+/// Moves this many boxes of parties that wait from one list to another.
 pub(crate) fn move_boxes<P: Role>(
-    from: &mut Vec<Box<Member<P>>>,
-    to: &mut Vec<Box<Member<P>>>,
+    from: &mut Vec<Box<Party<P>>>,
+    to: &mut Vec<Box<Party<P>>>,
     count: usize,
 )
     requires some { count ≤ vec_len from.old }
@@ -108,9 +108,9 @@ pub(crate) fn move_boxes<P: Role>(
         × All (λ m. arc_value m.value.race ≡ race) to.new.items }
 {
     for _i in 0..count {
-        let Some(member) = from.pop() else {
+        let Some(party) = from.pop() else {
             unreachable!()
         };
-        to.push_reserved(member);
+        to.push_reserved(party);
     }
 }

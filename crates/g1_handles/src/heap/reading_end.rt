@@ -8,7 +8,7 @@ ghost use Rattle.g1_handles.specs.{AreOnlyItsReaders};
 use crate::any_handle::AnyHandle;
 use crate::code::Reason;
 use crate::handles::{HeapHandle, ReaderHandle};
-use crate::heap::one_race::check_members;
+use crate::heap::one_race::check_parties;
 use crate::heap::pause::gather;
 use crate::heap::racing_heap::{AtPause, BeingRead, RacingHeap, Readers, Room};
 use crate::heap::reading::move_boxes;
@@ -18,7 +18,7 @@ use std::alloc::Global;
 /// Ends the reading of the heap of a handle, which is then at its pause as it was. All its readers
 /// must be handed in, and their handles are closed. Takes no memory.
 ///
-/// Returns `NotOpen`, also for a reader's handle, `NotPaused` if the heap's members are out,
+/// Returns `NotOpen`, also for a reader's handle, `NotPaused` if the heap's parties are out,
 /// `BadHandles` if not as many readers read it, or `OtherRace` for a reader of another heap or one
 /// that is given twice: nothing has changed. Readers of other heaps are refused before anything
 /// relies on the condition `one`.
@@ -45,7 +45,7 @@ pub fn end_read_of_heap(
     if readers.len() != being_read.readers.out.count {
         return Err(Reason::BadHandles);
     }
-    check_members(&being_read.race, readers)?;
+    check_parties(&being_read.race, readers)?;
     let RacingHeap::Read(being_read) = heap else {
         unreachable!()
     };

@@ -2,24 +2,24 @@
 ghost use Rattle.std.specs.Prelude.{◌≡◌};
 ghost use Rattle.g1_handles.specs.{Some, All, IfErr, OnOk, OnErr, length, map, vec_capacity};
 ghost use Rattle.g1_handles.specs.{arc_value, Race, OfPaused, LeavesPause, OfAtPause, OfRacing};
-ghost use Rattle.g1_handles.specs.{IsResumeRefused, AreFor, boxed_counts, Resumes, held_racers};
-ghost use Rattle.g1_handles.specs.{held_sweepers, role_in, IsOf, counts_of};
+ghost use Rattle.g1_handles.specs.{IsResumeRefused, FillRoom, boxed_counts, Resumes, held_racers};
+ghost use Rattle.g1_handles.specs.{held_sweepers, role_in, BelongsTo, counts_of};
 ghost use Rattle.g1_handles.specs.{HoldSame};
 
 use crate::any_handle::{AnyHandle, are_closed, opened};
 use crate::code::Reason;
 use crate::handles::{HeapHandle, RacerHandle, SweeperHandle};
 use crate::heap::racing_heap::{AtPause, RacingHeap, Room, UnderWay};
-use crate::member::{Member, Role};
+use crate::party::{Party, Role};
 use core::mem::replace_with;
 
 /// Lets the heap of a handle go on, and puts its racers and its sweepers into handles that are
 /// closed. The race begins with the table that the pause left, and each racer has its log, which is
-/// empty if all was refined. Each member has what the one at its index had counted. Takes no
+/// empty if all was refined. Each party has what the one at its index had counted. Takes no
 /// memory.
 ///
 /// Returns `NotOpen`, `NotPaused`, `BadHandles` if there are not as many handles as the heap was
-/// opened for, or `AlreadyOpen` for a member's handle: nothing has changed.
+/// opened for, or `AlreadyOpen` for a party's handle: nothing has changed.
 pub fn resume_heap(
     handle: &mut HeapHandle,
     racers: &mut [RacerHandle],
@@ -55,7 +55,7 @@ pub fn resume_heap(
     Ok(())
 }
 
-/// Ends the pause. The members are not handed out yet.
+/// Ends the pause. The parties are not handed out yet.
 fn leave_pause(heap: RacingHeap, _nothing: ()) -> (RacingHeap, ())
     requires { OfPaused (Some heap) (λ p. Unit {0}) }
     ensures { OfAtPause (Some heap) (λ a. OfRacing (Some result.0) (LeavesPause a)) }
@@ -89,29 +89,29 @@ fn leave_pause(heap: RacingHeap, _nothing: ()) -> (RacingHeap, ())
 }
 
 /// Gives each handle the role at its index, in the box at that index.
-pub(crate) fn hand_out_to<P: Role, H: AnyHandle<Value = Member<P>>>(
+pub(crate) fn hand_out_to<P: Role, H: AnyHandle<Value = Party<P>>>(
     handles: &mut [H],
-    boxes: &mut Vec<Box<Member<P>>>,
+    boxes: &mut Vec<Box<Party<P>>>,
     roles: &mut Vec<P>,
 )
-    requires { (race : Race) × AreFor race (length handles.old) boxes.old roles.old }
+    requires { (race : Race) × FillRoom race (length handles.old) boxes.old roles.old }
     ensures roles { map role_in (map H.value handles.new) ≡ map Some roles.old.items }
     ensures counts { map counts_of (map H.value handles.new) ≡ boxed_counts boxes.old }
     ensures race { (race : Race) → All (λ m. arc_value m.value.race ≡ race) boxes.old.items →
-        All (IsOf race) (map H.value handles.new) }
+        All (BelongsTo race) (map H.value handles.new) }
     ensures capacity { (vec_capacity boxes.new ≡ vec_capacity boxes.old)
         × (vec_capacity roles.new ≡ vec_capacity roles.old) }
 {
     let mut left = handles.len();
     while left > 0 {
         left -= 1;
-        let Some(mut member) = boxes.pop() else {
+        let Some(mut party) = boxes.pop() else {
             unreachable!()
         };
         let Some(role) = roles.pop() else {
             unreachable!()
         };
-        member.seat(role);
-        handles[left] = opened(member);
+        party.seat(role);
+        handles[left] = opened(party);
     }
 }

@@ -5,8 +5,8 @@ ghost use Rattle.g1_handles.specs.{IsRow, IsWordOf, LacksRow, StoresRowAt, Store
 
 use crate::code::Reason;
 use crate::heap::at_pause::PausedHeap;
-use crate::member::data::DATA;
 use crate::one_core::copy::has_slots;
+use crate::party::data::DATA;
 use g1_layout::Layout;
 
 /// Stores words into as many slots from this one on, in order: null, references and data. Returns

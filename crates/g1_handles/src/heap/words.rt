@@ -10,7 +10,7 @@ use crate::code::Reason;
 use crate::handles::HeapHandle;
 use crate::heap::at_pause::PausedHeap;
 use crate::heap::racing_heap::RacingHeap;
-use crate::member::data::data_slot;
+use crate::party::data::data_slot;
 
 /// Returns the address of the words of the heap of a handle, at a pause or not: the word of each
 /// slot, in order. It stays the same for as long as the heap lasts. Returns `NotOpen` if the handle

@@ -13,7 +13,7 @@ impl Race {
     /// pairs stay, and what [`Race::pause`] says holds of them. It is such a pause and then
     /// [`Paused::close`]. Takes no memory. Logs that were not taken are dropped; the marks stay.
     pub fn close(self, racers: Vec<Racer>, sweepers: Vec<Sweeper>) -> Closed
-        requires racers { (vec_len racers + vec_len sweepers ≡ (race_shape self).members)
+        requires racers { (vec_len racers + vec_len sweepers ≡ (race_shape self).parties)
             × All (λ r. racer_race r ≡ race_id self) racers.items }
         requires sweepers { All (λ w. sweeper_race w ≡ race_id self) sweepers.items }
         ensures { HasEnded self (map racer_view racers.items) (map sweeper_view sweepers.items)

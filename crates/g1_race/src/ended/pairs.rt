@@ -41,7 +41,7 @@ pub(crate) fn list_pairs(
     shape: RaceShape,
 ) -> Result<Vec<(Card, Region)>, NoMemory>
     requires shape { IsWholeShape shape }
-    requires laid { shape ≡ shape_of layout shape.members }
+    requires laid { shape ≡ shape_of layout shape.parties }
     requires words { (slots_len words.now.words ≡ word_count shape)
         × (length (slots_items words.now.words) ≡ word_count shape)
         × IsFull words.now.words }
@@ -101,7 +101,7 @@ fn list_card(
     pairs: &mut Vec<(Card, Region)>,
 ) -> Result<(), NoMemory>
     requires shape { IsWholeShape shape }
-    requires laid { shape ≡ shape_of layout shape.members }
+    requires laid { shape ≡ shape_of layout shape.parties }
     requires card { card < shape.cards }
     requires words { (slots_len words.now.words ≡ word_count shape)
         × (length (slots_items words.now.words) ≡ word_count shape)
@@ -122,7 +122,7 @@ fn list_card(
 // The pair with these numbers.
 fn pair_numbered(layout: Layout, shape: RaceShape, card: usize, region: usize) -> (Card, Region)
     requires shape { IsWholeShape shape }
-    requires laid { shape ≡ shape_of layout shape.members }
+    requires laid { shape ≡ shape_of layout shape.parties }
     requires pair { IsPair shape (card, region) }
     ensures { result ≡ (card, region) }
 {

@@ -112,9 +112,9 @@ fn vacant_sweepers(alloc: Global, table: &RaceTable, count: usize) -> Result<Vec
 }
 
 // The layout in plain numbers.
-pub(crate) fn shape_of(layout: Layout, members: usize) -> RaceShape
-    requires { members ≤ 128 }
-    ensures shape { result ≡ shape_of layout members }
+pub(crate) fn shape_of(layout: Layout, parties: usize) -> RaceShape
+    requires { parties ≤ 128 }
+    ensures shape { result ≡ shape_of layout parties }
     ensures shaped { IsWholeShape result }
 {
     let (regions, cards, slots) = layout.counts();
@@ -127,6 +127,6 @@ pub(crate) fn shape_of(layout: Layout, members: usize) -> RaceShape
         regions: regions as usize,
         row,
         bits: regions as usize * row,
-        members,
+        parties,
     }
 }

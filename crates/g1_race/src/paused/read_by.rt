@@ -14,9 +14,9 @@ impl<R: HoldsRace> Paused<R> {
     /// Returns how many readers a pause can have at most: as many as the race has racers and
     /// sweepers.
     pub fn reader_limit(&self) -> usize
-        ensures { result ≡ self.now.shape.members }
+        ensures { result ≡ self.now.shape.parties }
     {
-        self.race.race().shape.members
+        self.race.race().shape.parties
     }
 
     /// Lets `count` readers read concurrently, each in a thread of its own, and puts them into the
@@ -26,7 +26,7 @@ impl<R: HoldsRace> Paused<R> {
     /// Takes no memory and cannot fail. The only steps that it makes are those that split the
     /// seats.
     pub fn read_by(self, readers: &mut Vec<Reader>, count: usize) -> Reading<R>
-        requires count { count ≤ self.shape.members }
+        requires count { count ≤ self.shape.parties }
         requires empty { vec_len readers.old ≡ 0 }
         requires room { count ≤ vec_capacity readers.old }
         ensures pause { result.pause ≡ self }

@@ -20,7 +20,7 @@ pub struct Reading<R: HoldsRace = Race> {
 impl<R: HoldsRace> Model for Reading<R> {
     ghost use Rattle.std.specs.Prelude.{◌≡◌, ◌+◌, ◌-◌, ◌≤◌};
     ghost use Rattle.g1_race.specs.Prelude.{map, vec_len, IsAtPause};
-    ghost use Rattle.g1_race.specs.Members.{at_pause_of, racer_log};
+    ghost use Rattle.g1_race.specs.Parties.{at_pause_of, racer_log};
     ghost use Rattle.g1_race.specs.Reading.{Readable};
 
     ghost Value = { Readable };
@@ -29,13 +29,13 @@ impl<R: HoldsRace> Model for Reading<R> {
       pause = at_pause_of (R.held a.race) a.seat.me.0.began_words
           (map racer_log a.racers.items) (vec_len a.sweepers);
       table_id = (R.held a.race).table.table_id;
-      readers = (R.held a.race).shape.members - a.seat.me.0.weight;
+      readers = (R.held a.race).shape.parties - a.seat.me.0.weight;
     } };
 
     ghost invariant = { λ a. let race = R.held a.race in
         IsAtPause race.table.table_id race.shape a.seat
-        × (a.seat.me.0.weight ≤ race.shape.members)
-        × (vec_len a.racers + vec_len a.sweepers ≡ race.shape.members) };
+        × (a.seat.me.0.weight ≤ race.shape.parties)
+        × (vec_len a.racers + vec_len a.sweepers ≡ race.shape.parties) };
 }
 
 /// What a thread of the collector reads with at a pause: its right to read the words. It has no
@@ -43,7 +43,7 @@ impl<R: HoldsRace> Model for Reading<R> {
 ///
 /// It belongs to one thread at a time, and any number of readers read concurrently. Its model has
 /// the identity of its table, all the words there, and its weight. A pause has one of its own,
-/// which has the weight of all members while no other reader is out, and may write then.
+/// which has the weight of all parties while no other reader is out, and may write then.
 #[derive(Drop)]
 pub struct Reader {
     pub(crate) seat: RaceSeat,

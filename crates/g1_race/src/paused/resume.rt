@@ -28,8 +28,8 @@ impl<R: HoldsRace> Paused<R> {
         ensures shape { race_shape (R.held result.0) ≡ self.shape }
         ensures words { race_words (R.held result.0) ≡ self.address }
         ensures table { (race_id (R.held result.0)).0 ≡ self.table_id }
-        ensures members { vec_len result.1 + vec_len result.2
-            ≡ (race_shape (R.held result.0)).members }
+        ensures parties { vec_len result.1 + vec_len result.2
+            ≡ (race_shape (R.held result.0)).parties }
         ensures began { began self.layout (beginning (start_at self)) ≡ table_at self }
         ensures racers { (vec_len result.1 ≡ length self.logs)
             × All (IsNewRacer (race_id (R.held result.0)).0 (start_at self)) result.1.items }
@@ -87,7 +87,7 @@ impl Race {
         ensures refused { IfErr result (λ e. e.0 ≡ core) }
     {
         match Race::begin_from(alloc, &mut core, racers, sweepers) {
-            Ok(members) => Ok(members),
+            Ok(parties) => Ok(parties),
             Err(e) => Err((core, e)),
         }
     }

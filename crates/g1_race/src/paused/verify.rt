@@ -39,7 +39,7 @@ impl<R: HoldsRace> Paused<R> {
     /// card is neither dirty nor recorded for that region, so that no drain would return the card.
     /// Returns `None` if there is none.
     ///
-    /// There is none if members alone have written to the heap's words. So it is for a debug build,
+    /// There is none if parties alone have written to the heap's words. So it is for a debug build,
     /// which looks whether a runtime whose fields these words are has written to them itself
     /// (HotSpot's `VerifyRememberedSets` looks for the same). Reads the slots in order, up to the
     /// one that it returns, and takes no memory.

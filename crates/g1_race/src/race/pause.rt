@@ -28,10 +28,10 @@ impl Race {
     ///   beginning. Its card lies outside its region.
     /// - A slot that refers into another region has its card dirty or its pair recorded.
     ///
-    /// Takes no memory and copies no word. It makes two loads, and two for each member; nothing
+    /// Takes no memory and copies no word. It makes two loads, and two for each party; nothing
     /// uses their values. Each log stays where it is, in its racer.
     pub fn pause(self, racers: Vec<Racer>, sweepers: Vec<Sweeper>) -> Paused
-        requires racers { (vec_len racers + vec_len sweepers ≡ (race_shape self).members)
+        requires racers { (vec_len racers + vec_len sweepers ≡ (race_shape self).parties)
             × All (λ r. racer_race r ≡ race_id self) racers.items }
         requires sweepers { All (λ w. sweeper_race w ≡ race_id self) sweepers.items }
         ensures { IsPauseOf self (map racer_view racers.items) (map sweeper_view sweepers.items)
@@ -47,7 +47,7 @@ impl<R: HoldsRace> Paused<R> {
     /// a sweeper, and all of these are in the pause. So threads may keep their shares over it, and
     /// go on with the racers of [`Paused::resume`]. Neither call takes memory or gives it back.
     pub fn of(race: R, mut racers: Vec<Racer>, mut sweepers: Vec<Sweeper>) -> Paused<R>
-        requires racers { (vec_len racers + vec_len sweepers ≡ (race_shape (R.held race)).members)
+        requires racers { (vec_len racers + vec_len sweepers ≡ (race_shape (R.held race)).parties)
             × All (λ r. racer_race r ≡ race_id (R.held race)) racers.items }
         requires sweepers { All (λ w. sweeper_race w ≡ race_id (R.held race)) sweepers.items }
         ensures { IsPauseOf (R.held race) (map racer_view racers.items)
@@ -69,7 +69,7 @@ impl<R: HoldsRace> Paused<R> {
 
 // Joins the racers' seats to the pause's own, the last first. They keep their logs.
 fn join_racers(table: &RaceTable, pause_seat: &mut RaceSeat, racers: &mut Vec<Racer>)
-    requires some { 0 < table.now.shape.members }
+    requires some { 0 < table.now.shape.parties }
     requires seat { pause_seat.old.table_id ≡ table.now.table_id }
     requires racers { All (RacerOf table.now.table_id table.now.shape) racers.old.items }
     ensures seat { pause_seat.new.table_id ≡ pause_seat.old.table_id }
@@ -92,7 +92,7 @@ fn join_racers(table: &RaceTable, pause_seat: &mut RaceSeat, racers: &mut Vec<Ra
 
 // Joins the sweepers' seats to the pause's own, the last first.
 fn join_sweepers(table: &RaceTable, pause_seat: &mut RaceSeat, sweepers: &mut Vec<Sweeper>)
-    requires some { 0 < table.now.shape.members }
+    requires some { 0 < table.now.shape.parties }
     requires seat { pause_seat.old.table_id ≡ table.now.table_id }
     requires sweepers { All (SweeperOf table.now.table_id table.now.shape) sweepers.old.items }
     ensures seat { pause_seat.new.table_id ≡ pause_seat.old.table_id }

@@ -3,9 +3,9 @@ ghost use Rattle.std.specs.Prelude.{◌≡◌, ◌+◌, ◌-◌, ◌*◌, ◌<�
 ghost use Rattle.g1_race.specs.Prelude.{Bool, [], length, IsPair, IsWord, slot_card};
 ghost use Rattle.g1_race.specs.Prelude.{start_of, pair_at, recorded, slot_count, card_count};
 ghost use Rattle.std.specs.Result.{IsOk};
-ghost use Rattle.g1_race.specs.Members.{race_id, race_layout, sweeper_race, sweeper_start};
-ghost use Rattle.g1_race.specs.Members.{sweeper_view, IsSweeperSeat, Recording, Holding};
-ghost use Rattle.g1_race.specs.Members.{HasCleaned};
+ghost use Rattle.g1_race.specs.Parties.{race_id, race_layout, sweeper_race, sweeper_start};
+ghost use Rattle.g1_race.specs.Parties.{sweeper_view, IsSweeperSeat, Recording, Holding};
+ghost use Rattle.g1_race.specs.Parties.{HasCleaned};
 
 use crate::bits::bit_of;
 use crate::race::{Race, Sweeper};
@@ -30,7 +30,7 @@ impl Sweeper {
     /// again, so nothing is lost. A pair is recorded by its bit among the words of the race. The
     /// bit is read first, and set in one step if it is clear.
     ///
-    /// Takes no memory, so it always returns `Ok`, and never waits. Any other member may make its
+    /// Takes no memory, so it always returns `Ok`, and never waits. Any other party may make its
     /// calls concurrently. The sweeper and the card must be of this race.
     pub fn refine(&mut self, race: &Race, card: Card) -> Result<(), NoMemory>
         requires race { sweeper_race self.old ≡ race_id race.now }

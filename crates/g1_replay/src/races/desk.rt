@@ -6,8 +6,8 @@ ghost use Rattle.g1_replay.specs.Prelude.{card_count, line_home, put_of, IsSende
 ghost use Rattle.g1_replay.specs.Prelude.{race_id, race_layout, racer_race, racer_start};
 ghost use Rattle.g1_replay.specs.Prelude.{racer_view, sweeper_race, sweeper_start, sweeper_view};
 ghost use Rattle.g1_replay.specs.Prelude.{PutsBy};
-ghost use Rattle.g1_replay.specs.Members.{is_racer, member_home, member_logged, member_race};
-ghost use Rattle.g1_replay.specs.Members.{MemberDid, member_did_none, member_did_then};
+ghost use Rattle.g1_replay.specs.Parties.{is_racer, party_home, party_logged, party_race};
+ghost use Rattle.g1_replay.specs.Parties.{PartyDid, party_did_none, party_did_then};
 
 use g1_core::{CardList, Fill, RefineReply, StoreReply};
 use g1_history::Refusal;
@@ -20,19 +20,19 @@ use std::sync::Wait;
 
 /// Who works at the desk.
 #[derive(Drop)]
-pub(crate) enum Member {
+pub(crate) enum Party {
     /// A mutator, with the end of the queue into which its logs go.
     Racing(Racer, Sender),
     /// A refinement thread, with the end of the queue from which it takes them.
     Sweeping(Sweeper, Taker),
 }
 
-/// A race and a queue of completed buffers, and one of their members.
+/// A race and a queue of completed buffers, and one of their parties.
 ///
 /// A racer's log is put into the queue once as many cards as fill it were logged since it was last
 /// taken, and at a flush. If the queue does not take it, the log is given up. Each of its cards
 /// stays dirty until it is refined, by a drain after the race at the latest. A call that is not one
-/// of its member's changes nothing and returns an empty reply.
+/// of its party's changes nothing and returns an empty reply.
 #[derive(Drop)]
 pub(crate) struct RaceDesk<'a, R> {
     rt: &'a R,
@@ -42,28 +42,28 @@ pub(crate) struct RaceDesk<'a, R> {
     // How many cards fill a log, and how many the log has.
     fill: usize,
     logged: usize,
-    member: Member,
-    ghost of: { member_race member ≡ race_id race.now },
-    ghost line_of: { member_home member ≡ line_home line.now } by { Prim.hlevel props },
+    party: Party,
+    ghost of: { party_race party ≡ race_id race.now },
+    ghost line_of: { party_home party ≡ line_home line.now } by { Prim.hlevel props },
     ghost few: { (logged < fill) × (fill ≤ 256) },
-    ghost counted: { member_logged member ≡ logged },
+    ghost counted: { party_logged party ≡ logged },
 }
 
 impl<'a, R> RaceDesk<'a, R> {
-    /// A desk of this member, whose log has no card yet; `fill` cards fill it.
+    /// A desk of this party, whose log has no card yet; `fill` cards fill it.
     pub(crate) fn new(
         rt: &'a R,
         alloc: Global,
         race: &'a Race,
         line: &'a Line,
         fill: usize,
-        member: Member,
+        party: Party,
     ) -> RaceDesk<'a, R>
-        requires race { member_race member ≡ race_id race.now }
-        requires line { member_home member ≡ line_home line.now }
+        requires race { party_race party ≡ race_id race.now }
+        requires line { party_home party ≡ line_home line.now }
         requires fill { (1 ≤ fill) × (fill ≤ 256) }
-        requires empty { member_logged member ≡ 0 }
-        ensures member { result.member ≡ member }
+        requires empty { party_logged party ≡ 0 }
+        ensures party { result.party ≡ party }
         ensures race { result.race.now ≡ race.now }
         ensures fill { result.fill ≡ fill }
     {
@@ -74,16 +74,16 @@ impl<'a, R> RaceDesk<'a, R> {
             line,
             fill,
             logged: 0,
-            member,
+            party,
         }
     }
 
-    /// The member, once the work is done.
-    pub(crate) fn into_member(self) -> Member
-        ensures { result ≡ self.entry.member }
+    /// The party, once the work is done.
+    pub(crate) fn into_party(self) -> Party
+        ensures { result ≡ self.entry.party }
     {
-        let RaceDesk { member, .. } = self;
-        member
+        let RaceDesk { party, .. } = self;
+        party
     }
 }
 
@@ -180,14 +180,14 @@ fn worked(alloc: Global, taken: u32) -> RefineReply
 }
 
 impl<'a, R: Wait> Desk for RaceDesk<'a, R> {
-    ghost did = { λ s asks t. MemberDid s.member asks t.member };
+    ghost did = { λ s asks t. PartyDid s.party asks t.party };
 
     ghost slots = { λ s. slot_count (race_layout s.race.now) };
 
-    ghost may_store = { λ s. is_racer s.member };
+    ghost may_store = { λ s. is_racer s.party };
 
     fn store(&mut self, slot: Slot, target: Option<Slot>) -> Result<StoreReply, Refusal> {
-        let Member::Racing(racer, sender) = &mut self.member else {
+        let Party::Racing(racer, sender) = &mut self.party else {
             return Ok(stored(self.alloc, Kind::Null, Fill::No));
         };
         let kind = racer.store(self.race, slot, target);
@@ -204,7 +204,7 @@ impl<'a, R: Wait> Desk for RaceDesk<'a, R> {
     }
 
     fn flush(&mut self) -> Result<FlushReply, Refusal> {
-        let Member::Racing(racer, sender) = &mut self.member else {
+        let Party::Racing(racer, sender) = &mut self.party else {
             return Ok(flushed(self.alloc, 0, Fill::No));
         };
         let (cards, fill) = hand_over(self.rt, self.line, racer, sender);
@@ -213,7 +213,7 @@ impl<'a, R: Wait> Desk for RaceDesk<'a, R> {
     }
 
     fn work(&mut self) -> Result<RefineReply, Refusal> {
-        let Member::Sweeping(sweeper, taker) = &mut self.member else {
+        let Party::Sweeping(sweeper, taker) = &mut self.party else {
             return Ok(worked(self.alloc, 0));
         };
         let Some(parcel) = self.line.take(self.rt, taker) else {
@@ -223,7 +223,7 @@ impl<'a, R: Wait> Desk for RaceDesk<'a, R> {
         Ok(worked(self.alloc, 1))
     }
 
-    ghost none = { λ s. member_did_none s.member };
+    ghost none = { λ s. party_did_none s.party };
 
-    ghost then = { λ s t u. member_did_then s.member t.member u.member };
+    ghost then = { λ s t u. party_did_then s.party t.party u.party };
 }

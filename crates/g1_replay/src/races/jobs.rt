@@ -2,13 +2,13 @@
 ghost use Rattle.std.specs.Prelude.{◌≡◌, ◌+◌};
 ghost use Rattle.g1_replay.specs.{ℕ, List, drop, true, All, IfErr, IfOk, OnOk, None, map, vec_len};
 ghost use Rattle.g1_replay.specs.{slot_count, race_layout, ScriptFits, StepFits, Command, is_racer};
-ghost use Rattle.g1_replay.specs.{AllFrom, AreScripts, HasBack, IsNewMember, IsScriptAt};
+ghost use Rattle.g1_replay.specs.{AllFrom, AreScripts, HasBack, IsNewParty, IsScriptAt};
 ghost use Rattle.g1_replay.specs.{IsTableLeftBy, IsUnstarted, first_refusal, with_flush};
 ghost use Rattle.g1_replay.specs.{IsOpenedBy, capacity_of};
 
-use crate::races::desk::{Member, RaceDesk};
-use crate::races::members::Returned;
+use crate::races::desk::{Party, RaceDesk};
 use crate::races::opening::OpenRace;
+use crate::races::parties::Returned;
 use crate::scripts::{append, next_script, refusal_of};
 use crate::stop::Stop;
 use g1_layout::NoMemory;
@@ -36,41 +36,41 @@ fn race_script(scripts: &mut Vec<Vec<Step>>, rounds: u32) -> Result<Script, NoMe
     }
 }
 
-// One job for each member, in their order.
+// One job for each party, in their order.
 fn jobs_of<'a, T>(
     rt: &'a T,
     alloc: Global,
     race: &'a Race,
     line: &'a Line,
-    members: Vec<Member>,
+    parties: Vec<Party>,
     scripts: Vec<Vec<Step>>,
     options: &Options,
 ) -> Result<Vec<Job<RaceDesk<'a, T>>>, NoMemory>
-    requires members { AllFrom (IsNewMember race.now line.now options.now.mutators) 0
-        members.items }
-    requires many { vec_len members ≡ options.now.mutators + options.now.refiners }
+    requires parties { AllFrom (IsNewParty race.now line.now options.now.mutators) 0
+        parties.items }
+    requires many { vec_len parties ≡ options.now.mutators + options.now.refiners }
     requires capacity { capacity_of line.now ≡ options.now.config.limit }
     requires count { vec_len scripts ≡ options.now.mutators }
     requires fits { All (λ steps. All (StepFits (slot_count (race_layout race.now)) true)
         steps.items) scripts.items }
-    ensures members { IfOk result (λ jobs.
-        map (λ job. job.desk.member) jobs.items ≡ members.items) }
+    ensures parties { IfOk result (λ jobs.
+        map (λ job. job.desk.party) jobs.items ≡ parties.items) }
     ensures logs { IfOk result (λ jobs.
         All (λ job. job.desk.fill ≡ options.now.config.log) jobs.items) }
     ensures jobs { IfOk result (λ jobs.
-        AllFrom (λ k job. IsNewMember race.now line.now options.now.mutators k job.desk.member
+        AllFrom (λ k job. IsNewParty race.now line.now options.now.mutators k job.desk.party
         × IsScriptAt (with_flush (λ steps. steps.items)) options.now.rounds scripts.items k
         job.script) 0 jobs.items) }
     ensures fits { IfOk result (λ jobs.
         All (λ job. ScriptFits (slot_count (race_layout job.desk.race.now))
-        (is_racer job.desk.member) job.script) jobs.items) }
+        (is_racer job.desk.party) job.script) jobs.items) }
 {
-    let mut jobs = Vec::with_capacity(alloc, members.len())?;
+    let mut jobs = Vec::with_capacity(alloc, parties.len())?;
     let mut left = scripts;
-    for member in members {
+    for party in parties {
         let script = race_script(&mut left, options.rounds)?;
         jobs.push_reserved(Job {
-            desk: RaceDesk::new(rt, alloc, race, line, options.config.log(), member),
+            desk: RaceDesk::new(rt, alloc, race, line, options.config.log(), party),
             script,
             outcome: None,
         });
@@ -78,11 +78,11 @@ fn jobs_of<'a, T>(
     Ok(jobs)
 }
 
-// The members of the jobs, none of which was refused.
+// The parties of the jobs, none of which was refused.
 //
 // `NoMemory` is returned if one was, or a growth of the lists.
 fn returned_by<'a, T>(alloc: Global, jobs: Vec<Job<RaceDesk<'a, T>>>) -> Result<Returned, NoMemory>
-    ensures back { IfOk result (HasBack (map (λ job. job.desk.member) jobs.entry.items)) }
+    ensures back { IfOk result (HasBack (map (λ job. job.desk.party) jobs.entry.items)) }
     ensures whole { OnOk result (first_refusal (map (λ job. job.outcome) jobs.entry.items) ≡ None) }
 {
     let mut returned = Returned::new(alloc);
@@ -91,7 +91,7 @@ fn returned_by<'a, T>(alloc: Global, jobs: Vec<Job<RaceDesk<'a, T>>>) -> Result<
         let None = refusal_of(outcome) else {
             return Err(NoMemory);
         };
-        returned.place(desk.into_member())?;
+        returned.place(desk.into_party())?;
     }
     Ok(returned)
 }
@@ -122,9 +122,9 @@ pub(crate) fn run_race<T: Threads + Wait + Sync>(
     let OpenRace {
         race,
         line,
-        members,
+        parties,
     } = opened;
-    let jobs = jobs_of(rt, alloc, &race, &line, members, scripts, options)?;
+    let jobs = jobs_of(rt, alloc, &race, &line, parties, scripts, options)?;
     let done = run_crew(rt, alloc, jobs)?;
     let returned = returned_by(alloc, done)?;
     line.settle(rt, returned.senders, returned.takers);

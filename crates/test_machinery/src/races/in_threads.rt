@@ -1,6 +1,6 @@
 //! A race whose racers and sweepers run in threads of their own.
 ghost use Rattle.std.specs.Prelude.{◌≡◌, ◌<◌, All, vec_len};
-ghost use Rattle.g1_race.specs.Members.{race_id, racer_race, sweeper_race};
+ghost use Rattle.g1_race.specs.Parties.{race_id, racer_race, sweeper_race};
 
 use g1_race::{Closed, Race, Racer, Sweeper};
 use std::test::Fail;

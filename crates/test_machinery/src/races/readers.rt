@@ -1,6 +1,6 @@
 //! Several threads read one pause.
 ghost use Rattle.std.specs.Prelude.{◌≡◌, All, vec_len};
-ghost use Rattle.g1_race.specs.Members.{race_id};
+ghost use Rattle.g1_race.specs.Parties.{race_id};
 ghost use Rattle.g1_race.specs.Reading.{IsReaderOf, reader_race};
 
 use crate::races::steps::Step::{Refine, Store};

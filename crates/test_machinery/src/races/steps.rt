@@ -1,6 +1,6 @@
 //! Races of two racers and one sweeper, played by steps.
 ghost use Rattle.std.specs.Prelude.{◌≡◌, All, vec_len};
-ghost use Rattle.g1_race.specs.Members.{race_id, racer_race, sweeper_race};
+ghost use Rattle.g1_race.specs.Parties.{race_id, racer_race, sweeper_race};
 
 use g1_layout::{Kind, Layout};
 use g1_race::{Closed, Paused, Race, Racer, Sweeper};

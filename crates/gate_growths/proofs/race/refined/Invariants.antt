@@ -1,5 +1,5 @@
 use Rattle.std.proofs.Common.{◌≡◌}
-use Rattle.g1_race.specs.Members.{sweeper_race}
+use Rattle.g1_race.specs.Parties.{sweeper_race}
 use Rattle.gate_growths.proofs.race.refined.Given as goal
 
 abbrev pub invariant-loop-number : goal.invariant-loop-number

@@ -1,10 +1,10 @@
--- What is so of each member in the list is so of their counts.
+-- What is so of each party in the list is so of their counts.
 use Rattle.std.specs.Prelude.{◌≡◌, ◌<◌, ◌∷◌}
-use Rattle.g1_handles.specs.{ℕ, List, [], Box, Global, arith, map, length, length-map, slice_index_or, get_or-map, get_or_default, subst, ◌∙◌, Member, MemberCounts, no_counts, AreNew}
+use Rattle.g1_handles.specs.{ℕ, List, [], Box, Global, arith, map, length, length-map, slice_index_or, get_or-map, get_or_default, subst, ◌∙◌, Party, PartyCounts, no_counts, AreNew}
 use Rattle.g1_handles.proofs.heap.open.waiting.Goals as goal
 
--- members that have counted nothing, as their counts in a row
-new_of_boxes : {B : Type 0} (counts : B → MemberCounts) (xs : List B) → ((i : ℕ) (d : B) → i < length xs → counts (slice_index_or xs i d) ≡ no_counts i)
+-- parties that have counted nothing, as their counts in a row
+new_of_boxes : {B : Type 0} (counts : B → PartyCounts) (xs : List B) → ((i : ℕ) (d : B) → i < length xs → counts (slice_index_or xs i d) ≡ no_counts i)
     → AreNew (map counts xs)
 new_of_boxes counts [] new i c below = absurd (omega arith)
 new_of_boxes counts (x ∷ xs) new i c below =
@@ -13,5 +13,5 @@ new_of_boxes counts (x ∷ xs) new i c below =
 
 pub returns-clause-counts : goal.returns-clause-counts
 returns-clause-counts g c =
-    new_of_boxes (λ (m : Box (Member g.row.P.Denot g.P.Role) Global). m.value.counts) c.loop-number.members.items
-    (λ i d below. c.loop-number.invariant.counts i d (omega (arith, below, c.loop-number.members.ok.0)))
+    new_of_boxes (λ (m : Box (Party g.row.P.Denot g.P.Role) Global). m.value.counts) c.loop-number.parties.items
+    (λ i d below. c.loop-number.invariant.counts i d (omega (arith, below, c.loop-number.parties.ok.0)))

@@ -1,18 +1,18 @@
 -- The handles have readers of the pause, which the heap was lent to.
 use Rattle.std.specs.Prelude.{◌≡◌, ◌++◌, IsPermutation}
-use Rattle.g1_handles.specs.{arith, rules, ℕ, List, Some, All, length, map, sym, ap, subst, Option, arc_value, TableId, Race, Pause, start_at, known, BeingRead, ReaderMember, held_readers, role_in, IsOf, AreOut, AreReadersAt, IsLentPause, MemberCounts, boxed_counts}
+use Rattle.g1_handles.specs.{arith, rules, ℕ, List, Some, All, length, map, sym, ap, subst, Option, arc_value, TableId, Race, Pause, start_at, known, BeingRead, ReaderParty, held_readers, role_in, BelongsTo, AreOut, AreReadersAt, IsLentPause, PartyCounts, boxed_counts}
 use Rattle.g1_handles.specs.declared.heap.racing_heap.AtPause.{AtPause}
 use Rattle.std.proofs.lemmas.Grind.{common_steps}
 use Rattle.g1_handles.proofs.ReaderLemmas.{KnowsPause, handed_out}
 use Rattle.g1_handles.proofs.heap.reading.read_heap.Goals as goal
 
-readers_at : (a : AtPause) (b : BeingRead) (n : ℕ) (ms : List (Option ReaderMember)) → IsLentPause a b → AreOut n b
-    → map role_in ms ≡ map (λ r. Some r) b.readers.out.roles.items → All (IsOf (arc_value b.race)) ms → AreReadersAt (arc_value a.race) a.pause ms
+readers_at : (a : AtPause) (b : BeingRead) (n : ℕ) (ms : List (Option ReaderParty)) → IsLentPause a b → AreOut n b
+    → map role_in ms ≡ map (λ r. Some r) b.readers.out.roles.items → All (BelongsTo (arc_value b.race)) ms → AreReadersAt (arc_value a.race) a.pause ms
 readers_at a b n ms lent out is of =
     let roles = b.readers.out.roles.items in
     let known_there : All (KnowsPause b.reading.pause) roles = subst (λ (t : TableId). All (λ r. r ≡ known t (start_at b.reading.pause)) roles) b.table out.readers in
     let know : All (KnowsPause a.pause) roles = subst (λ (p : Pause). All (KnowsPause p) roles) lent.pause known_there in
-    handed_out (arc_value a.race) a.pause ms roles a.id a.laid is know (subst (λ (race : Race). All (IsOf race) ms) (ap (λ r. arc_value r) lent.race) of)
+    handed_out (arc_value a.race) a.pause ms roles a.id a.laid is know (subst (λ (race : Race). All (BelongsTo race) ms) (ap (λ r. arc_value r) lent.race) of)
 
 pub hand_out_to-requires : goal.hand_out_to-requires
 hand_out_to-requires c =
@@ -32,6 +32,6 @@ returns-clause-lent c =
       lent = search rules;
       readers_at = rw (c.in-Some.ensures.lent, c.in-Paused.is) (readers_at a b n ms lent out c.hand_out_to.ensures.roles (c.hand_out_to.ensures.race _ out.boxes.waiting));
       count = search rules;
-      counts = rw (c.in-Some.ensures.lent, c.in-Paused.is) (subst (λ (l : List MemberCounts). IsPermutation (boxed_counts a.readers.idle) (l ++ boxed_counts b.readers.idle)) (sym c.hand_out_to.ensures.counts) shared);
+      counts = rw (c.in-Some.ensures.lent, c.in-Paused.is) (subst (λ (l : List PartyCounts). IsPermutation (boxed_counts a.readers.idle) (l ++ boxed_counts b.readers.idle)) (sym c.hand_out_to.ensures.counts) shared);
       closed = search rules;
     }

@@ -1,6 +1,6 @@
 -- The next handle from the end has the role and the box that were last in the lists.
 use Rattle.std.specs.Prelude.{◌≡◌, ◌<◌, ◌-◌}
-use Rattle.g1_handles.specs.{rules, All, Some, Box, length, map, sym, ap, ◌∙◌, subst, arith, Global, arc_value, length-set, Member, counts_of, role_in, IsOf, drop}
+use Rattle.g1_handles.specs.{rules, All, Some, Box, length, map, sym, ap, ◌∙◌, subst, arith, Global, arc_value, length-set, Party, counts_of, role_in, BelongsTo, drop}
 use Rattle.std.proofs.lemmas.List.{drop_all}
 use Rattle.std.proofs.lemmas.List.Elements.{All-cons, All-nil}
 use Rattle.g1_handles.proofs.{popped, still, from_set, seen_too}
@@ -22,8 +22,8 @@ loop-left-init g c =
       box_room = search rules;
       role_room = search rules;
       given = ap (λ l. map role_in (map value l)) none ∙ sym (ap (map (λ (p : g.row.P.Denot). Some p)) (drop_all (length hs) c.args.roles.now.items (omega (arith, for.role_count, c.args.roles.now.ok.0))));
-      counted = ap (λ l. map counts_of (map value l)) none ∙ sym (ap (map (λ (m : Box (Member g.row.P.Denot g.P.Role) Global). m.value.counts)) (drop_all (length hs) c.args.boxes.now.items (omega (arith, for.box_count, c.args.boxes.now.ok.0))));
-      waited = λ race all. subst (λ l. All (IsOf race) (map value l)) (sym none) (All-nil (IsOf race));
+      counted = ap (λ l. map counts_of (map value l)) none ∙ sym (ap (map (λ (m : Box (Party g.row.P.Denot g.P.Role) Global). m.value.counts)) (drop_all (length hs) c.args.boxes.now.items (omega (arith, for.box_count, c.args.boxes.now.ok.0))));
+      waited = λ race all. subst (λ l. All (BelongsTo race) (map value l)) (sym none) (All-nil (BelongsTo race));
     }
 
 pub loop-left-preserved : goal.loop-left-preserved
@@ -34,7 +34,7 @@ loop-left-preserved g c =
     let value = g.H.AnyHandle.value in
     let some : 0 < n = omega (arith, c.loop-left-test.true) in
     let here : n - 1 < length hs = omega (arith, i.below, some) in
-    let m = c.in-Some.member in
+    let m = c.in-Some.party in
     let role = c.in-Some-pop.role in
     let h = c.opened.result in
     let seated = c.seat.ensures in
@@ -56,11 +56,11 @@ loop-left-preserved g c =
       role_room = c.pop-in-loop-left.ensures.capacity ∙ i.role_room;
       given = seen_too value role_in (λ (p : g.row.P.Denot). Some p) hs roles n h role some here (omega (arith, here, i.sized, for.role_count, c.args.roles.now.ok.0))
           (ap role_in holds ∙ (seated.role ∙ ap (λ (y : g.row.P.Denot). Some y) last_role)) i.given;
-      counted = seen_too value counts_of (λ (b : Box (Member g.row.P.Denot g.P.Role) Global). b.value.counts) hs boxes n h m some here boxed
-          (ap counts_of holds ∙ (seated.counts ∙ (ap (λ (x : Member g.row.P.Denot g.P.Role). x.counts) c.deref_mut.ensures.value ∙ ap (λ (y : Box (Member g.row.P.Denot g.P.Role) Global). y.value.counts) last_box))) i.counted;
+      counted = seen_too value counts_of (λ (b : Box (Party g.row.P.Denot g.P.Role) Global). b.value.counts) hs boxes n h m some here boxed
+          (ap counts_of holds ∙ (seated.counts ∙ (ap (λ (x : Party g.row.P.Denot g.P.Role). x.counts) c.deref_mut.ensures.value ∙ ap (λ (y : Box (Party g.row.P.Denot g.P.Role) Global). y.value.counts) last_box))) i.counted;
       waited = λ race all.
-          let of : arc_value c.seat.new.self.race ≡ race = seated.race ∙ (ap (λ (x : Member g.row.P.Denot g.P.Role). arc_value x.race) c.deref_mut.ensures.value ∙ (ap (λ (y : Box (Member g.row.P.Denot g.P.Role) Global). arc_value y.value.race) last_box ∙ all (n - 1) m boxed)) in
-          subst (λ l. All (IsOf race) (map value l)) (sym (from_set hs n some h here)) (All-cons (IsOf race) (value h) _ (subst (IsOf race) (sym holds) of) (i.waited race all));
+          let of : arc_value c.seat.new.self.race ≡ race = seated.race ∙ (ap (λ (x : Party g.row.P.Denot g.P.Role). arc_value x.race) c.deref_mut.ensures.value ∙ (ap (λ (y : Box (Party g.row.P.Denot g.P.Role) Global). arc_value y.value.race) last_box ∙ all (n - 1) m boxed)) in
+          subst (λ l. All (BelongsTo race) (map value l)) (sym (from_set hs n some h here)) (All-cons (BelongsTo race) (value h) _ (subst (BelongsTo race) (sym holds) of) (i.waited race all));
     }
 
 pub returns-clause-roles : goal.returns-clause-roles
@@ -76,4 +76,4 @@ returns-clause-counts g c =
 pub returns-clause-race : goal.returns-clause-race
 returns-clause-race g c race waiting =
     let none : c.loop-left.left ≡ 0 = omega (arith, c.loop-left-test.false) in
-    subst (λ n. All (IsOf race) (map g.H.AnyHandle.value (drop n c.loop-left.handles))) none (c.loop-left.invariant.waited race waiting)
+    subst (λ n. All (BelongsTo race) (map g.H.AnyHandle.value (drop n c.loop-left.handles))) none (c.loop-left.invariant.waited race waiting)

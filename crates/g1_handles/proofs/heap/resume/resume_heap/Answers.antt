@@ -1,15 +1,15 @@
--- The race goes on as the pause left it, with the members that are handed out.
+-- The race goes on as the pause left it, with the parties that are handed out.
 use Rattle.std.specs.Prelude.{◌≡◌}
-use Rattle.g1_handles.specs.{arith, rules, List, Some, All, map, sym, ap, ◌∙◌, refl, Option, arc_value, racer_log, IsNewRacer, IsNewSweeper, start_at, UnderWay, RacingHeap, RacerMember, SweeperMember, GoesOn, LeavesPause, boxed_counts, heap_counts, log_of, held_racers, held_sweepers, role_in, IsOf, idle_counts}
+use Rattle.g1_handles.specs.{arith, rules, List, Some, All, map, sym, ap, ◌∙◌, refl, Option, arc_value, racer_log, IsNewRacer, IsNewSweeper, start_at, UnderWay, RacingHeap, RacerParty, SweeperParty, GoesOn, LeavesPause, boxed_counts, heap_counts, log_of, held_racers, held_sweepers, role_in, BelongsTo, idle_counts}
 use Rattle.g1_handles.specs.declared.heap.racing_heap.AtPause.{AtPause}
 use Rattle.g1_handles.specs.declared.heap.racing_heap.Readers.{Readers}
 use Rattle.std.proofs.lemmas.Grind.{common_steps}
 use Rattle.g1_handles.proofs.{found, seen_alike}
 use Rattle.g1_handles.proofs.heap.resume.resume_heap.Goals as goal
 
-goes_on : (a : AtPause) (b : UnderWay) (rs : List (Option RacerMember)) (ss : List (Option SweeperMember)) → LeavesPause a b
+goes_on : (a : AtPause) (b : UnderWay) (rs : List (Option RacerParty)) (ss : List (Option SweeperParty)) → LeavesPause a b
     → map role_in rs ≡ map (λ r. Some r) b.racers.roles.items → map role_in ss ≡ map (λ w. Some w) b.sweepers.roles.items
-    → All (IsOf (arc_value b.race)) rs → All (IsOf (arc_value b.race)) ss → GoesOn a.pause (arc_value b.race) rs ss
+    → All (BelongsTo (arc_value b.race)) rs → All (BelongsTo (arc_value b.race)) ss → GoesOn a.pause (arc_value b.race) rs ss
 goes_on a b rs ss go racers sweepers of too =
     let begin = start_at a.pause in
     let id = (arc_value b.race).table.table_id in
@@ -43,6 +43,6 @@ returns-clause-resumed c =
       race = search rules;
       counts = (λ i. (out.counts i, too.counts i)) ∙ ((λ i. (boxed_counts (go.racers_waited i), boxed_counts (go.sweepers_waited i))) ∙ sym (ap heap_counts was));
       idle = ap (λ (r : Readers). boxed_counts r.idle) go.idle ∙ sym (ap idle_counts was);
-      members = search rules;
+      parties = search rules;
       closed = search rules;
     }

@@ -5,7 +5,7 @@ use Rattle.g1_race.proofs.{refs_here}
 use Rattle.g1_race.proofs.ended.Closed.target_at.Goals as goal
 
 -- the slot's word, in the table
-at_word : (l : layout.Shape) (k : RaceShape) (words : List ℕ) (e : Ended) (slot n : ℕ) → ended l k words ≡ e → k ≡ shape_of l k.members → slot < slot_count e.layout → get_elem? words slot ≡ some n → get_elem? e.words slot ≡ some n
+at_word : (l : layout.Shape) (k : RaceShape) (words : List ℕ) (e : Ended) (slot n : ℕ) → ended l k words ≡ e → k ≡ shape_of l k.parties → slot < slot_count e.layout → get_elem? words slot ≡ some n → get_elem? e.words slot ≡ some n
 at_word l k words e slot n is laid lt at =
     let slots : k.slots ≡ slot_count l = ap (λ (s : RaceShape). s.slots) laid in
     let same : slot_count l ≡ slot_count e.layout = ap (λ (x : Ended). slot_count x.layout) is in

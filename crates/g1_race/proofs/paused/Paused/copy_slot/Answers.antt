@@ -6,7 +6,7 @@ use Rattle.g1_race.proofs.{target_data, target_word, slot_gives, lent_view}
 use Rattle.g1_race.proofs.paused.Paused.copy_slot.Goals as goal
 
 abbrev IsLaid : Pause → Type 0
-IsLaid pause = pause.shape ≡ shape_of pause.layout pause.shape.members
+IsLaid pause = pause.shape ≡ shape_of pause.layout pause.shape.parties
 
 -- what the slot refers to
 reads : (pause : Pause) → IsLaid pause → (slot word : ℕ) → slot < slot_count pause.layout → get_elem? pause.words slot ≡ some word → target_of (table_at pause) slot ≡ over.target_of_word word

@@ -14,7 +14,7 @@ freeze-requires-clause-all g c =
     let race = g.R.HoldsRace.held c.args.race in
     let view = ap (λ me. me.0) (all_joined race.shape c.race.result.now.table.shape (map racer_view c.args.racers.items) (map sweeper_view c.args.sweepers.items) _ _ _ (ap (λ (r : Race). r.table.shape) c.race.ensures ∙ race.key_is) c.enter-seat.ensures.view c.join_racers.ensures.view c.join_sweepers.ensures.view) in
     weight_is race.table.table_id race.shape c.args.sweepers.items c.args.racers.items c.requires.sweepers c.requires.racers.1 _ view (omega (arith, c.requires.racers.0, c.args.racers.ok.0, c.args.sweepers.ok.0)) race.some
-    ∙ sym (ap (λ (k : RaceShape). k.members) (ap (λ (r : Race). r.table.shape) c.race.ensures ∙ race.key_is))
+    ∙ sym (ap (λ (k : RaceShape). k.parties) (ap (λ (r : Race). r.table.shape) c.race.ensures ∙ race.key_is))
 
 pub freeze-requires-clause-rest : goal.freeze-requires-clause-rest
 freeze-requires-clause-rest g c =
@@ -28,8 +28,8 @@ joined g c = all_joined (g.R.HoldsRace.held c.args.race).shape c.race.result.now
 view_is : (g : _) (c : goal.After-freeze g) → c.join_sweepers.new.pause_seat.me.0 ≡ collected (map sweeper_view c.args.sweepers.items) (collected (map racer_view c.args.racers.items) (blank (null_of (g.R.HoldsRace.held c.args.race).shape) 0 []))
 view_is g c = ap (λ me. me.0) (joined g c)
 
-count_is : (g : _) (c : goal.After-freeze g) → length c.args.racers.items + length c.args.sweepers.items ≡ (g.R.HoldsRace.held c.args.race).shape.members
-count_is g c = let e : length c.args.racers.items + length c.args.sweepers.items ≡ (g.R.HoldsRace.held c.args.race).shape.members = omega (arith, c.requires.racers.0, c.args.racers.ok.0, c.args.sweepers.ok.0) in e
+count_is : (g : _) (c : goal.After-freeze g) → length c.args.racers.items + length c.args.sweepers.items ≡ (g.R.HoldsRace.held c.args.race).shape.parties
+count_is g c = let e : length c.args.racers.items + length c.args.sweepers.items ≡ (g.R.HoldsRace.held c.args.race).shape.parties = omega (arith, c.requires.racers.0, c.args.racers.ok.0, c.args.sweepers.ok.0) in e
 
 table_is : (g : _) (c : goal.After-freeze g) → c.freeze.new.seat.table_id ≡ (g.R.HoldsRace.held c.args.race).table.table_id
 table_is g c = c.freeze.ensures.table ∙ (c.join_sweepers.ensures.seat ∙ (c.join_racers.ensures.seat ∙ (c.enter-seat.ensures.table ∙ ap (λ (r : Race). r.table.table_id) c.race.ensures)))

@@ -15,7 +15,7 @@ put-requires-clause-begun g c =
     (begun_placed k words c.args.slot c.args.word (lent_slot c.race-race.ensures c.self.view_is c.requires.slot) (inr c.requires.high) (λ cr. absurd (let no_one = data_crosses k c.args.slot c.args.word c.requires.high in cc (cr, no_one))) (lent_begun c.race-race.ensures c.self.invariant.1))
 
 -- the new kind and table
-data_stored : (k : RaceShape) (l : layout.Shape) (words after : List ℕ) (h : Pause) (p word : ℕ) → k ≡ shape_of l k.members → p < k.slots → 2 ^ 32 ≤ word
+data_stored : (k : RaceShape) (l : layout.Shape) (words after : List ℕ) (h : Pause) (p word : ℕ) → k ≡ shape_of l k.parties → p < k.slots → 2 ^ 32 ≤ word
     → table_of (ended l k words) ≡ table_at h → after ≡ set words p word → IsBegun (started k words) → IsBegun (started k after)
     → (Null ≡ kind_of (table_at h) p None) × (table_of (ended l k after) ≡ stored (table_at h) p None)
 data_stored k l words after h p word laid lt high was is begun then_begun =

@@ -1,5 +1,5 @@
 use Rattle.std.proofs.Common.{◌≡◌}
-use Rattle.g1_race.specs.Members.{sweeper_race}
+use Rattle.g1_race.specs.Parties.{sweeper_race}
 use Rattle.test_machinery.proofs.races.in_threads.refine_all.Given as goal
 
 abbrev pub invariant-loop-step : goal.invariant-loop-step

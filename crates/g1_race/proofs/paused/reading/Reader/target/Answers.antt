@@ -5,7 +5,7 @@ use Rattle.g1_race.proofs.{refs_here}
 use Rattle.g1_race.proofs.paused.reading.Reader.target.Goals as goal
 
 -- a slot's word among those of slots and marks
-front_word : (l : layout.Shape) (k : RaceShape) (words : List ℕ) (p n : ℕ) → k ≡ shape_of l k.members → p < slot_count l → get_elem? words p ≡ some n → get_elem? (ended l k words).words p ≡ some n
+front_word : (l : layout.Shape) (k : RaceShape) (words : List ℕ) (p n : ℕ) → k ≡ shape_of l k.parties → p < slot_count l → get_elem? words p ≡ some n → get_elem? (ended l k words).words p ≡ some n
 front_word l k words p n laid lt at = at_take words (k.slots + k.cards) p n (let e : k.slots ≡ slot_count l = ap (λ (x : RaceShape). x.slots) laid in omega (arith, e, lt)) at
 
 pub returns-clause-told : goal.returns-clause-told
