@@ -131,11 +131,13 @@ impl Core {
         ensures later { IsLater self.old self.new }
     {
         let (kind, dirtied) = self.kind(slot, &target);
-        self.memory.heap.set(slot, target);
         let Some(card) = dirtied else {
+            self.memory.heap.set(slot, target);
             return (kind, None);
         };
+        // (first, since behind the slot's write where the marks lie would be read again)
         self.memory.heap.set_mark(card, Mark::Dirty);
+        self.memory.heap.set(slot, target);
         self.memory.pending += 1;
         (kind, Some(card))
     }
