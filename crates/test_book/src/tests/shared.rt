@@ -1,6 +1,6 @@
 //! What callers of a shared book or core are answered, with memory enough.
 
-use super::player::Do::{Call, Flush, Full, FullRound, Guard, Pause, Refine, Work};
+use super::player::Do::{self, Call, Flush, Full, FullRound, Guard, Pause, Refine, Work};
 use super::player::{Steps, played};
 use super::{book, logs_of};
 use g1_book::Book;
@@ -23,6 +23,32 @@ fn write_read_back(rt: HostRuntime) -> Result<(), Fail> {
 static WRITTEN: Steps<'static> = &[
     (0, Call(Store(0, 8, Kind::Logged, Fill::No))),
     (0, Call(Target(0, Some(8)))),
+];
+
+/// Steps that a shared book answers otherwise are wrong: or else the other tables would pass.
+#[test]
+fn steps_that_a_book_answers_otherwise_are_wrong(rt: HostRuntime) -> Result<(), Fail> {
+    for steps in &OTHERWISE {
+        let book = book(rt.alloc(), logs_of(1), 1, 10)?;
+        let found = played(&rt, book, 1, steps).err();
+        equal(&rt, "the steps", found, Some(Failure::Wrong))?;
+    }
+    Ok(())
+}
+
+// A card fills the log, and a round begins with five buffers.
+const STORED: (usize, Do<'static>) = (0, Call(Store(0, 8, Kind::Logged, Fill::Full)));
+
+static OTHERWISE: [Steps<'static>; 9] = [
+    &[(0, Call(Store(0, 8, Kind::Logged, Fill::No)))],
+    &[(0, Call(Target(0, Some(8))))],
+    &[STORED, (0, Call(Drain(1, &[0], &[])))],
+    &[(0, Flush(1, Fill::Full))],
+    &[STORED, (0, Refine((1, &[0], 0, 0, 1)))],
+    &[STORED, (0, Refine((1, &[], 0, 1, 0)))],
+    &[STORED, (0, Work((1, &[0], 0, 0, 0)))],
+    &[(0, Full(Target(0, None)))],
+    &[(0, FullRound)],
 ];
 
 /// A redirect moves the one reference into region 1 to the same offset of region 3.
