@@ -1,10 +1,10 @@
 //! What no trace shows of a core: buffers by hand, the order in which cards are refined, how many
 //! slots are read, checks against a runtime's memory, and the limits of the settings.
-use g1_core::{Config, Core, Fill, Kind, Slot};
+use g1_core::{CardList, Config, Core, Fill, Kind, Slot};
 use std::test::Fail;
 use test_support::Failure;
-use test_support::checks::equal;
-use test_support::numbers::{number_of, region, slot, small};
+use test_support::checks::{equal, numbered};
+use test_support::numbers::{card, number_of, region, slot, small};
 use test_support::players::{OnCore, state_of};
 use test_support::step::Step::{
     self, Drain, Logged, Members, Pending, Redirect, Refine, RefineNone, Status, Store, Target,
@@ -187,6 +187,15 @@ fn copies_are_those_of_a_list(rt: HostRuntime) -> Result<(), Fail> {
         copies(&rt, &mut on, &mut memory, range, pending)?;
     }
     Ok(())
+}
+
+#[test]
+fn a_list_of_cards_is_copied(rt: HostRuntime) -> Result<(), Fail> {
+    let layout = small()?;
+    let cards = [card(layout, 5)?, card(layout, 2)?];
+    let list = CardList::of(Vec::from_slice(rt.alloc(), &cards)?);
+    let copy = list.try_clone(rt.alloc())?;
+    Ok(numbered(&rt, "the copy", copy.as_slice(), &[5, 2])?)
 }
 
 // The numbers at and beyond each limit, with the others as they are by default.
