@@ -26,7 +26,6 @@ pub mod PauseTable
 pub mod PauseStores
 pub mod FlagStores
 pub mod ClearWords
-pub mod LeastInto
 pub mod Forgetting
 pub mod ForgottenTable
 pub mod PauseRun

@@ -1,8 +1,7 @@
 -- How many references a redirect moves, and those that it has moved card by card.
 use Rattle.std.specs.Prelude.{◌≡◌, ◌+◌, ◌-◌, ◌*◌, ◌<◌, ◌≤◌}
-use Rattle.g1_race.specs.{ℕ, zero, suc, eqb, true, false, List, get_or, div-lt_iff_lt-mul, refl, sym, ap, ◌∙◌, subst, inl, inr, arith, eq-eqb, some, get_elem?, and_from, and_parts, cases_lt, eqb-true, true≢false, false_from_ne_true, mul-le-mul_right, suc-mul, RaceShape, IsBegun, HasBit, slot_card, crosses, mark_word, as_number, region_at, started, Into, is_member, AreMoved, into_count, is_into, reads_as}
+use Rattle.g1_race.specs.{ℕ, zero, suc, eqb, true, false, List, get_or, div-lt_iff_lt-mul, refl, sym, ap, ◌∙◌, subst, inl, inr, ⊎_elim, arith, card_below, IsMarked, eq-eqb, some, get_elem?, and_from, and_parts, cases_lt, eqb-true, true≢false, false_from_ne_true, mul-le-mul_right, suc-mul, RaceShape, IsBegun, HasBit, slot_card, crosses, mark_word, as_number, region_at, started, Into, is_member, AreMoved, into_count, is_into, reads_as}
 use Rattle.g1_race.proofs.AtPause.{begun_read}
-use Rattle.g1_race.proofs.LeastInto.{into_bit}
 use Rattle.g1_race.proofs.Moving.{moved_away, moved_none, moved_then}
 
 -- how many there are
@@ -32,6 +31,13 @@ into_is k words region p n lt at is = let b = and_parts (crosses k p n) (eqb (re
 
 pub is_into_of : (k : RaceShape) (region p n : ℕ) → crosses k p n ≡ true → region_at k n ≡ region → is_into k region p n ≡ true
 is_into_of k region p n cr e = and_from (crosses k p n) (eqb (region_at k n) region) cr (eq-eqb (region_at k n) region e)
+
+-- where no card is dirty, a slot that refers into the region is on one of its members
+into_bit : (k : RaceShape) (words : List ℕ) (region p : ℕ) → IsBegun (started k words) → ((c : ℕ) → c < k.cards → get_elem? words (mark_word k c) ≡ some 1 → ⊥) → Into k words region p → HasBit k words (slot_card k p, region)
+into_bit k words region p h clean i = ⊎_elim
+    (λ (b : HasBit k words (slot_card k p, region_at k i.0)). subst (λ (r : ℕ). HasBit k words (slot_card k p, r)) i.4 b)
+    (λ (m : IsMarked k words p). absurd (clean (slot_card k p) (card_below k p h.shaped i.1) m))
+    (h.covered p i.0 i.1 i.2 i.3)
 
 -- card by card
 
