@@ -1,13 +1,12 @@
 -- What a clear at a pause reads and does.
 use Rattle.std.specs.Prelude.{◌≡◌, ◌≢◌, ◌+◌, ◌-◌, ◌*◌, ◌/◌, ◌<◌, ◌≤◌}
-use Rattle.g1_race.specs.{ℕ, not, eqb, List, length, set, get_or, length-set, eq-eqb, refl, sym, ap, ◌∙◌, subst, inl, inr, arith, some, get_elem?, cases_eq, eqb-true, not-false, take-set-le, get_or-set_same, get_or-set_other, div-mul-add, bit_at, set_else, Enters, Table, clear_entry, RaceShape, IsBegun, IsWholeShape, HasBit, bit_word, bit_index, slot_card, flag, front, mark_word, word_count, region_at, started, shape_of, ended, table_of, Clear, Cleared, IsStep, settled, refined_none, none_refinable, Into, IsEmptied, no_bit, at_take, at_untake, reads_as, crosses_reference, card_in_row, crossing_pair, in_row, flag_card, word_in_row}
+use Rattle.g1_race.specs.{ℕ, not, eqb, List, set, get_or, length-set, eq-eqb, refl, sym, ap, ◌∙◌, subst, inl, inr, arith, some, get_elem?, cases_eq, eqb-true, not-false, take-set-le, get_or-set_same, get_or-set_other, div-mul-add, bit_at, set_else, Enters, Table, clear_entry, RaceShape, IsBegun, IsWholeShape, HasBit, bit_word, bit_index, slot_card, flag, front, mark_word, word_count, region_at, started, shape_of, ended, table_of, Clear, Cleared, IsStep, settled, refined_none, none_refinable, Into, IsEmptied, no_bit, at_take, reads_as, crosses_reference, card_in_row, crossing_pair, in_row, flag_card, word_in_row}
 use Rattle.std.specs.FinSet as fin
 use Rattle.g1_layout.specs.Shape as layout
 use Rattle.g1_core.specs.declared.entry.Reply.TheVariants as reply
 use Rattle.g1_race.proofs.AtPause.{begun_front}
 use Rattle.g1_race.proofs.Ends.{crosses_apart, word_refers}
-use Rattle.g1_race.proofs.Forgetting.{slot_back}
-use Rattle.g1_race.proofs.ForgottenTable.{retained_is}
+use Rattle.g1_race.proofs.Forgetting.{slot_back, retained_is}
 
 -- a word of the region's row
 

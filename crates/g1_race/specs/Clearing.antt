@@ -1,7 +1,7 @@
 -- What a clear at a pause does.
-use Rattle.std.specs.Prelude.{◌≡◌, ◌≢◌, ◌/◌, ◌<◌, ◌≤◌}
+use Rattle.std.specs.Prelude.{◌≡◌, ◌≢◌, ◌/◌, ◌<◌}
 use Rattle.g1_race.specs.Prelude.{ℕ, List, true, some, get_elem?, RaceShape, IsPair, mark_word}
-use Rattle.g1_race.specs.Prelude.{HasBit, slot_card, crosses, front, region_at}
+use Rattle.g1_race.specs.Prelude.{HasBit, crosses, front, region_at}
 
 -- no card is dirty
 abbrev pub IsClean : RaceShape → List ℕ → Type 0

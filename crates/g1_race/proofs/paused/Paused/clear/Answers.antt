@@ -2,7 +2,7 @@
 use Rattle.std.specs.Prelude.{◌≡◌, ◌∷◌}
 use Rattle.g1_race.specs.{ℕ, [], Some, sym, ap, ◌∙◌, subst, arith, none_of, Enters, Cleared, ClearsAt, IsFirstIntoAny, Pause, table_at}
 use Rattle.std.specs.FinSet as fin
-use Rattle.g1_race.proofs.Freeing.{clear_pending, clear_refused, enters_any}
+use Rattle.g1_race.proofs.{clear_pending, clear_refused, enters_any}
 use Rattle.g1_race.proofs.paused.Paused.clear.Given.{Over}
 use Rattle.g1_race.proofs.paused.Paused.clear.Goals.{Else-pending-gt0}
 use Rattle.g1_race.proofs.paused.Paused.clear.Goals as goal

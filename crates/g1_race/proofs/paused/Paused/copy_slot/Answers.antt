@@ -1,5 +1,5 @@
 -- The word that is read is stored.
-use Rattle.std.specs.Prelude.{◌≡◌, ◌⊎◌, ◌/◌, ◌<◌}
+use Rattle.std.specs.Prelude.{◌≡◌, ◌/◌, ◌<◌}
 use Rattle.g1_race.specs.{inl, inr, ⊎_elim, IsFlagged, Logged, FlagsRise, slot_card, ℕ, sym, ap, ◌∙◌, subst, arith, some, get_elem?, slot_count, target_of, stored, RaceShape, shape_of, Pause, table_at, target_of_word, SlotsBecome, one_word, read_is}
 use Rattle.g1_race.proofs.{pause_laid, slot_gives}
 use Rattle.g1_race.proofs.paused.Paused.copy_slot.Goals as goal

@@ -1,6 +1,6 @@
 -- A reference is stored as its word.
 use Rattle.std.specs.Prelude.{◌<◌, ◌≤◌, ◌^◌}
-use Rattle.g1_race.specs.{ℕ, Option, Some, None, IfSome, inl, ap, ◌∙◌, arith, slot_count, RaceShape, target_of_word, word_of, Pause}
+use Rattle.g1_race.specs.{ℕ, Option, Some, None, IfSome, inl, ap, ◌∙◌, arith, slot_count, RaceShape, target_of_word, word_of}
 use Rattle.g1_race.proofs.{pause_laid, pause_shaped, stores_at, word_fits, word_target}
 use Rattle.g1_race.proofs.paused.Paused.store.Goals as goal
 

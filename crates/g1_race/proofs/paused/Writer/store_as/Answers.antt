@@ -1,11 +1,9 @@
 -- A store at a pause: first the card, if the store dirties it, and then the slot.
 use Rattle.std.specs.Prelude.{◌≡◌, ◌/◌, ◌<◌}
-use Rattle.g1_race.specs.{Logged, card_below, ℕ, List, set, refl, ap, sym, ◌∙◌, subst, inr, arith, slot_count, RaceShape, IsBegun, slot_card, started, target_of_word, one_word, words_of, heap_of}
+use Rattle.g1_race.specs.{Logged, card_below, ℕ, set, refl, ap, sym, ◌∙◌, subst, inr, arith, slot_count, RaceShape, IsBegun, slot_card, started, target_of_word, one_word, words_of, heap_of}
 use Rattle.g1_layout.specs.Shape as layout
 use Rattle.g1_race.specs.declared.race.Race.{Race}
-use Rattle.g1_race.proofs.{begun_placed, quiet_marked, quiet_store, dirtied_words, put_words, words_then, begun_on, writes_next}
-use Rattle.g1_race.proofs.FlagRises.{put_rises, rises_then, dirtied_rises}
-use Rattle.g1_race.proofs.FlagStores.{dirtied_here, dirtied_store}
+use Rattle.g1_race.proofs.{begun_placed, quiet_marked, quiet_store, dirtied_words, put_words, words_then, begun_on, writes_next, put_rises, rises_then, dirtied_rises, dirtied_here, dirtied_store}
 use Rattle.g1_race.proofs.paused.Writer.store_as.Goals as goal
 
 -- the slot and its card are of the race
