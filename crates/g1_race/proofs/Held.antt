@@ -1,6 +1,6 @@
 -- What a pause lends is the race that it holds.
 use Rattle.std.specs.Prelude.{◌≡◌, ◌<◌}
-use Rattle.g1_race.specs.{ℕ, List, sym, ap, ◌∙◌, subst, arith, slot_count, TableId, Table, RaceShape, IsBegun, IsWholeShape, shape_of, started, at_pause_of, race_id, Pause, ended, table_at, table_of, Known, reader_race, Writes, words_of}
+use Rattle.g1_race.specs.{ℕ, List, sym, ap, ◌∙◌, subst, arith, slot_count, TableId, Table, RaceShape, IsBegun, started, at_pause_of, race_id, Pause, ended, table_at, table_of, Known, reader_race, Writes, words_of}
 use Rattle.std.specs.Borrow.{Bor}
 use Rattle.g1_race.specs.declared.race.Race.{Race}
 use Rattle.g1_race.specs.declared.paused.Writer.{Writer}
@@ -10,14 +10,6 @@ lent_view {words = words} {logs = logs} {sweepers = sweepers} is view = ap (λ (
 
 pub lent_begun : {race held : Race} {words : List ℕ} → race ≡ held → IsBegun (started held.shape words) → IsBegun (started race.shape words)
 lent_begun {words = words} is = subst (λ (r : Race). IsBegun (started r.shape words)) (sym is)
-
--- a pause's shape is that of its layout
-
-pub pause_laid : (held : Race) {words : List ℕ} {logs : List (List ℕ)} {sweepers : ℕ} {pause : Pause} → at_pause_of held words logs sweepers ≡ pause → pause.shape ≡ shape_of pause.layout pause.shape.parties
-pause_laid held view = subst (λ (h : Pause). h.shape ≡ shape_of h.layout h.shape.parties) view held.laid
-
-pub pause_shaped : (held : Race) {words : List ℕ} {logs : List (List ℕ)} {sweepers : ℕ} {pause : Pause} → at_pause_of held words logs sweepers ≡ pause → IsWholeShape pause.shape
-pause_shaped held view = subst (λ (h : Pause). IsWholeShape h.shape) view held.shaped
 
 -- a region of the pause is one of the race, and so it is by its number
 pub lent_numbers : {race held : Race} {words : List ℕ} {logs : List (List ℕ)} {sweepers region : ℕ} {pause : Pause} → race ≡ held → at_pause_of held words logs sweepers ≡ pause → region < pause.layout.regions → region < race.layout.regions

@@ -10,31 +10,6 @@ use Rattle.g1_race.proofs.FlagWords.{flag_ended}
 pub store_step : (t new : Table) (caller slot : ℕ) (target : Option ℕ) (kind : Kind) → slot < slot_count t.layout → IfSome target (λ place. place < slot_count t.layout) → kind ≡ kind_of t slot target → new ≡ stored t slot target → IsStep t (store_entry caller slot target (unfilled kind)) new
 store_step t new caller slot target kind lt within is e = record { allowed = record { numbers = (lt, within); refines = none_refinable (stored t slot target); answers = (is, λ h. refl) }; after = e ∙ sym (refined_none (stored t slot target)) }
 
--- a store of a word, of what it refers to
-
-pub stores_at : (old new : Pause) (slot word : ℕ) (target : Option ℕ) (kind : Kind) → word ≡ word_of target → target_of_word word ≡ target → StoresWordAt old slot word kind new → StoresAt old slot target kind new
-stores_at old new slot word target kind is back s = record {
-  race = s.race;
-  words = subst (λ (w : ℕ). SlotsBecome (one_word slot w) old new) is s.words;
-  kind_is = s.kind_is ∙ ap (kind_of (table_at old) slot) back;
-  table = s.table ∙ ap (stored (table_at old) slot) back;
-  step = λ caller. subst (λ (t : Option ℕ). IsStep (table_at old) (store_entry caller slot t (unfilled kind)) (table_at new)) back (s.step caller);
-  flags = s.flags;
-}
-
-pub stores_data : (old new : Pause) (slot word : ℕ) (kind : Kind) → 2 ^ 32 ≤ word → StoresWordAt old slot word kind new → StoresDataAt old slot word new
-stores_data old new slot word kind high s =
-    let none : target_of_word word ≡ None = target_data word high in
-    let null : kind ≡ Null = s.kind_is ∙ ap (kind_of (table_at old) slot) none in
-    record {
-      high = high;
-      race = s.race;
-      words = s.words;
-      table = s.table ∙ ap (stored (table_at old) slot) none;
-      step = λ caller. subst (λ (x : Option ℕ × Kind). IsStep (table_at old) (store_entry caller slot x.0 (unfilled x.1)) (table_at new)) (λ i. (none i, null i)) (s.step caller);
-      flags = λ card lt b. ⊎_elim (λ o. inl o) (λ r. absurd (let e : Null ≡ Logged = sym null ∙ r.1.0 in cc e)) (s.flags card lt b);
-    }
-
 -- the slots of a region
 
 pub slot_in : (k : RaceShape) (region i : ℕ) → IsWholeShape k → region < k.regions → i < k.span → region * k.span + i < k.slots
@@ -54,6 +29,12 @@ pending_stays AlreadyDirty pending card quiet = refl
 
 module _ (k : RaceShape) (l : layout.Shape) (laid : k ≡ shape_of l k.parties) (p : ℕ) (lt : p < k.slots) (target : Option ℕ) (n : ℕ) (back : target_of_word n ≡ target) where
   -- the kind of the store
+
+  pub kind_null : (t : Table) → n ≡ 0 → kind_of t p target ≡ Null
+  kind_null t e = ap (kind_of t p) (sym back ∙ ap target_of_word e)
+
+  pub kind_data : (t : Table) → 2 ^ 32 ≤ n → kind_of t p target ≡ Null
+  kind_data t le = ap (kind_of t p) (sym back ∙ target_data n le)
 
   abbrev kind_at : List ℕ → Bool → Kind
   kind_at words b = cond b SameRegion (cond (fin.contains (table_of (ended l k words)).pending (layout.card_of l p)) AlreadyDirty Logged)

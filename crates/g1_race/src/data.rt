@@ -1,15 +1,17 @@
 //! Words that are no references: a slot may hold data, which refers to nothing.
 ghost use Rattle.std.specs.Prelude.{◌≡◌, ◌<◌, ◌≤◌, ◌^◌};
 ghost use Rattle.g1_race.specs.{false, some, get_elem?, slot_count, IsWord, IsFound, race_id};
+ghost use Rattle.g1_race.specs.{StoresWordAt};
 ghost use Rattle.g1_race.specs.{race_layout, race_shape, racer_log, racer_race, racer_start};
 ghost use Rattle.g1_race.specs.{racer_view, reader_race, StoresDataAt};
 ghost use Rattle.g1_race.specs.Race as racing;
 
-use crate::paused::Paused;
 use crate::paused::holds::HoldsRace;
 use crate::paused::reading::Reader;
+use crate::paused::{Paused, Writer};
 use crate::race::{Race, Racer};
-use g1_layout::Slot;
+use crate::word::refers_to;
+use g1_layout::{Kind, Slot};
 
 impl Racer {
     /// Stores data into a slot: a word from 2^32 on, as a tagged integer, which refers to nothing.
@@ -44,7 +46,24 @@ impl<R: HoldsRace> Paused<R> {
         requires high { 2 ^ 32 ≤ word }
         ensures { StoresDataAt self.old slot word self.new }
     {
-        self.store_word(slot, word);
+        let (race, reader) = (self.race.race(), &mut self.reader);
+        Writer { race, reader }.put(slot.number() as usize, word);
+    }
+
+    /// Stores a word into a slot: null or a reference as [`Paused::store`] does, and data as
+    /// [`Paused::store_data`] does. Returns the kind of the store, which is `Null` for data. Takes
+    /// no memory. The word must be one that a slot of the heap may have ([`Race::is_word`]).
+    pub fn store_word(&mut self, slot: Slot, word: u64) -> Kind
+        requires slot { slot < slot_count self.old.layout }
+        requires word { IsWord self.old.shape word }
+        ensures { StoresWordAt self.old slot word result self.new }
+    {
+        if word > u32::MAX as u64 {
+            self.store_data(slot, word);
+            return Kind::Null;
+        }
+        let layout = self.race.race().layout;
+        self.store(slot, refers_to(layout, word))
     }
 
     /// Returns a slot's word: 0 for null, the number of the slot that it refers to plus 1, or data

@@ -5,13 +5,12 @@ ghost use Rattle.g1_race.specs.{kind_of, stored, TellsTarget, TellsPending, IsBe
 ghost use Rattle.g1_race.specs.{crosses, word_count, shape_of, word_of, table_at, WordsBecome};
 ghost use Rattle.g1_race.specs.{one_word, IsDirtied, reader_race, race_id, table_read, StoresAt};
 ghost use Rattle.g1_race.specs.{Logged, RaisesOnly, slot_card, Writes, words_of, heap_of};
-ghost use Rattle.g1_race.specs.{IsWord, StoresWordAt, target_of_word};
 
 use crate::paused::holds::HoldsRace;
 use crate::paused::reading::Reader;
 use crate::paused::{Paused, Writer};
 use crate::race::Race;
-use crate::word::{refers_to, word_of};
+use crate::word::word_of;
 use g1_layout::{Card, Kind, Layout, Slot};
 
 impl<R: HoldsRace> Paused<R> {
@@ -41,23 +40,10 @@ impl<R: HoldsRace> Paused<R> {
         requires target { IfSome target (λ place. place < slot_count self.old.layout) }
         ensures { StoresAt self.old slot target result self.new }
     {
-        let _race = &self.race;
-        self.store_word(slot, word_of(target))
-    }
-
-    /// Stores a word into a slot: null or a reference as [`Paused::store`] does, and data as
-    /// [`Paused::store_data`] does. Returns the kind of the store, which is `Null` for data. Takes
-    /// no memory. The word must be one that a slot of the heap may have ([`Race::is_word`]).
-    pub fn store_word(&mut self, slot: Slot, word: u64) -> Kind
-        requires slot { slot < slot_count self.old.layout }
-        requires word { IsWord self.old.shape word }
-        ensures { StoresWordAt self.old slot word result self.new }
-    {
         let race = self.race.race();
-        let target = refers_to(race.layout, word);
         let kind = self.reader.kind_of(race, &slot, &target);
         let reader = &mut self.reader;
-        Writer { race, reader }.store_as(slot, word, kind);
+        Writer { race, reader }.store_as(slot, target, kind);
         kind
     }
 }
@@ -106,21 +92,21 @@ impl Reader {
 }
 
 impl Writer<'_> {
-    // Stores a word, by a store of this kind of what it refers to.
-    fn store_as(&mut self, slot: Slot, word: u64, kind: Kind)
+    // Makes a store of this kind.
+    fn store_as(&mut self, slot: Slot, target: Option<Slot>, kind: Kind)
         requires slot { slot < slot_count self.old.race.now.layout }
-        requires word { IsWord (heap_of self.old) word }
-        requires kind { kind ≡ kind_of (table_read self.old.race.now self.old.reader.now) slot
-            (target_of_word word) }
-        ensures words { Writes self.old self.new (WordsBecome (one_word slot word)) }
+        requires target { IfSome target (λ place. place < slot_count self.old.race.now.layout) }
+        requires kind { kind
+            ≡ kind_of (table_read self.old.race.now self.old.reader.now) slot target }
+        ensures words { Writes self.old self.new (WordsBecome (one_word slot (word_of target))) }
         ensures table { let race = self.old.race.now in table_read race self.new.reader.now
-            ≡ stored (table_read race self.old.reader.now) slot (target_of_word word) }
+            ≡ stored (table_read race self.old.reader.now) slot target }
         ensures flags { let heap = heap_of self.old in
             RaisesOnly (λ card. (kind ≡ Logged) × (card ≡ slot_card heap slot)) heap
             (words_of self.old) (words_of self.new) }
     {
         self.reader.begun(self.race);
-        let number = slot.number() as usize;
+        let (number, word) = (slot.number() as usize, word_of(target));
         let Kind::Logged = kind else {
             self.put(number, word);
             return;

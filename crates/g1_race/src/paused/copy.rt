@@ -5,6 +5,7 @@ ghost use Rattle.g1_race.specs.{SlotsBecome, one_word, Copies, FlagsRise, slot_c
 
 use crate::paused::Paused;
 use crate::paused::holds::HoldsRace;
+use crate::word::refers_to;
 use g1_layout::{Layout, Slot};
 
 impl<R: HoldsRace> Paused<R> {
@@ -33,6 +34,7 @@ impl<R: HoldsRace> Paused<R> {
     }
 
     // Stores the word of a slot into another one.
+    #[tactic(auto, using(crate::specs::read_is))]
     fn copy_slot(&mut self, from: Slot, to: Slot)
         requires from { from < slot_count self.old.layout }
         requires to { to < slot_count self.old.layout }
@@ -43,9 +45,14 @@ impl<R: HoldsRace> Paused<R> {
             ≡ stored (table_at self.old) to (target_of (table_at self.old) from) }
         ensures flags { FlagsRise (λ card. card ≡ slot_card self.old.shape to) self.old self.new }
     {
-        let _race = &self.race;
+        let layout = self.race.race().layout;
         let word = self.word(from);
-        self.store_word(to, word);
+        if word > u32::MAX as u64 {
+            self.store_data(to, word);
+            return;
+        }
+        let target = refers_to(layout, word);
+        self.store(to, target);
     }
 }
 

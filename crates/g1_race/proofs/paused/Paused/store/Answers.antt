@@ -1,20 +1,22 @@
--- A reference is stored as its word.
-use Rattle.std.specs.Prelude.{◌<◌, ◌≤◌, ◌^◌}
-use Rattle.g1_race.specs.{ℕ, Option, Some, None, IfSome, inl, ap, ◌∙◌, arith, slot_count, RaceShape, target_of_word, word_of}
-use Rattle.g1_race.proofs.{pause_laid, pause_shaped, stores_at, word_fits, word_target}
+use Rattle.std.proofs.Common.{rules}
+use Rattle.std.specs.Prelude.{◌≡◌}
+use Rattle.g1_race.specs.{ℕ, List, subst, Logged, Pause, RaisesOnly, slot_card, sym, ap, ◌∙◌, Table, kind_of, stored, ended, table_at, table_of, words_of}
+use Rattle.g1_race.proofs.{held_table, lent_view, store_step}
 use Rattle.g1_race.proofs.paused.Paused.store.Goals as goal
-
-some_low : (t : Option ℕ) (n m : ℕ) → n ≤ m → IfSome t (λ x. x < n) → IfSome t (λ x. x < m)
-some_low None n m le h = tt
-some_low (Some x) n m le h = omega (arith, le, h)
-
-pub word_of-requires : goal.word_of-requires
-word_of-requires g c = some_low c.args.target (slot_count c.args.self.now.layout) (2 ^ 32) (omega (arith, ap (λ (k : RaceShape). k.slots) (pause_laid (g.R.HoldsRace.held c.self.inside.race) c.self.view_is), (pause_shaped (g.R.HoldsRace.held c.self.inside.race) c.self.view_is).3)) c.requires.target
-
-pub store_word-requires-clause-word : goal.store_word-requires-clause-word
-store_word-requires-clause-word g c = inl (omega (arith, c.word_of.ensures, word_fits c.args.target (slot_count c.args.self.now.layout) c.requires.target, ap (λ (k : RaceShape). k.slots) (pause_laid (g.R.HoldsRace.held c.self.inside.race) c.self.view_is)))
 
 pub returns : goal.returns
 returns g c =
-    let low : word_of c.args.target < 2 ^ 32 = omega (arith, word_fits c.args.target (slot_count c.args.self.now.layout) c.requires.target, ap (λ (k : RaceShape). k.slots) (pause_laid (g.R.HoldsRace.held c.self.inside.race) c.self.view_is), (pause_shaped (g.R.HoldsRace.held c.self.inside.race) c.self.view_is).3) in
-    stores_at c.args.self.now c.store_word.new.self c.args.slot c.word_of.result c.args.target c.store_word.result c.word_of.ensures (ap target_of_word c.word_of.ensures ∙ word_target c.args.target low) c.store_word.ensures
+    let race = c.race-race.result.now in
+    let was : table_of (ended race.layout race.shape c.self.inside.reader.start.words) ≡ table_at c.args.self.now = ap table_at (lent_view c.race-race.ensures c.self.view_is) in
+    let seen : table_of (ended race.layout race.shape c.kind_of-kind.new.self.start.words) ≡ table_at c.args.self.now = ap (λ r. table_of (ended race.layout race.shape r.start.words)) c.kind_of-kind.ensures.same ∙ was in
+    record {
+      race = search rules;
+      words = search rules;
+      kind_is = search rules;
+      table = search rules;
+      flags = subst (λ (h : Pause). RaisesOnly (λ card. (c.kind_of-kind.result ≡ Logged) × (card ≡ slot_card h.shape c.args.slot)) h.shape h.words (words_of c.store_as.new.self)) (lent_view c.race-race.ensures c.self.view_is)
+          (subst (λ (ws : List ℕ). RaisesOnly (λ card. (c.kind_of-kind.result ≡ Logged) × (card ≡ slot_card race.shape c.args.slot)) race.shape ws (words_of c.store_as.new.self)) (ap (λ r. r.start.words) c.kind_of-kind.ensures.same) c.store_as.ensures.flags);
+      step = λ caller. store_step (table_at c.args.self.now) _ caller c.args.slot c.args.target c.kind_of-kind.result c.requires.slot c.requires.target
+          (c.kind_of-kind.ensures.kind ∙ ap (λ (t : Table). kind_of t c.args.slot c.args.target) was)
+          (sym (held_table (words_of c.store_as.new.self) c.race-race.ensures) ∙ (c.store_as.ensures.table ∙ ap (λ (t : Table). stored t c.args.slot c.args.target) seen));
+    }

@@ -1,6 +1,6 @@
 use Rattle.std.specs.Prelude.{◌≢◌, ◌⊎◌, ◌≤◌, ◌≡◌, ◌+◌, ◌*◌, ◌<◌}
 use Rattle.g1_race.specs.{inl, inr, ℕ, suc, List, set, None, refl, ap, ◌∙◌, arith, get_elem?, cases_eq, set_else, set_here, Null, ended, table_of, nulled, words_of, sym, heap_of}
-use Rattle.g1_race.proofs.{begun_placed, null_crosses, quiet_store, slot_in, begun_on, writes_next, put_rises, rises_then}
+use Rattle.g1_race.proofs.{begun_placed, null_crosses, kind_null, quiet_store, slot_in, begun_on, writes_next, put_rises, rises_then}
 use Rattle.g1_race.proofs.paused.Writer.wipe_slots.Goals as goal
 
 -- a slot outside of the first ones is outside of all before
@@ -26,7 +26,7 @@ loop-i-preserved c =
     let old = table_of (ended race.layout k (words_of c.args.self.now)) in
     let new = words_of c.put_null.new.self in
     record {
-      table = (quiet_store k race.layout race.laid p lt None 0 refl (nulled first c.loop-i.i old) words new i.table c.put_null.ensures.words i.null.begun (begun_on (sym i.null.race) c.put_null.ensures.begun) Null refl (λ e. cc)).1
+      table = (quiet_store k race.layout race.laid p lt None 0 refl (nulled first c.loop-i.i old) words new i.table c.put_null.ensures.words i.null.begun (begun_on (sym i.null.race) c.put_null.ensures.begun) Null (kind_null k race.layout race.laid p lt None 0 refl (table_of (ended race.layout k words)) refl) (λ e. cc)).1
           ∙ ap (λ (n : ℕ). nulled first n old) (let e : suc c.loop-i.i ≡ c.loop-i.i + 1 = omega arith in e);
       null = writes_next i.null.race i.null.reader c.put_null.ensures (λ put j low. ap (λ (ws : List ℕ). get_elem? ws (first + j)) put ∙ elim (cases_eq j c.loop-i.i) [
         | inl e ↦ ap (λ (m : ℕ). get_elem? (set words p 0) (first + m)) e ∙ set_here words p 0 (omega (arith, lt, i.null.begun.sized))
