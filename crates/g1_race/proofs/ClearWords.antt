@@ -1,12 +1,13 @@
 -- What a clear at a pause reads and does.
 use Rattle.std.specs.Prelude.{◌≡◌, ◌≢◌, ◌+◌, ◌-◌, ◌*◌, ◌/◌, ◌<◌, ◌≤◌}
-use Rattle.g1_race.specs.{ℕ, not, eqb, List, set, get_or, length-set, eq-eqb, refl, sym, ap, ◌∙◌, subst, inl, inr, arith, some, get_elem?, cases_eq, eqb-true, not-false, take-set-le, get_or-set_same, get_or-set_other, div-mul-add, bit_at, set_else, Enters, Table, clear_entry, RaceShape, IsBegun, IsWholeShape, HasBit, bit_word, bit_index, slot_card, flag, front, mark_word, word_count, region_at, started, shape_of, ended, table_of, Clear, Cleared, IsStep, settled, refined_none, none_refinable, Into, IsEmptied, no_bit, at_take, reads_as, crosses_reference, card_in_row, crossing_pair, in_row, flag_card, word_in_row}
+use Rattle.g1_race.specs.{ℕ, not, eqb, List, length, set, get_or, length-set, eq-eqb, Some, None, refl, sym, ap, ◌∙◌, subst, inl, inr, arith, some, get_elem?, cases_eq, eqb-true, not-false, take-set-le, get_or-set_same, get_or-set_other, div-mul-add, bit_at, set_else, Enters, Table, clear_entry, RaceShape, IsBegun, IsWholeShape, HasBit, bit_word, bit_index, slot_card, flag, front, mark_word, word_count, region_at, started, shape_of, ended, table_of, Clear, Cleared, Pending, StillReferenced, IsStep, settled, refined_none, none_refinable, Into, IsLeastInto, IsEmptied, marked_cards, no_bit, at_take, at_untake, reads_as, crosses_reference, card_in_row, crossing_pair, in_row, flag_card, word_in_row}
 use Rattle.std.specs.FinSet as fin
 use Rattle.g1_layout.specs.Shape as layout
 use Rattle.g1_core.specs.declared.entry.Reply.TheVariants as reply
 use Rattle.g1_race.proofs.AtPause.{begun_front}
-use Rattle.g1_race.proofs.Ends.{crosses_apart, word_refers}
+use Rattle.g1_race.proofs.Ends.{crosses_apart, crossing_back, word_refers}
 use Rattle.g1_race.proofs.Forgetting.{slot_back, retained_is}
+use Rattle.g1_race.proofs.PauseTable.{none_pending, pending_len}
 
 -- a word of the region's row
 
@@ -76,6 +77,11 @@ into_back k old new region p same i = (i.0, i.1, slot_back k old new p i.0 same 
 -- as a table
 
 module _ (k : RaceShape) (l : layout.Shape) (laid : k ≡ shape_of l k.parties) where
+  enters_word : (words : List ℕ) (slot region : ℕ) → Enters (table_of (ended l k words)) slot region → Into k words region slot
+  enters_word words slot region h =
+      let w = crossing_back (ended l k words) k.parties slot h.place h.refers (λ q. h.outside (q ∙ h.into)) in
+      subst (λ (s : RaceShape). Into s words region slot) (sym laid) (w.0, w.1, (at_untake words (k.slots + k.cards) slot w.0 w.2).1, w.3, w.4 ∙ h.into)
+
   pub word_enters : (words : List ℕ) (slot region : ℕ) → Into k words region slot → Enters (table_of (ended l k words)) slot region
   word_enters words slot region i = let x = subst (λ (s : RaceShape). Into s words region slot) laid i in record {
     place = x.0 - 1;
@@ -84,18 +90,34 @@ module _ (k : RaceShape) (l : layout.Shape) (laid : k ≡ shape_of l k.parties) 
     outside = λ q. crosses_apart (shape_of l k.parties) slot x.0 x.3 (q ∙ sym x.4);
   }
 
-  -- the step of a clear that is granted
-  pub clear_granted : (old new : List ℕ) (caller region number : ℕ) → number ≡ region → region < l.regions → IsBegun (started k old) → IsBegun (started k new) → IsEmptied k old new number k.row
-      → (table_of (ended l k old)).pending ≡ fin.empty → ((slot : ℕ) → Enters (table_of (ended l k old)) slot region → ⊥) → IsStep (table_of (ended l k old)) (clear_entry caller region Cleared) (table_of (ended l k new))
-  clear_granted old new caller region number is lt begun h emptied clean none =
-      let t : Table = table_of (ended l k old) in
-      let g : IsEmptied k old new region k.row = subst (λ (r : ℕ). IsEmptied k old new r k.row) is emptied in
-      let gone : table_of (ended l k new) ≡ settled (Clear region) (reply.Clear Cleared) t = retained_is k l laid old new (λ x. not (eqb x.1 region)) begun h (record {
-        front = g.front;
-        kept = λ x pair stays. g.kept x pair.0 (λ e. stays (ap not (eq-eqb x.1 region e)));
-        only = λ x pair. g.only x pair;
-        clear = λ x pair out. g.clear x pair.0 (eqb-true x.1 region (not-false _ out)) (in_row k x h.shaped pair);
-      }) in record {
-        allowed = record { numbers = lt; refines = none_refinable t; answers = (refl, clean, none) };
-        after = gone ∙ ap (settled (Clear region) (reply.Clear Cleared)) (sym (refined_none t));
-      }
+  -- what a clear answers
+  module _ (old read : List ℕ) (begun : IsBegun (started k old)) (same : read ≡ old) (caller region : ℕ) (lt : region < l.regions) (count : ℕ) (counted : count ≡ length (marked_cards k old)) where
+    abbrev t : Table
+    t = table_of (ended l k old)
+
+    pub clear_pending : 1 ≤ count → IsStep (table_of (ended l k old)) (clear_entry caller region (Pending count)) (table_of (ended l k read))
+    clear_pending some_card = subst (λ (ws : List ℕ). IsStep t (clear_entry caller region (Pending count)) (table_of (ended l k ws))) (sym same)
+        (record { allowed = record { numbers = lt; refines = none_refinable t; answers = (refl, counted ∙ pending_len k l laid old begun, some_card) }; after = sym (refined_none t) })
+
+    module _ (none : count ≤ 0) (number : ℕ) (is : number ≡ region) where
+      clean : t.pending ≡ fin.empty
+      clean = none_pending k l laid old begun (let n : ℕ = length (marked_cards k old) in let e : count ≡ n = counted in let goal : n ≡ 0 = omega (arith, none) in goal)
+
+      pub clear_refused : (slot named : ℕ) (new : List ℕ) → named ≡ slot → new ≡ read → IsLeastInto k read number (Some slot) → IsStep (table_of (ended l k old)) (clear_entry caller region (StillReferenced named)) (table_of (ended l k new))
+      clear_refused slot named new e then_same least =
+          let first : IsLeastInto k old region (Some named) = subst (λ (x : List ℕ × ℕ × ℕ). IsLeastInto k x.0 x.1 (Some x.2)) (λ i. (same i, is i, sym e i)) least in
+          subst (λ (ws : List ℕ). IsStep t (clear_entry caller region (StillReferenced named)) (table_of (ended l k ws))) (sym (then_same ∙ same))
+          (record { allowed = record { numbers = lt; refines = none_refinable t; answers = (refl, clean, record { enters = word_enters old named region first.0; least = λ other x. first.1 other (enters_word old other region x) }) }; after = sym (refined_none t) })
+
+      pub clear_granted : (between new : List ℕ) → between ≡ read → IsLeastInto k read number None → IsBegun (started k new) → IsEmptied k between new number k.row → IsStep (table_of (ended l k old)) (clear_entry caller region Cleared) (table_of (ended l k new))
+      clear_granted between new then_same never h emptied =
+          let g : IsEmptied k old new region k.row = subst (λ (x : List ℕ × ℕ). IsEmptied k x.0 new x.1 k.row) (λ i. ((then_same ∙ same) i, is i)) emptied in
+          let gone : table_of (ended l k new) ≡ settled (Clear region) (reply.Clear Cleared) t = retained_is k l laid old new (λ x. not (eqb x.1 region)) begun h (record {
+            front = g.front;
+            kept = λ x pair stays. g.kept x pair.0 (λ e. stays (ap not (eq-eqb x.1 region e)));
+            only = λ x pair. g.only x pair;
+            clear = λ x pair out. g.clear x pair.0 (eqb-true x.1 region (not-false _ out)) (in_row k x h.shaped pair);
+          }) in record {
+            allowed = record { numbers = lt; refines = none_refinable t; answers = (refl, clean, λ slot enters. never slot (subst (λ (x : List ℕ × ℕ). Into k x.0 x.1 slot) (λ i. (sym same i, sym is i)) (enters_word old slot region enters))) };
+            after = gone ∙ ap (settled (Clear region) (reply.Clear Cleared)) (sym (refined_none t));
+          }

@@ -282,29 +282,3 @@ frees old mid kept new regions clean none cuts forgets empties = record {
         let e = emptied_like 0 regions (table_at kept) (table_at new) (empties.steps 0) in
         let f = subst (IsLike (table_at mid)) (sym forgets.table) (forgotten_like regions (table_at mid)) in
         record { layout = e.layout ∙ f.layout; refs = e.refs ∙ f.refs; pending = e.pending ∙ f.pending }
-
--- a clear is of one region
-
-only_one : (number x : ℕ) → Contains (number ∷ []) x → number ≡ x
-only_one number x (zero, lt, e) = e
-only_one number x (suc i, lt, e) = absurd (omega (arith, lt))
-
-pub enters_any : (t : Table) (region number slot : ℕ) → number ≡ region → Enters t slot region → EntersAny t (number ∷ []) slot
-enters_any t region number slot is e = record { place = e.place; refers = e.refers; into = (0, omega arith, is ∙ sym e.into); outside = λ c. e.outside (sym (only_one number _ c) ∙ is) }
-
-any_enters : (t : Table) (region number slot : ℕ) → number ≡ region → EntersAny t (number ∷ []) slot → Enters t slot region
-any_enters t region number slot is e = record { place = e.place; refers = e.refers; into = sym (only_one number _ e.into) ∙ is; outside = λ q. e.outside (0, omega arith, is ∙ sym q) }
-
--- where it is refused, nothing changes
-
-not_cleared : (old new : Pause) (region : ℕ) (reply : ClearReply) → new ≡ old → ((caller : ℕ) → IsStep (table_at old) (clear_entry caller region reply) (table_at old)) → ClearsAt old region reply new
-not_cleared old new region reply same step = subst (ClearsAt old region reply) (sym same) (record { race = same_race old; words = λ p n lt at. at; step = step; refused = λ ne. refl; flags = λ c lt b. inl b })
-
-pub clear_pending : (old new : Pause) (region count : ℕ) → new ≡ old → region < old.layout.regions → count ≡ fin.len (table_at old).pending → 1 ≤ count → ClearsAt old region (Pending count) new
-clear_pending old new region count same lt is some_card = not_cleared old new region (Pending count) same (λ caller. record { allowed = record { numbers = lt; refines = none_refinable (table_at old); answers = (refl, is, some_card) }; after = sym (refined_none (table_at old)) })
-
-pub clear_refused : (old new : Pause) (region number slot : ℕ) → new ≡ old → region < old.layout.regions → number ≡ region → (table_at old).pending ≡ fin.empty → IsFirstIntoAny (table_at old) (number ∷ []) (Some slot) → ClearsAt old region (StillReferenced slot) new
-clear_refused old new region number slot same lt is clean first = not_cleared old new region (StillReferenced slot) same (λ caller. record {
-  allowed = record { numbers = lt; refines = none_refinable (table_at old); answers = (refl, clean, record { enters = any_enters (table_at old) region number slot is first.0; least = λ other x. first.1 other (enters_any (table_at old) region number other is x) }) };
-  after = sym (refined_none (table_at old));
-})

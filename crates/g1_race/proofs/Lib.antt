@@ -19,6 +19,7 @@ pub mod Draining
 pub mod PauseTable
 pub mod PauseStores
 pub mod ClearWords
+pub mod LeastInto
 pub mod Forgetting
 pub mod Rules
 pub mod Moving

@@ -5,6 +5,7 @@ use Rattle.g1_race.proofs.AtPause.{begun_placed, begun_read}
 use Rattle.g1_race.proofs.Ends.{crosses_apart}
 use Rattle.g1_race.proofs.PauseStores.{slot_in}
 use Rattle.g1_race.proofs.StoreCalls.{other_region}
+use Rattle.g1_race.proofs.LeastInto.{into_bit}
 
 -- the word of a moved reference
 
@@ -134,13 +135,6 @@ into_is k words region p n lt at is = let b = and_parts (crosses k p n) (eqb (re
 
 pub is_into_of : (k : RaceShape) (region p n : ℕ) → crosses k p n ≡ true → region_at k n ≡ region → is_into k region p n ≡ true
 is_into_of k region p n cr e = and_from (crosses k p n) (eqb (region_at k n) region) cr (eq-eqb (region_at k n) region e)
-
--- where no card is dirty, a slot that refers into the region is on one of its members
-into_bit : (k : RaceShape) (words : List ℕ) (region p : ℕ) → IsBegun (started k words) → ((c : ℕ) → c < k.cards → get_elem? words (mark_word k c) ≡ some 1 → ⊥) → Into k words region p → HasBit k words (slot_card k p, region)
-into_bit k words region p h clean i = ⊎_elim
-    (λ (b : HasBit k words (slot_card k p, region_at k i.0)). subst (λ (r : ℕ). HasBit k words (slot_card k p, r)) i.4 b)
-    (λ (m : IsMarked k words p). absurd (clean (slot_card k p) (card_below k p h.shaped i.1) m))
-    (h.covered p i.0 i.1 i.2 i.3)
 
 -- card by card
 

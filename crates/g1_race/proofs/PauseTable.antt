@@ -1,6 +1,6 @@
 -- What a pause's words say as a table.
 use Rattle.std.specs.Prelude.{◌≡◌, ◌+◌, ◌<◌, ◌≤◌}
-use Rattle.g1_race.specs.{at_read, cases_lt, false, get_or, get_or-map, get_or_past, length-drop, length-map, ℕ, eqb, List, map, drop, Contains, refl, sym, ap, ◌∙◌, subst, inl, inr, ⊎_elim, arith, some, get_elem?, slot_count, nat_cmp, and_parts, not-true, true≢false, eqb-true, Option, length, eq-eqb, CardSet, set_of, Table, Holds, IsPending, IsRecorded, AreMembers, refined, IsStep, drained, pending_flag, All_by_member, same_cards, same_pairs, refined_pending, still_recorded, newly_recorded, recorded_cases, held_from_Holds, Holds_from_held, RaceShape, BeganInto, IsBegun, IsPair, HasBit, IsWholeShape, mark_word, front, started, shape_of, ended, target_of_word, refs_of, marks_of, table_of, AreRefined, AreMembersComplete, is_marked, is_member, marked_cards, member_cards, AreAllRefined, IsExactAtPause, never_both, at_take, at_untake, take_same}
+use Rattle.g1_race.specs.{at_read, cases_lt, false, get_or, get_or-map, get_or_past, length-drop, length-map, ℕ, eqb, List, map, drop, Contains, refl, sym, ap, ◌∙◌, subst, inl, inr, ⊎_elim, arith, some, get_elem?, slot_count, nat_cmp, and_parts, not-true, true≢false, eqb-true, Option, length, eq-eqb, CardSet, set_of, Table, Holds, IsPending, IsRecorded, AreMembers, refined, IsStep, drained, pending_flag, none_of, All_by_member, same_cards, same_pairs, refined_pending, still_recorded, newly_recorded, recorded_cases, held_from_Holds, Holds_from_held, RaceShape, BeganInto, IsBegun, IsPair, HasBit, IsWholeShape, mark_word, front, started, shape_of, ended, target_of_word, refs_of, marks_of, table_of, AreRefined, AreMembersComplete, is_marked, is_member, marked_cards, member_cards, AreAllRefined, IsExactAtPause, never_both, at_take, at_untake, take_same}
 use Rattle.std.proofs.Math.Seq.{take-take}
 use Rattle.std.proofs.lemmas.List.{get_or-drop}
 use Rattle.g1_layout.specs.Shape as layout
@@ -79,6 +79,9 @@ module _ (k : RaceShape) (l : layout.Shape) (laid : k ≡ shape_of l k.parties) 
 
   pub pending_len : (words : List ℕ) → IsBegun (started k words) → length (marked_cards k words) ≡ fin.len (table_of (ended l k words)).pending
   pending_len words h = sym (ap fin.len (pending_is words h) ∙ set_len (is_marked k words) k.cards)
+
+  pub none_pending : (words : List ℕ) → IsBegun (started k words) → length (marked_cards k words) ≡ 0 → (table_of (ended l k words)).pending ≡ fin.empty
+  none_pending words h e = none_of _ (sym (pending_len words h) ∙ e)
 
   pub none_marked : (words : List ℕ) → length (marked_cards k words) ≡ 0 → (c : ℕ) → c < k.cards → get_elem? words (mark_word k c) ≡ some 1 → ⊥
   none_marked words e c lt at = let i = is_listed (is_marked k words) k.cards c lt (mark_is k words c 1 at refl) in let some_one : i.0 < length (marked_cards k words) = i.1 in absurd (omega (arith, some_one, e))

@@ -1,13 +1,15 @@
 //! The clear at a pause: it empties a region's remembered set, once no reference enters the region.
-ghost use Rattle.std.specs.Prelude.{◌≡◌, ◌<◌, ◌≤◌, ◌↔◌};
-ghost use Rattle.g1_race.specs.{ℕ, IsTrue, true, IsWholeShape, crosses, region_at, Enters, Into};
-ghost use Rattle.g1_race.specs.{IsEmptied, ClearsAt, Cleared, Writes, words_of, IsClean, heap_of};
-ghost use Rattle.g1_race.specs.{table_at};
-ghost use Rattle.std.specs.FinSet as set;
+ghost use Rattle.std.specs.Prelude.{◌≡◌, ◌+◌, ◌*◌, ◌<◌, ◌≤◌, ◌↔◌};
+ghost use Rattle.g1_race.specs.{ℕ, IsTrue, true, IsWholeShape, crosses, region_at, Into};
+ghost use Rattle.g1_race.specs.{IsLeastInto, IsLeastOfCard, IsEmptied, ClearsAt, Writes, words_of};
+ghost use Rattle.g1_race.specs.{IsClean, reader_race, race_id, heap_of};
 
 use crate::bits::bit_of;
 use crate::paused::holds::HoldsRace;
+use crate::paused::next::Sought;
+use crate::paused::reading::Reader;
 use crate::paused::{Paused, Writer};
+use crate::race::Race;
 use crate::word::is_reference;
 use g1_core::ClearReply;
 use g1_layout::Region;
@@ -19,30 +21,66 @@ impl<R: HoldsRace> Paused<R> {
     ///
     /// Returns `Pending` with the number of dirty cards, or `StillReferenced` with the least slot
     /// of the whole heap that lies outside the region and refers into it. Then nothing has changed.
+    #[tactic(auto, using(crate::proofs::of_a_pause))]
     pub fn clear(&mut self, region: Region) -> ClearReply
         requires { region < self.old.layout.regions }
         ensures { ClearsAt self.old region result self.new }
     {
-        let pending = self.pending_count();
+        let race = self.race.race();
+        let number = region.number() as usize;
+        let pending = self.reader.count(race, Sought::Dirty);
         if pending > 0 {
-            return ClearReply::Pending(pending);
+            return ClearReply::Pending(pending as u32);
         }
-        if let Some(slot) = self.entering_any(&[region.number()]) {
+        if let Some(slot) = self.reader.entering(race, number) {
+            let Some(slot) = race.layout.slot(slot as u32) else {
+                unreachable!()
+            };
             return ClearReply::StillReferenced(slot);
         }
-        self.empty(region);
+        let reader = &mut self.reader;
+        Writer { race, reader }.empty_row(number);
         ClearReply::Cleared
     }
+}
 
-    // Empties the region's remembered set.
-    pub(crate) fn empty(&mut self, region: Region)
-        requires region { region < self.old.layout.regions }
-        requires none { (slot : ℕ) → Enters (table_at self.old) slot region → ⊥ }
-        requires clean { (table_at self.old).pending ≡ set.empty }
-        ensures { ClearsAt self.old region Cleared self.new }
+impl Reader {
+    // The least slot outside the region that refers into it: on a card of the region's set, since
+    // no card is dirty.
+    fn entering(&mut self, race: &Race, region: usize) -> Option<usize>
+        requires reader { reader_race self.old ≡ race_id race.now }
+        requires region { region < race.now.shape.regions }
+        requires clean { IsClean race.now.shape self.old.start.words }
+        ensures least { IsLeastInto race.now.shape self.old.start.words region result }
+        ensures same { self.new ≡ self.old }
     {
-        let (race, reader) = (self.race.race(), &mut self.reader);
-        Writer { race, reader }.empty_row(region.number() as usize);
+        self.begun(race);
+        let mut from = 0;
+        while let Some(card) = self.next_in_row(race, from, race.shape.cards, region) {
+            if let Some(slot) = self.entering_on(race, card, region) {
+                return Some(slot);
+            }
+            from = card + 1;
+        }
+        None
+    }
+
+    // The least slot of the card that lies outside the region and refers into it.
+    fn entering_on(&mut self, race: &Race, card: usize, region: usize) -> Option<usize>
+        requires reader { reader_race self.old ≡ race_id race.now }
+        requires card { card < race.now.shape.cards }
+        ensures least { IsLeastOfCard race.now.shape self.old.start.words card region result }
+        ensures same { self.new ≡ self.old }
+    {
+        let shape = race.shape;
+        for i in 0..shape.size {
+            let slot = card * shape.size + i;
+            let word = self.see(race, slot);
+            if enters(shape, slot, word, region) {
+                return Some(slot);
+            }
+        }
+        None
     }
 }
 

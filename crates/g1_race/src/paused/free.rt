@@ -2,13 +2,14 @@
 ghost use Rattle.std.specs.Prelude.{◌≡◌, ◌<◌, ◌↔◌};
 ghost use Rattle.g1_race.specs.{ℕ, IsTrue, IfSome, All, Contains, region_of, slot_count, card_of};
 ghost use Rattle.g1_race.specs.{card_count, Crosses, table_at, EntersAny, IsFirstIntoAny};
-ghost use Rattle.g1_race.specs.{IsFirstOfCard, Cuts, ForgetsAll, EmptiesAll, FreesAt};
+ghost use Rattle.g1_race.specs.{IsFirstOfCard, Cuts, Enters, ForgetsAll, EmptiesAll, ClearsAt};
+ghost use Rattle.g1_race.specs.{Cleared, FreesAt};
 ghost use Rattle.std.specs.FinSet as set;
 
-use crate::paused::Paused;
 use crate::paused::holds::HoldsRace;
+use crate::paused::{Paused, Writer};
 use g1_core::ClearReply;
-use g1_layout::{Card, Slot};
+use g1_layout::{Card, Region, Slot};
 
 impl<R: HoldsRace> Paused<R> {
     /// Frees the regions of these numbers, once no card is dirty and no slot outside them refers
@@ -46,7 +47,7 @@ impl<R: HoldsRace> Paused<R> {
 
     // The least slot outside the regions that refers into one of them: on a card that is recorded
     // for it, since no card is dirty.
-    pub(crate) fn entering_any(&mut self, regions: &[u32]) -> Option<Slot>
+    fn entering_any(&mut self, regions: &[u32]) -> Option<Slot>
         requires regions { All (λ region. region < self.old.layout.regions) regions.now }
         requires clean { (table_at self.old).pending ≡ set.empty }
         ensures first { IsFirstIntoAny (table_at self.old) regions.now result }
@@ -171,5 +172,16 @@ impl<R: HoldsRace> Paused<R> {
             };
             self.empty(region);
         }
+    }
+
+    // Empties the region's remembered set.
+    fn empty(&mut self, region: Region)
+        requires region { region < self.old.layout.regions }
+        requires none { (slot : ℕ) → Enters (table_at self.old) slot region → ⊥ }
+        requires clean { (table_at self.old).pending ≡ set.empty }
+        ensures { ClearsAt self.old region Cleared self.new }
+    {
+        let (race, reader) = (self.race.race(), &mut self.reader);
+        Writer { race, reader }.empty_row(region.number() as usize);
     }
 }
