@@ -6,8 +6,7 @@ use Rattle.g1_layout.specs.Shape as layout
 use Rattle.g1_core.specs.declared.entry.Reply.TheVariants as reply
 use Rattle.g1_race.proofs.AtPause.{begun_front}
 use Rattle.g1_race.proofs.Ends.{crosses_apart, crossing_back, word_refers}
-use Rattle.g1_race.proofs.Forgetting.{slot_back}
-use Rattle.g1_race.proofs.ForgottenTable.{retained_is}
+use Rattle.g1_race.proofs.Forgetting.{slot_back, retained_is}
 use Rattle.g1_race.proofs.PauseTable.{none_pending, pending_len}
 
 -- a word of the region's row

@@ -1,17 +1,52 @@
 -- A redirect at a pause as a step of the plain table.
-use Rattle.std.specs.Prelude.{◌≡◌, ◌≢◌, ◌+◌, ◌/◌, ◌<◌, ◌≤◌, ◌&&◌, ◌||◌}
-use Rattle.g1_race.specs.{true_is, length-take-le, ℕ, zero, suc, cond, eqb, map, take, Bool, true, false, List, length, get_or, Option, Some, None, refl, sym, ap, ◌∙◌, subst, inl, inr, ⊎_elim, arith, ne_eqb, not, count_by, some, get_elem?, enumerate_from, filter_map, and_from, and_parts, cases_Bool, eqb-false, not-true, or_cases, or_left, or_right, get_or_default, get_or-map, length-map, length-take, count_by_more_no, count_by_more_yes, slot_count, region_of, pair_cmp, Table, enters, moved_target, moved_pair, moved, moved_count, pair_total, pair_exact, listed, unlisted, Kept, from_kept, to_kept, slot_of, RaceShape, IsBegun, IsPair, HasBit, slot_card, front, mark_word, as_number, started, shape_of, ended, refs_of, table_of, target_of_word, AreMovedAway, Acquires, into_count, is_into, word_after, card_below, in_row, take_all}
-use Rattle.std.specs.FinSet as set
+use Rattle.std.specs.Prelude.{◌≡◌, ◌≢◌, ◌+◌, ◌/◌, ◌<◌, ◌≤◌, ◌&&◌, ◌||◌, ◌^◌, ◌-◌, ◌*◌, ◌%◌}
+use Rattle.g1_race.specs.{true_is, length-take-le, ℕ, zero, suc, cond, eqb, map, take, Bool, true, false, List, length, get_or, Option, Some, None, refl, sym, ap, ◌∙◌, subst, inl, inr, ⊎_elim, arith, ne_eqb, not, count_by, some, get_elem?, enumerate_from, filter_map, and_from, and_parts, cases_Bool, eqb-false, not-true, or_cases, or_left, or_right, get_or_default, get_or-map, length-map, length-take, count_by_more_no, count_by_more_yes, slot_count, region_of, pair_cmp, Table, enters, moved_target, moved_pair, moved, moved_count, pair_total, pair_exact, listed, unlisted, Kept, from_kept, to_kept, slot_of, RaceShape, IsBegun, IsPair, HasBit, slot_card, front, mark_word, as_number, started, shape_of, ended, refs_of, table_of, target_of_word, AreMovedAway, Acquires, into_count, is_into, word_after, card_below, in_row, take_all, and_left, cases_eq, reference_crosses, cases_lt, same_offset, crosses, region_at, moved_word, crosses_reference, false_is}
 use Rattle.std.proofs.lemmas.List.{ext_get_or}
 use Rattle.std.proofs.lemmas.List.FromFn.{get_or-enumerate_from, length-enumerate_from}
+use Rattle.std.proofs.lemmas.Bool.Decides.{nat_tests}
+use Rattle.g1_race_words.proofs.Crossing.{data_crosses, null_crosses}
+use Rattle.std.specs.FinSet as set
 use Rattle.g1_layout.specs.Shape as layout
-use Rattle.g1_race.proofs.Ends.{recorded_set, set_recorded}
+use Rattle.g1_race.proofs.Ends.{recorded_set, set_recorded, target_data, target_some}
 use Rattle.g1_race.proofs.PauseTable.{pending_word, slots_are, table_is, word_pending}
 use Rattle.g1_race.proofs.AtPause.{begun_read}
 use Rattle.g1_race.proofs.PauseStores.{slot_gives}
 use Rattle.g1_race.proofs.Moving.{moved_low}
-use Rattle.g1_race.proofs.MovedTargets.{enters_is, after_target, span_is}
 use Rattle.g1_race.proofs.FlagWords.{front_at}
+
+same_under : (a b r : ℕ) → (not (eqb a b) && eqb b r) ≡ (not (eqb a r) && eqb b r)
+same_under a b r = grind (arith, nat_tests)
+
+module _ (k : RaceShape) (l : layout.Shape) (laid : k ≡ shape_of l k.parties) where
+  pub span_is : k.span ≡ l.cards * l.slots
+  span_is = ap (λ (s : RaceShape). s.span) laid
+
+  -- a slot refers into a region by its word just where it does by its target
+  pub enters_is : (region p n : ℕ) → is_into k region p n ≡ enters l region (p, target_of_word n)
+  enters_is region p n = elim (cases_eq n 0) [
+    | inl z ↦ and_left _ _ (null_crosses k p n z) ∙ sym (ap (λ (m : ℕ). enters l region (p, target_of_word m)) z)
+    | inr ne ↦ elim (cases_lt n (2 ^ 32)) [
+      | inl low ↦ ap (λ (b : Bool). b && eqb (region_at k n) region) (reference_crosses k p n (ne, low)) ∙ (same_under (p / k.span) (region_at k n) region
+          ∙ (ap (λ (s : ℕ). not (eqb (p / s) region) && eqb ((n - 1) / s) region) span_is ∙ sym (ap (λ (o : Option ℕ). enters l region (p, o)) (target_some n (ne, low)))))
+      | inr high ↦ and_left _ _ (data_crosses k p n high) ∙ sym (ap (λ (o : Option ℕ). enters l region (p, o)) (target_data n high))
+    ]
+  ]
+
+  stays_put : (from to p : ℕ) (o : Option ℕ) → enters l from (p, o) ≡ false → moved_target l from to (p, o) ≡ o
+  stays_put from to p None e = refl
+  stays_put from to p (Some place) e = ap (λ (b : Bool). cond b (Some (same_offset l place to)) (Some place)) e
+
+  pub after_target : (from to p n : ℕ) → moved_word k to n < 2 ^ 32 → target_of_word (word_after k from to p n) ≡ moved_target l from to (p, target_of_word n)
+  after_target from to p n small = elim (cases_Bool (is_into k from p n)) [
+    | inl is ↦
+        let target : target_of_word n ≡ Some (n - 1) = target_some n (crosses_reference k p n (and_parts (crosses k p n) (eqb (region_at k n) from) is).0) in
+        ap target_of_word (true_is (is_into k from p n) (moved_word k to n) n is)
+        ∙ (target_some (moved_word k to n) ((λ z. absurd (omega (arith, z))), small)
+        ∙ (ap Some ((let e : to * k.span + (n - 1) % k.span + 1 - 1 ≡ to * k.span + (n - 1) % k.span = omega arith in e) ∙ ap (λ (s : ℕ). to * s + (n - 1) % s) span_is)
+        ∙ (sym (ap (λ (b : Bool). cond b (Some (same_offset l (n - 1) to)) (Some (n - 1))) (subst (λ (o : Option ℕ). enters l from (p, o) ≡ true) target (sym (enters_is from p n) ∙ is)))
+        ∙ ap (λ (o : Option ℕ). moved_target l from to (p, o)) (sym target))))
+    | inr is ↦ ap target_of_word (false_is (is_into k from p n) (moved_word k to n) n is) ∙ sym (stays_put from to p (target_of_word n) (sym (enters_is from p n) ∙ is))
+  ]
 
 count_next : {X : Type 0} (p : X → Bool) (xs : List X) (i : ℕ) (d : X) → i < length xs → count_by p (take (i + 1) xs) ≡ count_by p (take i xs) + as_number (p (get_or xs i d))
 count_next p xs i d lt = elim (cases_Bool (p (get_or xs i d))) [
@@ -60,8 +95,8 @@ module _ (k : RaceShape) (l : layout.Shape) (laid : k ≡ shape_of l k.parties) 
         set.contains-retain _ (λ pair. not (eqb pair.1 from)) x (λ y e. ap (λ (q : ℕ × ℕ). not (eqb q.1 from)) (sym (pair_exact x y e)))
         ∙ ap (λ (c : Bool). c && not (eqb x.1 from)) (set.contains-union pair_total t.recorded _ x)
 
-    card_is : (p : ℕ) → slot_card k p ≡ layout.card_of l p
-    card_is p = ap (λ (s : RaceShape). p / s.size) laid
+    card_of_slot : (p : ℕ) → slot_card k p ≡ layout.card_of l p
+    card_of_slot p = ap (λ (s : RaceShape). p / s.size) laid
 
     gained : (x : ℕ × ℕ) → Acquires k old from to x → set.contains (set.from_list {R = pair_cmp} (filter_map (moved_pair l from to) (enumerate_from 0 refs))) x ≡ true
     gained x (p, n, lt, at, is, ne, e) =
@@ -69,7 +104,7 @@ module _ (k : RaceShape) (l : layout.Shape) (laid : k ≡ shape_of l k.parties) 
         let enter : enters l from (p, get_or refs p None) ≡ true = ap (λ (o : Option ℕ). enters l from (p, o)) (slot_gives k l old p n laid lt at) ∙ (sym (enters_is k l laid from p n) ∙ is) in
         let outside : eqb (region_of l p) to ≡ false = ne_eqb (region_of l p) to (λ f. ne (ap (λ (s : ℕ). p / s) (span_is k l laid) ∙ f)) in
         let makes : moved_pair l from to (p, get_or refs p None) ≡ Some (layout.card_of l p, to) = true_is (enters l from (p, get_or refs p None) && not (eqb (region_of l p) to)) (Some (layout.card_of l p, to)) None (and_from _ _ enter (ap not outside)) in
-        subst (λ (y : ℕ × ℕ). set.contains (set.from_list {R = pair_cmp} (filter_map (moved_pair l from to) (enumerate_from 0 refs))) y ≡ true) (ap (λ (c : ℕ). (c, to)) (sym (card_is p)) ∙ e)
+        subst (λ (y : ℕ × ℕ). set.contains (set.from_list {R = pair_cmp} (filter_map (moved_pair l from to) (enumerate_from 0 refs))) y ≡ true) (ap (λ (c : ℕ). (c, to)) (sym (card_of_slot p)) ∙ e)
         (unlisted pair_total pair_exact _ _ (to_kept (moved_pair l from to) (enumerate_from 0 refs) p (p, get_or refs p None) (layout.card_of l p, to) (omega (arith, low, listed_len))
         (get_or_default (enumerate_from 0 refs) p (p, get_or refs p None) (0, None) (omega (arith, low, listed_len)) ∙ listed_at p low) makes))
 
@@ -84,7 +119,7 @@ module _ (k : RaceShape) (l : layout.Shape) (laid : k ≡ shape_of l k.parties) 
         let c = and_parts (enters l from (p, get_or refs p None)) (not (eqb (region_of l p) to)) q.0 in
         let into : is_into k from p (get_or old p 0) ≡ true = enters_is k l laid from p (get_or old p 0) ∙ (ap (λ (o : Option ℕ). enters l from (p, o)) (sym (ref_old p lt)) ∙ c.0) in
         let ne : p / k.span ≢ to = λ e. eqb-false (region_of l p) to (not-true (eqb (region_of l p) to) c.1) (ap (λ (s : ℕ). p / s) (sym (span_is k l laid)) ∙ e) in
-        subst (λ (y : ℕ × ℕ). HasBit k mid y × IsPair k y) (ap (λ (d : ℕ). (d, to)) (card_is p) ∙ q.1) (away.moved.has p (get_or old p 0) (omega arith) (omega (arith, lt)) lt (begun_read k old p b lt) into ne, (card_below k p b.shaped lt, within))
+        subst (λ (y : ℕ × ℕ). HasBit k mid y × IsPair k y) (ap (λ (d : ℕ). (d, to)) (card_of_slot p) ∙ q.1) (away.moved.has p (get_or old p 0) (omega arith) (omega (arith, lt)) lt (begun_read k old p b lt) into ne, (card_below k p b.shaped lt, within))
 
     pub moved_is : table_of (ended l k new) ≡ moved from to (table_of (ended l k old))
     moved_is = table_is k l laid new (moved from to t) h refl refs_moved

@@ -1,10 +1,11 @@
--- A store at a pause as a step of the plain table.
+-- A store at a pause as a step of the plain table; one that dirties its card sets its flag before.
 use Rattle.std.specs.Prelude.{◌≤◌, ◌^◌, ◌≡◌, ◌≢◌, ◌+◌, ◌-◌, ◌*◌, ◌/◌, ◌<◌}
-use Rattle.g1_race.specs.{SameBits, ℕ, cond, Bool, true, List, set, take, map, get_or, Option, None, refl, sym, ap, ◌∙◌, subst, inl, inr, arith, ne_eqb, some, get_elem?, nat_cmp, eq_by_cmp, Equal-is, take-set-lt, cases_Bool, cases_eq, or_cases, or_left, or_right, nat_cmp_total, eq_by_cmp_equiv, map-set, exact_unsigned, set_else, set_here, Kind, SameRegion, Null, AlreadyDirty, Logged, slot_count, region_of, CardSet, Table, IsPending, IsStep, kind_of, pending_after, stored, store_entry, refined_none, none_refinable, IfSome, RaceShape, IsBegun, IsWholeShape, slot_card, crosses, mark_word, started, shape_of, ended, refs_of, table_of, target_of_word, unfilled, mark_apart, mul-add-lt, at_take, crosses_reference, bit_as, card_below, same_bits}
+use Rattle.g1_race.specs.{SameBits, ℕ, cond, Bool, true, List, set, take, map, get_or, Option, None, refl, sym, ap, ◌∙◌, subst, inl, inr, ⊎_elim, arith, word_of, one_word, Pause, table_at, SlotsBecome, StoresAt, StoresDataAt, StoresWordAt, ne_eqb, some, get_elem?, nat_cmp, eq_by_cmp, Equal-is, take-set-lt, cases_Bool, cases_eq, or_cases, or_left, or_right, nat_cmp_total, eq_by_cmp_equiv, map-set, exact_unsigned, set_else, set_here, Kind, SameRegion, Null, AlreadyDirty, Logged, slot_count, region_of, CardSet, Table, IsPending, IsStep, kind_of, pending_after, stored, store_entry, refined_none, none_refinable, IfSome, RaceShape, IsBegun, IsWholeShape, slot_card, crosses, mark_word, started, shape_of, ended, refs_of, table_of, target_of_word, unfilled, mark_apart, mul-add-lt, at_take, crosses_reference, bit_as, card_below, same_bits, IsDirtied}
 use Rattle.std.specs.FinSet as fin
 use Rattle.g1_layout.specs.Shape as layout
 use Rattle.g1_race.proofs.Ends.{target_data, crosses_apart, recorded_set, set_recorded, target_some, word_gives}
 use Rattle.g1_race.proofs.PauseTable.{pending_word, refs_same, slots_are, table_is, word_pending}
+use Rattle.g1_race.proofs.FlagWords.{flag_ended}
 
 pub store_step : (t new : Table) (caller slot : ℕ) (target : Option ℕ) (kind : Kind) → slot < slot_count t.layout → IfSome target (λ place. place < slot_count t.layout) → kind ≡ kind_of t slot target → new ≡ stored t slot target → IsStep t (store_entry caller slot target (unfilled kind)) new
 store_step t new caller slot target kind lt within is e = record { allowed = record { numbers = (lt, within); refines = none_refinable (stored t slot target); answers = (is, λ h. refl) }; after = e ∙ sym (refined_none (stored t slot target)) }
@@ -131,3 +132,16 @@ module _ (k : RaceShape) (l : layout.Shape) (laid : k ≡ shape_of l k.parties) 
   pub logged_store : (t : Table) (words after : List ℕ) → table_of (ended l k words) ≡ t → after ≡ set (set words (mark_word k (slot_card k p)) 1) p n → IsBegun (started k words) → IsBegun (started k after) → kind_of (table_of (ended l k words)) p target ≡ Logged → table_of (ended l k after) ≡ stored t p target
   logged_store t words after was is h h' kind_is =
       ap (λ (ws : List ℕ). table_of (ended l k ws)) is ∙ (logged_table words h (subst (λ (ws : List ℕ). IsBegun (started k ws)) is h') kind_is ∙ ap (λ (x : Table). stored x p target) was)
+
+module _ (k : RaceShape) (l : layout.Shape) (laid : k ≡ shape_of l k.parties) (p : ℕ) (lt : p < k.slots) (target : Option ℕ) (n : ℕ) (back : target_of_word n ≡ target) where
+  pub dirtied_here : (seen new : List ℕ) (card : ℕ) → card ≡ slot_card k p → IsDirtied k seen new card → get_elem? new (mark_word k (slot_card k p)) ≡ some 1
+  dirtied_here seen new card is d =
+      let low = card_below k p d.begun.shaped lt in
+      ap (λ (ws : List ℕ). get_elem? ws (mark_word k (slot_card k p))) (d.marked ∙ ap (λ (c : ℕ). set d.mid (mark_word k c) 1) is) ∙ set_here d.mid (mark_word k (slot_card k p)) 1 (omega (arith, d.begun.sized, low))
+
+  pub dirtied_store : (words new after : List ℕ) (card : ℕ) → card ≡ slot_card k p → IsDirtied k words new card → kind_of (table_of (ended l k words)) p target ≡ Logged
+      → after ≡ set new p n → IsBegun (started k after) → table_of (ended l k after) ≡ stored (table_of (ended l k words)) p target
+  dirtied_store words new after card is d kind e h' =
+      let same : table_of (ended l k d.mid) ≡ table_of (ended l k words) = ap table_of (flag_ended k l words d.mid card d.flagged) in
+      logged_store k l laid p lt target n back (table_of (ended l k words)) d.mid after same
+      (e ∙ ap (λ (ws : List ℕ). set ws p n) (d.marked ∙ ap (λ (c : ℕ). set d.mid (mark_word k c) 1) is)) d.begun h' (ap (λ (t : Table). kind_of t p target) same ∙ kind)

@@ -2,7 +2,7 @@
 use Rattle.std.specs.Prelude.{◌≡◌, ◌⊎◌, ◌+◌, ◌*◌, ◌%◌, ◌^◌, ◌<◌, ◌≤◌, ◌∷◌, ◌++◌}
 use Rattle.g1_race.specs.{ℕ, zero, suc, cond, Bool, true, false, List, [], length, set, get_or, bit_or, length-set, div-add-mod', mod-lt, refl, sym, ap, ◌∙◌, subst, inl, inr, ⊎_elim, arith, some, cases_eq, get_elem?, cases_lt, bit_at, div-mul-add, set_else, set_here, RaceShape, In, IsBegun, IsOfCrossing, HasBit, BeganInto, bit_word, bit_index, flag, mark_word, slot_card, region_at, crosses, started, pair_at, Notes, RefinesCard, AreRefined, card_pairs, in_left, in_right, in_either, true_is, reads_as, word_low, SameBits, same_bits, bit_as, with_pair, bit_here, bits_stay, bits_back, bit_below, front_stays}
 use Rattle.g1_race.proofs.AtPause.{begun_front, begun_mark, begun_read, filled_next}
-use Rattle.g1_race.proofs.SweepCalls.{slot_below}
+use Rattle.g1_race.proofs.SeatCalls.{slot_below}
 
 -- one bit is set, of a pair or a card's flag
 

@@ -1,14 +1,13 @@
 -- What the goals of one function cite together.
 use Rattle.g1_race.specs.{cases_lt, flag_pending, pending_flag, reads_as, shr_and_one, take_all}
-use Rattle.g1_race.proofs.Blocks.{all_regions, block_below, with_regions}
-use Rattle.g1_race.proofs.CopiedTable.{null_slots, table_copied, words_placed}
+use Rattle.g1_race.proofs.Telling.{all_regions, block_below, with_regions, few}
+use Rattle.g1_race.proofs.Placing.{null_slots, table_copied, words_placed}
 use Rattle.g1_race.proofs.Counting.{few_recorded}
 use Rattle.g1_race.proofs.Held.{held_table, lent_begun, lent_region, lent_view}
 use Rattle.g1_race.proofs.NextCards.{cards_fit, marked_word, unmarked_word}
 use Rattle.g1_race.proofs.PauseTable.{none_marked, pending_len, pending_word, word_pending}
 use Rattle.g1_race.proofs.PauseWords.{bit_read, notes_same}
 use Rattle.g1_race.proofs.SlotWords.{front_words}
-use Rattle.g1_race.proofs.Telling.{few}
 
 pub ruleset of_a_pause = (few, cards_fit, pending_len, few_recorded, none_marked, front_words, lent_view, lent_begun, lent_region, held_table)
 

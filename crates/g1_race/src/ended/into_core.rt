@@ -30,7 +30,7 @@ impl Closed {
 
     /// Makes a core as [`Closed::into_core`] does, and the race stays. Use it to keep the race
     /// until every later allocation has succeeded.
-    #[tactic(auto, using(crate::proofs::Parts::parts_fit))]
+    #[tactic(auto, using(crate::proofs::Ends::parts_fit))]
     pub fn to_core(&self, alloc: Global, config: Config) -> Result<Core, NoMemory>
         ensures { IfOk result (λ core. core ≡ core_of self.now config) }
     {

@@ -1,6 +1,6 @@
 use Rattle.std.specs.Prelude.{◌≡◌, ◌++◌}
 use Rattle.g1_race.specs.{take, slots_items}
-use Rattle.g1_race.proofs.Blocks.{with_regions}
+use Rattle.g1_race.proofs.{with_regions}
 use Rattle.g1_race.proofs.ended.pairs.list_card.Given as goal
 
 abbrev pub invariant-loop-region : goal.invariant-loop-region

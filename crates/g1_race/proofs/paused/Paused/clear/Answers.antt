@@ -1,9 +1,7 @@
 -- A clear reads the words that it began with, until it empties the row.
 use Rattle.std.proofs.Common.{refl, rules}
 use Rattle.g1_race.specs.{ℕ, List, ap, subst, arith, Cleared, Pending, StillReferenced, IsStep, clear_entry, Into, HasBit, Pause, RaisesOnly, words_of}
-use Rattle.g1_race.proofs.{clear_granted, clear_pending, clear_refused, at_pause, lent_begun, lent_numbers, lent_view}
-use Rattle.g1_race.proofs.FlagRises.{none_rises}
-use Rattle.g1_race.proofs.Rules.{of_a_pause}
+use Rattle.g1_race.proofs.{clear_granted, clear_pending, clear_refused, at_pause, lent_begun, lent_numbers, lent_view, none_rises, of_a_pause}
 use Rattle.g1_race.proofs.paused.Paused.clear.Goals as goal
 
 pub returns-then-pending-gt0 : goal.returns-then-pending-gt0

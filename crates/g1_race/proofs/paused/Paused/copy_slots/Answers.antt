@@ -1,7 +1,6 @@
 use Rattle.std.specs.Prelude.{◌≡◌, ◌+◌, ◌-◌, ◌≤◌}
 use Rattle.g1_race.specs.{ℕ, Bool, true, false, leb, length, sym, ap, ◌∙◌, subst, arith, leb-false, leb-true, slot_count, RaceShape, Pause, copied_all, copied_on, first_of}
-use Rattle.g1_race.proofs.Copying.{Copied, CopiesOne, copied_down, copied_up}
-use Rattle.g1_race.proofs.{lent_begun, lent_view}
+use Rattle.g1_race.proofs.{Copied, CopiesOne, copied_down, copied_up, lent_begun, lent_view}
 use Rattle.g1_race.proofs.paused.Paused.copy_slots.Goals.{else-upwards, then-upwards}
 use Rattle.g1_race.proofs.paused.Paused.copy_slots.Goals as goal
 

@@ -1,6 +1,6 @@
 use Rattle.std.specs.Prelude.{◌+◌}
 use Rattle.g1_race.specs.{first_of}
-use Rattle.g1_race.proofs.Copying.{Copied}
+use Rattle.g1_race.proofs.{Copied}
 use Rattle.g1_race.proofs.paused.Paused.copy_slots.Given as goal
 
 abbrev pub invariant-loop-i : goal.invariant-loop-i

@@ -1,6 +1,6 @@
 use Rattle.std.specs.Prelude.{◌<◌}
 use Rattle.g1_race.specs.{length, arith, Contains, region_of}
-use Rattle.g1_race.proofs.Cutting.{IsOfFirst, cuts_as, regions_on}
+use Rattle.g1_race.proofs.{IsOfFirst, cuts_as, regions_on}
 use Rattle.g1_race.proofs.paused.Paused.cut_all.Goals as goal
 
 pub loop-i-preserved : goal.loop-i-preserved

@@ -1,8 +1,7 @@
 -- The slots from the first of the region on are the region's.
 use Rattle.std.specs.Prelude.{◌≡◌, ◌*◌, ◌<◌}
 use Rattle.g1_race.specs.{ℕ, ap, ◌∙◌, arith, RaceShape, Pause}
-use Rattle.g1_race.proofs.{lent_view}
-use Rattle.g1_race.proofs.Cutting.{range_on, region_cut}
+use Rattle.g1_race.proofs.{lent_view, range_on, region_cut}
 use Rattle.g1_race.proofs.paused.Paused.cut_region.Goals as goal
 
 pub loop-i-preserved : goal.loop-i-preserved

@@ -1,7 +1,6 @@
 use Rattle.std.specs.Prelude.{◌≡◌}
 use Rattle.g1_race.specs.{sym, ap, ◌∙◌, eq-eqb, eqb-true, true≢false, Pause, region_of, table_at}
-use Rattle.g1_race.proofs.{lent_view}
-use Rattle.g1_race.proofs.Cutting.{cuts_none, cuts_one, inside_closed, null_closed}
+use Rattle.g1_race.proofs.{lent_view, cuts_none, cuts_one, inside_closed, null_closed}
 use Rattle.g1_race.proofs.paused.Paused.cut_slot.Given.{Over}
 use Rattle.g1_race.proofs.paused.Paused.cut_slot.Goals.{After-eq}
 use Rattle.g1_race.proofs.paused.Paused.cut_slot.Goals as goal

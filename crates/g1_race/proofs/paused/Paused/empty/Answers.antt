@@ -3,9 +3,7 @@ use Rattle.std.proofs.Common.{arith, refl, rules}
 use Rattle.std.specs.Prelude.{◌≡◌}
 use Rattle.g1_race.specs.{ℕ, length, ap, ◌∙◌, subst, nat_cmp, CardSet, Cleared, IsStep, clear_entry, Enters, Into, Pause, RaisesOnly, marked_cards, words_of, ended, table_at, table_of}
 use Rattle.std.specs.FinSet as fin
-use Rattle.g1_race.proofs.{clear_granted, at_pause, lent_begun, lent_numbers, lent_view, pending_len, word_enters}
-use Rattle.g1_race.proofs.FlagRises.{none_rises}
-use Rattle.g1_race.proofs.Rules.{of_a_pause}
+use Rattle.g1_race.proofs.{clear_granted, at_pause, lent_begun, lent_numbers, lent_view, pending_len, word_enters, none_rises, of_a_pause}
 use Rattle.g1_race.proofs.paused.Paused.empty.Given.{Over}
 use Rattle.g1_race.proofs.paused.Paused.empty.Goals.{After-number}
 use Rattle.g1_race.proofs.paused.Paused.empty.Goals as goal

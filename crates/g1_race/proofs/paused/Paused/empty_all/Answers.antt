@@ -1,7 +1,6 @@
 -- Where sets are emptied, each slot refers to what it did, and each card is as clean.
 use Rattle.g1_race.specs.{take, sym, ap, ◌∙◌, subst, Contains, region_of, table_at}
-use Rattle.g1_race.proofs.Cutting.{given_at}
-use Rattle.g1_race.proofs.Freeing.{IsLike, emptied_like, empties_on, like_crosses}
+use Rattle.g1_race.proofs.{given_at, IsLike, emptied_like, empties_on, like_crosses}
 use Rattle.g1_race.proofs.paused.Paused.empty_all.Given.{Over}
 use Rattle.g1_race.proofs.paused.Paused.empty_all.Goals.{In-loop-i}
 use Rattle.g1_race.proofs.paused.Paused.empty_all.Goals as goal

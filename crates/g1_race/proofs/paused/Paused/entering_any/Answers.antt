@@ -1,8 +1,7 @@
 -- No slot of a card before the one that is looked at refers into the regions.
 use Rattle.std.specs.Prelude.{◌<◌}
 use Rattle.g1_race.specs.{Some, None, ap, ◌∙◌, subst, arith, card_count, IsCovered, IsNextInto, IsFirstOfCard, Pause, table_at}
-use Rattle.g1_race.proofs.{begun_covered, lent_begun, lent_view}
-use Rattle.g1_race.proofs.Entering.{first_found, none_left, none_past}
+use Rattle.g1_race.proofs.{begun_covered, lent_begun, lent_view, first_found, none_left, none_past}
 use Rattle.g1_race.proofs.paused.Paused.entering_any.Given.{Over}
 use Rattle.g1_race.proofs.paused.Paused.entering_any.Goals.{After-counts-counts}
 use Rattle.g1_race.proofs.paused.Paused.entering_any.Goals as goal

@@ -1,8 +1,7 @@
 -- No slot of the card before the one that is looked at refers into the regions.
 use Rattle.std.specs.Prelude.{◌≡◌, ◌*◌, ◌+◌}
 use Rattle.g1_race.specs.{sym, ap, ◌∙◌, subst, arith, EntersAny, Pause, table_at}
-use Rattle.g1_race.proofs.{lent_view}
-use Rattle.g1_race.proofs.Entering.{first_on, none_next, none_on}
+use Rattle.g1_race.proofs.{lent_view, first_on, none_next, none_on}
 use Rattle.g1_race.proofs.paused.Paused.entering_any_on.Given.{Over}
 use Rattle.g1_race.proofs.paused.Paused.entering_any_on.Goals.{After-counts-slots, After-slot_at-slot}
 use Rattle.g1_race.proofs.paused.Paused.entering_any_on.Goals as goal

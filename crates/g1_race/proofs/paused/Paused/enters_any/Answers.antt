@@ -1,8 +1,7 @@
 -- The regions are those of the slots in the heap's layout.
 use Rattle.std.specs.Prelude.{◌≡◌}
 use Rattle.g1_race.specs.{sym, ap, ◌∙◌, Pause, region_of, table_at}
-use Rattle.g1_race.proofs.{lent_view}
-use Rattle.g1_race.proofs.Entering.{enters_is, not_into}
+use Rattle.g1_race.proofs.{lent_view, enters_is, not_into}
 use Rattle.g1_race.proofs.paused.Paused.enters_any.Given.{Over}
 use Rattle.g1_race.proofs.paused.Paused.enters_any.Goals.{After-number}
 use Rattle.g1_race.proofs.paused.Paused.enters_any.Goals as goal

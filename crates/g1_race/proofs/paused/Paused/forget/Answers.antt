@@ -2,9 +2,7 @@
 use Rattle.std.proofs.Common.{arith, rules}
 use Rattle.std.specs.Prelude.{◌≢◌}
 use Rattle.g1_race.specs.{ℕ, sym, ◌∙◌, subst, region_of, Crosses, forgotten, Pause, RaisesOnly, table_at, words_of}
-use Rattle.g1_race.proofs.{front_words, held_table, lent_begun, lent_region, lent_view}
-use Rattle.g1_race.proofs.FlagRises.{none_rises}
-use Rattle.g1_race.proofs.ForgottenTable.{closed_words, forgotten_is}
+use Rattle.g1_race.proofs.{front_words, held_table, lent_begun, lent_region, lent_view, none_rises, closed_words, forgotten_is}
 use Rattle.g1_race.proofs.paused.Paused.forget.Goals as goal
 
 pub forget_cards-requires-clause-closed : goal.forget_cards-requires-clause-closed

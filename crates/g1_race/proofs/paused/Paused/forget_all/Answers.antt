@@ -1,7 +1,6 @@
 -- Where regions are forgotten, each slot refers to what it did.
 use Rattle.g1_race.specs.{take, sym, ap, ◌∙◌, subst, Contains, region_of, table_at, Pause}
-use Rattle.g1_race.proofs.Cutting.{given_at}
-use Rattle.g1_race.proofs.Freeing.{IsLike, forgets_on, forgotten_like, like_crosses}
+use Rattle.g1_race.proofs.{given_at, IsLike, forgets_on, forgotten_like, like_crosses}
 use Rattle.g1_race.proofs.paused.Paused.forget_all.Goals as goal
 
 pub forget-requires-clause-closed : goal.forget-requires-clause-closed

@@ -3,7 +3,7 @@ use Rattle.std.proofs.Common.{arith}
 use Rattle.std.specs.Prelude.{◌≡◌}
 use Rattle.g1_race.specs.{Some, None, sym, ap, ◌∙◌, subst, none_of, Frees, IsFirstIntoAny, Pause, table_at}
 use Rattle.std.specs.FinSet as fin
-use Rattle.g1_race.proofs.Freeing.{frees, none_into, still_clean}
+use Rattle.g1_race.proofs.{frees, none_into, still_clean}
 use Rattle.g1_race.proofs.paused.Paused.free.Given.{Over}
 use Rattle.g1_race.proofs.paused.Paused.free.Goals.{Else-pending-gt0, In_default}
 use Rattle.g1_race.proofs.paused.Paused.free.Goals as goal

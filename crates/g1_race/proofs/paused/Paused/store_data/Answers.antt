@@ -3,8 +3,7 @@ use Rattle.std.proofs.Common.{arith, rules}
 use Rattle.std.specs.Prelude.{◌≡◌, ◌<◌, ◌≤◌, ◌^◌}
 use Rattle.g1_race.specs.{RaisesOnly, List, ℕ, None, set, sym, ap, ◌∙◌, subst, inr, Null, RaceShape, IsBegun, started, kind_of, stored, shape_of, WordsBecome, one_word, Pause, ended, table_at, table_of, words_of}
 use Rattle.g1_layout.specs.Shape as layout
-use Rattle.g1_race.proofs.{begun_placed, target_data, kind_data, quiet_store, store_step, put_words, data_crosses, held_table, lent_begun, lent_slot, lent_view}
-use Rattle.g1_race.proofs.FlagRises.{put_rises}
+use Rattle.g1_race.proofs.{begun_placed, target_data, kind_data, quiet_store, store_step, put_words, data_crosses, held_table, lent_begun, lent_slot, lent_view, put_rises}
 use Rattle.g1_race.proofs.paused.Paused.store_data.Goals as goal
 
 pub put-requires-clause-begun : goal.put-requires-clause-begun

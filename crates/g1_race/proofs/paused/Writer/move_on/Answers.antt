@@ -1,7 +1,6 @@
 use Rattle.std.specs.Prelude.{◌≡◌, ◌+◌, ◌*◌, ◌<◌}
 use Rattle.g1_race.specs.{ℕ, eqb, Bool, true, false, List, get_or, sym, ap, ◌∙◌, subst, inr, arith, some, some-injective, get_elem?, and_parts, eqb-true, false_from_ne_true, crosses, as_number, region_at, AreMoved, into_count, is_into, reads_as, words_of, Writes, IsBegun, started}
-use Rattle.g1_race.proofs.{slot_below, count_one, is_into_of, writes_next}
-use Rattle.g1_race.proofs.Moving.{moved_none, moved_then}
+use Rattle.g1_race.proofs.{slot_below, count_one, is_into_of, writes_next, moved_none, moved_then}
 use Rattle.g1_race.proofs.paused.Writer.move_on.Goals.{then-enters, else-enters}
 use Rattle.g1_race.specs.declared.paused.Writer.{Writer}
 use Rattle.g1_race.proofs.paused.Writer.move_on.Goals as goal

@@ -1,7 +1,7 @@
 -- The slots of the cards before the one that is looked at are moved.
 use Rattle.std.specs.Prelude.{◌≡◌, ◌*◌, ◌≤◌}
 use Rattle.g1_race.specs.{ℕ, List, into_count, sym, ap, subst, arith, Into, AreMoved, words_of, IsEmptied, heap_of, Known}
-use Rattle.g1_race.proofs.{none_into, on_card, passed, writes_next, by_race}
+use Rattle.g1_race.proofs.{none_moved, on_card, passed, writes_next, by_race}
 use Rattle.g1_race.proofs.paused.Writer.move_references.Goals.{In_default}
 use Rattle.g1_race.proofs.paused.Writer.move_references.Goals as goal
 
@@ -28,7 +28,7 @@ pub empty_row-requires-clause-none : goal.empty_row-requires-clause-none
 empty_row-requires-clause-none c =
     let k = heap_of c.args.self.now in
     by_race (λ k. (p : ℕ) → Into k c.next_in_row.new.self.start.words c.args.from p → ⊥) c.loop-card.invariant.moved.race
-    (λ p x. none_into k (words_of c.args.self.now) (words_of c.loop-card.self) c.args.from c.args.to p c.begun.ensures c.requires.apart (all ((goal.at.empty_row-requires-clause-none c).In_default))
+    (λ p x. none_moved k (words_of c.args.self.now) (words_of c.loop-card.self) c.args.from c.args.to p c.begun.ensures c.requires.apart (all ((goal.at.empty_row-requires-clause-none c).In_default))
     (subst (λ (r : Known). Into k r.start.words c.args.from p) c.next_in_row.ensures.same x))
 
 pub returns-clause-moved : goal.returns-clause-moved

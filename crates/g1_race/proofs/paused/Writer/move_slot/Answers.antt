@@ -1,8 +1,7 @@
 -- The slot's pair is recorded before its word is moved, unless the slot lies in the region that the reference goes to.
 use Rattle.std.specs.Prelude.{◌≡◌, ◌≢◌, ◌/◌, ◌<◌, ◌∷◌}
 use Rattle.g1_race.specs.{ℕ, List, [], set, true, refl, sym, subst, inl, ⊎_elim, some, get_elem?, RaceShape, IsBegun, slot_card, crosses, region_at, started, AreMoved, is_into, moved_word, Notes, words_of, heap_of}
-use Rattle.g1_race.proofs.{notes_same, is_into_of, begun_on, writes_next}
-use Rattle.g1_race.proofs.Moving.{moved_crosses, moved_fits, moved_region, moved_slot}
+use Rattle.g1_race.proofs.{notes_same, is_into_of, begun_on, writes_next, moved_crosses, moved_fits, moved_region, moved_slot}
 use Rattle.g1_race.proofs.paused.Writer.move_slot.Goals as goal
 
 module _ (k : RaceShape) (old : List ℕ) (p n to : ℕ) (begun : IsBegun (started k old)) (lt : p < k.slots) (low : to < k.regions) (at : get_elem? old p ≡ some n) (across : crosses k p n ≡ true) where

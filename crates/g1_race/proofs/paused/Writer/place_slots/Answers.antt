@@ -1,10 +1,7 @@
 -- The slots before the one that is looked at refer to what they refer to in the core.
 use Rattle.std.specs.Prelude.{◌≡◌, ◌+◌, ◌≤◌}
 use Rattle.g1_race.specs.{inl, ℕ, List, sym, ap, ◌∙◌, subst, arith, slot_count, State, Machine, IsSound, reads_after, target_of, RaceShape, word_of, ArePlaced, RaisesOnly, words_of, Writes}
-use Rattle.g1_race.proofs.{begun_placed, begun_on, writes_next}
-use Rattle.g1_race.proofs.FlagRises.{put_rises, rises_then}
-use Rattle.g1_race.proofs.Placing.{placed_next, placed_past, covered_on}
-use Rattle.g1_race.proofs.CopiedTable.{word_bound}
+use Rattle.g1_race.proofs.{begun_placed, begun_on, writes_next, put_rises, rises_then, placed_next, placed_past, covered_on, word_bound}
 use Rattle.g1_race.proofs.paused.Writer.place_slots.Goals.{After-word_of-word, then-word-ne0, else-word-ne0}
 use Rattle.g1_race.specs.declared.paused.Writer.{Writer}
 use Rattle.g1_race.proofs.paused.Writer.place_slots.Goals as goal

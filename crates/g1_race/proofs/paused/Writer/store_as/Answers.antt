@@ -3,9 +3,7 @@ use Rattle.std.specs.Prelude.{◌≡◌, ◌/◌, ◌<◌, ◌≤◌}
 use Rattle.g1_race.specs.{Logged, card_below, inl, List, ℕ, Option, set, refl, ap, sym, ◌∙◌, subst, inr, arith, IfSome, slot_count, RaceShape, IsBegun, slot_card, started, word_of, target_of_word, one_word, words_of, heap_of}
 use Rattle.g1_layout.specs.Shape as layout
 use Rattle.g1_race.specs.declared.race.Race.{Race}
-use Rattle.g1_race.proofs.{word_target, word_fits, begun_placed, quiet_marked, quiet_store, dirtied_words, put_words, words_then, begun_on, writes_next}
-use Rattle.g1_race.proofs.FlagRises.{put_rises, rises_then, dirtied_rises}
-use Rattle.g1_race.proofs.FlagStores.{dirtied_here, dirtied_store}
+use Rattle.g1_race.proofs.{word_target, word_fits, begun_placed, quiet_marked, quiet_store, dirtied_words, put_words, words_then, begun_on, writes_next, put_rises, rises_then, dirtied_rises, dirtied_here, dirtied_store}
 use Rattle.g1_race.proofs.paused.Writer.store_as.Goals as goal
 
 -- slot and target are of the race

@@ -1,7 +1,6 @@
 use Rattle.std.specs.Prelude.{◌≢◌, ◌⊎◌, ◌≤◌, ◌≡◌, ◌+◌, ◌*◌, ◌<◌}
 use Rattle.g1_race.specs.{inl, inr, ℕ, suc, List, set, None, refl, ap, ◌∙◌, arith, get_elem?, cases_eq, set_else, set_here, Null, ended, table_of, nulled, words_of, sym, heap_of}
-use Rattle.g1_race.proofs.{begun_placed, null_crosses, kind_null, quiet_store, slot_in, begun_on, writes_next}
-use Rattle.g1_race.proofs.FlagRises.{put_rises, rises_then}
+use Rattle.g1_race.proofs.{begun_placed, null_crosses, kind_null, quiet_store, slot_in, begun_on, writes_next, put_rises, rises_then}
 use Rattle.g1_race.proofs.paused.Writer.wipe_slots.Goals as goal
 
 -- a slot outside of the first ones is outside of all before

@@ -1,12 +1,9 @@
 use Rattle.std.proofs.Common.{rules}
 -- The pairs, the marks and the slots become those of the core, one after another.
 use Rattle.std.specs.Prelude.{◌≡◌}
-use Rattle.g1_race.specs.{ℕ, words_of, IsPending, RaisesOnly, All, sym, ap, ◌∙◌, subst, IsPairOf, Start, Pause, start_at, null_of, word_count, zeros}
+use Rattle.g1_race.specs.{words_of, IsPending, RaisesOnly, All, sym, ap, ◌∙◌, subst, IsPairOf, Start, Pause, start_at, null_of, word_count, zeros}
 use Rattle.g1_layout.specs.Shape as layout
-use Rattle.g1_race.proofs.Placing.{listed_cross}
-use Rattle.g1_race.proofs.CopiedTable.{slots_covered}
-use Rattle.g1_race.proofs.{by_race}
-use Rattle.g1_race.proofs.FlagRises.{flags_of, notes_rises}
+use Rattle.g1_race.proofs.{listed_cross, slots_covered, by_race, flags_of, notes_rises}
 use Rattle.g1_race.proofs.paused.begin.Paused.place.Goals as goal
 
 null_words : (h i : Pause) → h ≡ i → start_at i ≡ null_of i.shape → h.words ≡ zeros (word_count h.shape)
