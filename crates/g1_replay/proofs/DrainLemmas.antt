@@ -1,49 +1,35 @@
--- Drains of the first regions, one behind the other.
-use Rattle.std.specs.Prelude.{◌≡◌, ◌+◌, ◌∷◌, ◌++◌, ◌⊎◌}
-use Rattle.g1_replay.specs.{ℕ, suc, List, [], refl, sym, subst, append-nil, inl, inr, true, arith, Ok, Err, Appends-nil, Appends-trans, Drain, Command, Call, puts_then, Stop, drains, HasDrained, Draining, Does, At, deeds_of, ap, ◌∙◌, end_met, written_by}
-use Rattle.g1_replay.proofs.EndLemmas.{all_done}
-use Rattle.g1_replay.proofs.ToldLemmas.{written_as}
+-- How many stores there were, and drains of the first regions, one behind the other.
+use Rattle.g1_replay.specs.{◌≡◌, ◌+◌, ◌∷◌, ◌++◌, ◌∙◌, ℕ, suc, List, [], refl, sym, subst, append-nil, append_assoc, arith, Ok, Err, Result, Drain, Command, Call, puts_then, Stop, BookFull, Prints, drains, HasDrained, Draining, Does, At, at, Option, deeds_of, ap, IsUndone, more_may_come, written_by, stores_text}
+use Rattle.g1_replay.proofs.EndLemmas.{written_as}
 
--- of one command, nothing was done or all
-one_done : (c : Command) (done undone : List Command) → c ∷ [] ≡ done ++ undone → (done ≡ []) ⊎ (done ≡ c ∷ [])
-one_done c [] undone e = inl refl
-one_done c (d ∷ []) undone e = inr cc
-one_done c (d ∷ x ∷ ds) undone e = cc
-
-module _ {S : Type 0} (d : Draining S) where
-  pub drained_none : (s : At S) → HasDrained d 0 s s (Ok tt)
-  drained_none s = record { drained = 0; text = []; played = d.none s.state; filled = λ e. cc; all = λ e. refl; written = Appends-nil s.written }
-
-  pub drained_more : (k : ℕ) (old mid new : At S) → HasDrained d k old mid (Ok tt) → Does (deeds_of d) (Call (Drain k) ∷ []) mid new (Ok true) → HasDrained d (k + 1) old new (Ok tt)
-  drained_more k old mid new p q =
-      let same : Call (Drain k) ∷ [] ≡ q.done = all_done (Call (Drain k) ∷ []) q.done q.undone q.all q.stopped in
-      let next : suc p.drained ≡ k + 1 = let all = p.all refl in omega arith in
-      record {
-        drained = suc p.drained;
-        text = p.text ++ q.text;
-        played = d.then old.state mid.state new.state (drains p.drained) _ p.text q.text p.played (subst (λ (cs : List Command). d.did mid.state cs q.text new.state) (sym same ∙ ap (λ j. Call (Drain j) ∷ []) (sym (p.all refl))) q.made);
-        filled = λ e. cc;
-        all = λ e. next;
-        written = Appends-trans _ _ _ _ _ p.written q.written;
-      }
+module _ {S : Type 0} (d : Draining S) (stores : ℕ) where
+  -- no drain was made
+  pub drained_none : (regions : ℕ) (s : S) (out out' : Option (List ℕ)) (r : Result (Unit {0}) Stop) → (r ≡ Ok tt → 0 ≡ regions) → (r ≡ Err BookFull → ⊥) → Prints out out' r (stores_text stores) → HasDrained d regions stores (at s out) (at s out') r
+  drained_none regions s out out' r all no_book w = record { drained = 0; text = []; played = d.none s; filled = λ e. absurd (no_book e); all = all; written = subst (Prints out out' r) (sym (append-nil (stores_text stores))) w }
 
   -- one drain more, or not
-  last_drain : (k : ℕ) (old mid new : S) (done : List Command) (xs ys : List ℕ) → (done ≡ []) ⊎ (done ≡ Call (Drain k) ∷ []) → d.did old (drains k) xs mid → d.did mid done ys new → (n : ℕ) × d.did old (drains n) (xs ++ ys) new
-  last_drain k old mid new done xs ys (inl e) p q =
-      let nothing : d.did mid [] ys new = subst (λ (cs : List Command). d.did mid cs ys new) e q in
-      (k, subst (λ (cs : List Command). d.did old cs (xs ++ ys) new) (append-nil (drains k)) (d.then old mid new (drains k) [] xs ys p nothing))
-  last_drain k old mid new done xs ys (inr e) p q =
-      (suc k, d.then old mid new (drains k) (Call (Drain k) ∷ []) xs ys p (subst (λ (cs : List Command). d.did mid cs ys new) e q))
+  next_drain : (k : ℕ) (r : Result (Unit {0}) Stop) (old mid new : S) (done undone : List Command) (xs ys : List ℕ) → Call (Drain k) ∷ [] ≡ done ++ undone → IsUndone (more_may_come r) undone → d.did old (drains k) xs mid → d.did mid done ys new
+      → (n : ℕ) × d.did old (drains n) (xs ++ ys) new × (r ≡ Ok tt → n ≡ k + 1)
+  next_drain k r old mid new [] undone xs ys e stopped p q =
+      (k, subst (λ (cs : List Command). d.did old cs (xs ++ ys) new) (append-nil (drains k)) (d.then old mid new (drains k) [] xs ys p q), λ ok. let none : undone ≡ [] = subst (λ (s : Result (Unit {0}) Stop). IsUndone (more_may_come s) undone) ok stopped in cc)
+  next_drain k r old mid new (c ∷ []) undone xs ys e stopped p q =
+      let is : c ∷ [] ≡ Call (Drain k) ∷ [] = cc in
+      (suc k, d.then old mid new (drains k) (Call (Drain k) ∷ []) xs ys p (subst (λ (cs : List Command). d.did mid cs ys new) is q), λ ok. omega arith)
+  next_drain k r old mid new (c ∷ x ∷ cs) undone xs ys e stopped p q = cc
 
-  -- a drain that was refused, or whose line was not written
-  pub drained_stopped : (regions k : ℕ) (old mid new : At S) (stop : Stop) → HasDrained d k old mid (Ok tt) → Does (deeds_of d) (Call (Drain k) ∷ []) mid new (Err stop) → HasDrained d regions old new (Err stop)
-  drained_stopped regions k old mid new stop p q =
-      let last = last_drain k old.state mid.state new.state q.done p.text q.text (one_done (Call (Drain k)) q.done q.undone q.all) (subst (λ j. d.did old.state (drains j) p.text mid.state) (p.all refl) p.played) q.made in
+  said_as : (out out' : Option (List ℕ)) (r : Result (Unit {0}) Stop) (text : List ℕ) → Prints out out' (more_may_come r) text → Prints out out' r text
+  said_as out out' (Ok done) text w = w
+  said_as out out' (Err stop) text w = written_as out out' (Err stop) text w
+
+  pub drained_then : (regions k : ℕ) (old mid new : At S) (r : Result (Unit {0}) Stop) → HasDrained d k stores old mid (Ok tt) → Does (deeds_of d) (Call (Drain k) ∷ []) mid new (more_may_come r) → (r ≡ Ok tt → k + 1 ≡ regions) → HasDrained d regions stores old new r
+  drained_then regions k old mid new r p q last =
+      let next = next_drain k r old.state mid.state new.state q.done q.undone p.text q.text q.all q.stopped (subst (λ j. d.did old.state (drains j) p.text mid.state) (p.all refl) p.played) q.made in
       record {
-        drained = last.0;
+        drained = next.0;
         text = p.text ++ q.text;
-        played = last.1;
-        filled = λ e. q.filled (ap end_met e);
-        all = λ e. cc;
-        written = puts_then old.written mid.written new.written (written_by {V = Unit {0}} (Err stop)) p.text q.text p.written (written_as mid.written new.written (Err stop) q.text q.written);
+        played = next.1;
+        filled = λ e. q.filled (ap more_may_come e);
+        all = λ e. next.2 e ∙ last e;
+        written = subst (Prints old.written new.written r) (append_assoc (stores_text stores) p.text q.text)
+            (puts_then old.written mid.written new.written (written_by r) (stores_text stores ++ p.text) q.text p.written (said_as mid.written new.written r q.text q.written));
       }

@@ -1,7 +1,5 @@
 -- The line of the end, and the whole output where the end says what it is.
-use Rattle.std.specs.Prelude.{◌≡◌, ◌∷◌, ◌++◌}
-use Rattle.g1_replay.specs.{ℕ, List, [], refl, ap, ◌∙◌, subst, append-nil, append_assoc, Option, Some, None, false, Result, Ok, Err, IfSome, Appends-trans, Appends, Consumes, Shape, Options, Command, Dialect, TraceFault, AppendsFront, read_trace, before, front_then, End, Whole, Refused, Stop, Fault, WriteFailed, Tale, Saying, Story, Spot, spot, with_heap, streams, dialect_in, Run, Told, IsEndWritten, IsReplayed, ending_line, end_of, IsDoneText, IsRunText, IsUndone, IsWholeOutput, IsRefusedOutput, end_met, Prints, Reads, place, IsLeftToRead}
-use Rattle.g1_replay.specs.declared.end.End.TheVariants.{WriteFailed as EndWriteFailed}
+use Rattle.g1_replay.specs.{◌≡◌, ◌∷◌, ◌++◌, ◌∙◌, EndWriteFailed, ℕ, List, [], refl, ap, subst, append-nil, append_assoc, Option, Some, None, false, Result, Ok, Err, IfSome, Appends-trans, Appends, Consumes, Shape, Options, Command, Dialect, TraceFault, AppendsFront, read_trace, before, front_then, End, Whole, Refused, Stop, Fault, WriteFailed, Tale, Saying, Story, Spot, spot, with_heap, streams, dialect_in, Run, Told, IsEndWritten, IsReplayed, ending_line, end_of, IsDoneText, IsRunText, IsUndone, IsWholeOutput, IsRefusedOutput, end_met, Prints, Reads, place, IsLeftToRead}
 use Rattle.g1_replay.proofs.ReadingLemmas.{left_none}
 
 nil_front : (f l : List ℕ) → [] ≡ f ++ l → f ≡ []
@@ -32,6 +30,11 @@ all_consumed xs (Some ys) front c = (ys, refl, c)
 -- all commands were done
 pub all_done : (cs done undone : List Command) → cs ≡ done ++ undone → undone ≡ [] → cs ≡ done
 all_done cs done undone e none = e ∙ ap (λ w. done ++ w) none ∙ append-nil done
+
+pub written_as : (out out' : Option (List ℕ)) (r : Result (Unit {0}) Stop) (text : List ℕ) → Prints out out' (end_met r) text → Prints out out' r text
+written_as out out' (Ok done) text w = w
+written_as out out' (Err (Fault f)) text w = w
+written_as out out' (Err stop) text w = w
 
 -- A trace that ends so was read to these commands, and this is said of them.
 abbrev pub ReadsAs : Dialect → Tale → Result (Unit {0}) Stop → Saying → Type 0

@@ -2,7 +2,6 @@ pub mod EndLemmas
 pub mod PartLemmas
 pub mod PlayingLemmas
 pub mod ReadingLemmas
-pub mod CountedLines
 pub mod ToldLemmas
 pub mod AnswerLemmas
 pub mod DrainLemmas

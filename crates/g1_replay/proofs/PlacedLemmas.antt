@@ -1,6 +1,5 @@
 -- Lists whose items fit their places, and lists of parties, by kinds.
-use Rattle.std.specs.Prelude.{◌≡◌, ◌+◌, ◌∷◌, ◌++◌}
-use Rattle.g1_replay.specs.{Some, None, IfSome, cons_option, ℕ, suc, List, [], length, map, ap, sym, subst, ◌∙◌, refl, arith, append_assoc, All, Option, append-nil, sum_by, filter_map, filter_map-append, All-nil, All-cons, All-head, All-tail, sum_by-cons, sum_by_push, Line, sender_rights, taker_rights, IsSenderOf, IsTakerOf, null_of, race_id, racer_race, racer_start, sweeper_race, sweeper_start, Party, Racing, Sweeping, IsPartyOf, party_rights, AllFrom, racer_in, sender_in, sweeper_in, taker_in}
+use Rattle.g1_replay.specs.{◌≡◌, ◌+◌, ◌∷◌, ◌++◌, ◌∙◌, Racer, Sender, Sweeper, Taker, Returned, HasBack, ℕ, suc, List, [], length, map, ap, sym, subst, refl, arith, append_assoc, All, Option, append-nil, sum_by, filter_map, filter_map-append, All-nil, All-cons, All-head, All-tail, sum_by-cons, sum_by_push, Line, sender_rights, taker_rights, IsSenderOf, IsTakerOf, null_of, race_id, racer_race, racer_start, sweeper_race, sweeper_start, Party, Racing, Sweeping, IsPartyOf, party_rights, AllFrom, racer_in, sender_in, sweeper_in, taker_in}
 use Rattle.std.proofs.lemmas.List.{nil_from_length}
 use Rattle.g1_race.specs.declared.race.Race.{Race}
 
@@ -29,41 +28,43 @@ pub next_behind : {D : Type 0} (party : D → Party) (parties : List Party) (ds 
 next_behind party parties ds rest d m all q e was =
     append_assoc parties (m ∷ []) (map party rest) ∙ ap (λ x. parties ++ x ∷ map party rest) e ∙ ap (λ l. parties ++ map party l) (sym q) ∙ was
 
--- what is chosen from a list whose items give what it is to be
-chosen_before : {B : Type 0} (Q : B → Type 0) (o : Option B) (ys : List B) → IfSome o Q → All Q ys → All Q (cons_option o ys)
-chosen_before Q None ys h all = all
-chosen_before Q (Some y) ys h all = All-cons Q y ys h all
+-- what parties of this race, which began with nulls, and of this queue bring back
+pub record AreBack (race : Race) (line : Line) (ms : List Party) (rs : List Racer) (ss : List Sender) (ws : List Sweeper) (ts : List Taker) : Type 0 where
+  pub racers : All (λ r. (racer_race r ≡ race_id race) × (racer_start r ≡ null_of race.shape)) rs
+  pub senders : All (IsSenderOf line) ss
+  pub sweepers : All (λ w. (sweeper_race w ≡ race_id race) × (sweeper_start w ≡ null_of race.shape)) ws
+  pub takers : All (IsTakerOf line) ts
+  pub many : length rs + length ws ≡ length ms
+  pub rights : sum_by sender_rights ss + sum_by taker_rights ts ≡ sum_by party_rights ms
 
-pub all_chosen : {A B : Type 0} (P : A → Type 0) (Q : B → Type 0) (f : A → Option B) → ((x : A) → P x → IfSome (f x) Q) → (xs : List A) → All P xs → All Q (filter_map f xs)
-all_chosen P Q f each [] all = All-nil Q
-all_chosen P Q f each (x ∷ xs) all = chosen_before Q (f x) (filter_map f xs) (each x (All-head P x xs all)) (all_chosen P Q f each xs (All-tail P x xs all))
+module _ (race : Race) (line : Line) where
+  sorted : (ms : List Party) → All (IsPartyOf race line) ms → AreBack race line ms (filter_map racer_in ms) (filter_map sender_in ms) (filter_map sweeper_in ms) (filter_map taker_in ms)
+  sorted [] all = record { racers = All-nil (λ r. (racer_race r ≡ race_id race) × (racer_start r ≡ null_of race.shape)); senders = All-nil (IsSenderOf line); sweepers = All-nil (λ w. (sweeper_race w ≡ race_id race) × (sweeper_start w ≡ null_of race.shape)); takers = All-nil (IsTakerOf line); many = refl; rights = refl }
+  sorted (Racing r s ∷ ms) all =
+      let of = All-head (IsPartyOf race line) (Racing r s) ms all in
+      let rest = sorted ms (All-tail (IsPartyOf race line) (Racing r s) ms all) in
+      record {
+        racers = All-cons (λ r. (racer_race r ≡ race_id race) × (racer_start r ≡ null_of race.shape)) r _ (of.0, of.2) rest.racers;
+        senders = All-cons (IsSenderOf line) s _ of.1 rest.senders;
+        sweepers = rest.sweepers;
+        takers = rest.takers;
+        many = omega (arith, rest.many);
+        rights = omega (arith, rest.rights, sum_by-cons sender_rights s (filter_map sender_in ms), sum_by-cons party_rights (Racing r s) ms);
+      }
+  sorted (Sweeping w t ∷ ms) all =
+      let of = All-head (IsPartyOf race line) (Sweeping w t) ms all in
+      let rest = sorted ms (All-tail (IsPartyOf race line) (Sweeping w t) ms all) in
+      record {
+        racers = rest.racers;
+        senders = rest.senders;
+        sweepers = All-cons (λ w. (sweeper_race w ≡ race_id race) × (sweeper_start w ≡ null_of race.shape)) w _ (of.0, of.2) rest.sweepers;
+        takers = All-cons (IsTakerOf line) t _ of.1 rest.takers;
+        many = omega (arith, rest.many);
+        rights = omega (arith, rest.rights, sum_by-cons taker_rights t (filter_map taker_in ms), sum_by-cons party_rights (Sweeping w t) ms);
+      }
 
--- what a party is of: the race, which began with nulls, and the line
-pub racer_of : (race : Race) (line : Line) (m : Party) → IsPartyOf race line m → IfSome (racer_in m) (λ r. (racer_race r ≡ race_id race) × (racer_start r ≡ null_of race.shape))
-racer_of race line (Racing r s) of = (of.0, of.2)
-racer_of race line (Sweeping w t) of = tt
-
-pub sweeper_of : (race : Race) (line : Line) (m : Party) → IsPartyOf race line m → IfSome (sweeper_in m) (λ w. (sweeper_race w ≡ race_id race) × (sweeper_start w ≡ null_of race.shape))
-sweeper_of race line (Racing r s) of = tt
-sweeper_of race line (Sweeping w t) of = (of.0, of.2)
-
-pub sender_of : (race : Race) (line : Line) (m : Party) → IsPartyOf race line m → IfSome (sender_in m) (IsSenderOf line)
-sender_of race line (Racing r s) of = of.1
-sender_of race line (Sweeping w t) of = tt
-
-pub taker_of : (race : Race) (line : Line) (m : Party) → IsPartyOf race line m → IfSome (taker_in m) (IsTakerOf line)
-taker_of race line (Racing r s) of = tt
-taker_of race line (Sweeping w t) of = of.1
-
-pub sorted_length : (ms : List Party) → length (filter_map racer_in ms) + length (filter_map sweeper_in ms) ≡ length ms
-sorted_length [] = refl
-sorted_length (Racing r s ∷ ms) = let rest = sorted_length ms in omega (arith, rest)
-sorted_length (Sweeping w t ∷ ms) = let rest = sorted_length ms in omega (arith, rest)
-
-pub sorted_rights : (ms : List Party) → sum_by sender_rights (filter_map sender_in ms) + sum_by taker_rights (filter_map taker_in ms) ≡ sum_by party_rights ms
-sorted_rights [] = refl
-sorted_rights (Racing r s ∷ ms) = let rest = sorted_rights ms in omega (arith, rest, sum_by-cons sender_rights s (filter_map sender_in ms), sum_by-cons party_rights (Racing r s) ms)
-sorted_rights (Sweeping w t ∷ ms) = let rest = sorted_rights ms in omega (arith, rest, sum_by-cons taker_rights t (filter_map taker_in ms), sum_by-cons party_rights (Sweeping w t) ms)
+  pub are_back : (ms : List Party) (returned : Returned) → HasBack ms returned → All (IsPartyOf race line) ms → AreBack race line ms returned.racers.items returned.senders.items returned.sweepers.items returned.takers.items
+  are_back ms returned b of = rw (b.racers, b.senders, b.sweepers, b.takers) (sorted ms of)
 
 -- rights that go from an end into a party
 pub rights_move : {Y : Type 0} (h : Y → ℕ) (ms now : List Party) (ys rest : List Y) (m : Party) (y : Y) (total : ℕ) → now ≡ ms ++ m ∷ [] → ys ≡ rest ++ y ∷ [] → party_rights m ≡ h y → sum_by party_rights ms + sum_by h ys ≡ total

@@ -1,6 +1,5 @@
 -- What a command comes to, by the steps of the callers.
-use Rattle.std.specs.Prelude.{◌≡◌, ◌<◌}
-use Rattle.g1_replay.specs.{ℕ, List, Bool, true, false, arith, length, set, vec_len, slice_index_or, refl, sym, ap, subst, ◌∙◌, inl, inr, Option, Result, Ok, Err, IsErrAnd, err_from_is_err_and, Appends, AppendsFront, Appends-nil, History, StoreReply, RefineReply, FlushReply, Reply, Refusal, Mutator, Taker, MutatorSteps, FirstSteps, IsStopped, MakesAsked, Machinery, Makes, StoresAt, FlushesAt, RefinesAt, WorksAt, AnswersAt, Says, IsPlayed, IsDoneAndSaid, StandIf, StandStill, store_text, flush_text, refine_text, work_text, call_line, is_pause, Stop, WriteFailed, stop_of, At, at, IsCallPlayed}
+use Rattle.g1_replay.specs.{◌≡◌, ◌<◌, ◌∙◌, ℕ, List, Bool, true, false, arith, length, set, vec_len, slice_index_or, refl, sym, ap, subst, inl, inr, Option, Result, Ok, Err, IsErrAnd, err_from_is_err_and, Appends, AppendsFront, Appends-nil, History, Reply, Refusal, Mutator, Taker, MutatorSteps, FirstSteps, IsStopped, MakesAsked, Machinery, AnswersAt, Says, IsPlayed, IsDoneAndSaid, StandIf, StandStill, call_line, is_pause, Stop, WriteFailed, stop_of, At, at, IsCallPlayed}
 use Rattle.g1_core.specs.declared.entry.Call.{Call}
 use Rattle.g1_trace.specs.declared.command.Command.TheVariants as command
 
@@ -11,19 +10,6 @@ mutator_stepped by Step old new before after below many own step mutators takers
 
 pub first_stepped : (Step : Taker → Taker → Type 0) (old new : Machinery) (before after : Taker) → before ≡ slice_index_or old.takers.items 0 before → Step before after → new.takers.items ≡ set old.takers.items 0 after → new.line ≡ old.line → FirstSteps Step old new
 first_stepped Step old new before after own step takers line = record { before = before; after = after; there = omega (arith, old.callers.0, old.takers.ok.0); own = own; step = step; takers = takers; line = line }
-
--- what each command comes to, by the step that it is
-pub stores : (by slot : ℕ) (target : Option ℕ) (old new : Machinery) (reply : StoreReply) → StoresAt old by (slot, target) (Ok reply) new → Makes (command.Store by slot target) old new (Ok (store_text reply))
-stores by slot target old new reply h = (reply, h, refl)
-
-pub flushes : (by : ℕ) (old new : Machinery) (reply : FlushReply) → FlushesAt old by reply new → Makes (command.Flush by) old new (Ok (flush_text reply))
-flushes by old new reply h = (reply, h, refl)
-
-pub refines : (old new : Machinery) (reply : RefineReply) → RefinesAt old (Ok reply) new → Makes command.Refine old new (Ok (refine_text reply))
-refines old new reply h = (reply, h, refl)
-
-pub works : (old new : Machinery) (reply : RefineReply) → WorksAt old (Ok reply) new → Makes command.Work old new (Ok (work_text reply))
-works old new reply h = (reply, h, refl)
 
 -- what was done and answered, whose text was not written, and what was refused
 pub said_ok : (Done : Result (List ℕ) Refusal → Type 0) (text : List ℕ) (out out' : Option (List ℕ)) → Done (Ok text) → Appends out out' text → IsDoneAndSaid Done out out' (Ok tt)

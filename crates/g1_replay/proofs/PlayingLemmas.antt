@@ -1,6 +1,5 @@
 -- Lines that were played: one, and one after another.
-use Rattle.std.specs.Prelude.{◌≡◌, ◌≢◌, ◌+◌, ◌∷◌, ◌++◌, ◌<◌, ◌≤◌, ◌⊎◌}
-use Rattle.g1_replay.specs.{ℕ, List, [], refl, inl, inr, sym, ap, subst, ◌∙◌, append_assoc, append-nil, take, drop, length, Option, Some, None, true, arith, Bool, Result, Ok, Err, IfErr, IsErrAnd, err_from_is_err_and, OnOk, Consumes, Appends, Puts, Refusal, stop_of, IsSaid, take-take, drop-take, take-append-drop, Shape, Command, Dialect, puts_none, puts_then, Stop, Fault, NoMemory, BookFull, WriteFailed, IsUndone, Does, MayStop, Deeds, At, Scene, Plays, Follows, FollowsFront, PlaysFirst, Prints, written_by, IsReadStop, IsOfTrace, Reads, place, ReadsBehind, Commands, more_may_come}
+use Rattle.g1_replay.specs.{◌≡◌, ◌≢◌, ◌+◌, ◌∷◌, ◌++◌, ◌<◌, ◌≤◌, ◌⊎◌, ◌∙◌, ℕ, List, [], refl, inl, inr, sym, ap, subst, append_assoc, append-nil, take, drop, length, Option, Some, None, true, arith, Bool, Result, Ok, Err, IfErr, IsErrAnd, err_from_is_err_and, OnOk, Consumes, Appends, Puts, Refusal, stop_of, IsSaid, take-take, drop-take, take-append-drop, Shape, Command, Dialect, puts_none, puts_then, Stop, Fault, NoMemory, BookFull, WriteFailed, IsUndone, Does, MayStop, Deeds, At, Scene, Plays, Follows, FollowsFront, PlaysFirst, Prints, written_by, IsReadStop, IsOfTrace, Reads, place, ReadsBehind, Commands, more_may_come}
 use Rattle.g1_history.specs.declared.refusal.Refusal.TheVariants as refusal
 use Rattle.g1_replay.proofs.ReadingLemmas.{reads_none, reads_then}
 
@@ -92,6 +91,14 @@ module _ {S : Type 0} (deeds : Deeds S) where
       }
 
   -- no line; a line without a command, or the end of the input; and a line that stopped the reading
+  -- lines behind a header that was read
+  pub reads_behind : (d : Dialect) (n n' : ℕ) (a b : Scene S) (rd rd1 rd' : Option (List ℕ)) (r : Result Bool Stop) → a.commands.dialect ≡ d → b.commands.source.now.number ≡ n' → Reads d (place None n rd) (place (Some a.commands.layout) a.commands.source.now.number rd1) [] (Ok true)
+      → (f : Follows deeds a b (rd1, rd') r) → Reads d (place None n rd) (place (Some a.commands.layout) n' rd') f.commands r
+  reads_behind d n n' a b rd rd1 rd' r of at_end head f =
+      let heap = Some a.commands.layout in
+      let from = a.commands.source.now.number in
+      reads_then d _ _ _ [] f.commands r head (subst (λ (k : ℕ). Reads d (place heap from rd1) (place heap k rd') f.commands r) at_end (subst (λ (e : Dialect). Reads e (place heap from rd1) (place heap b.commands.source.now.number rd') f.commands r) of f.read))
+
   pub follows_none : (a : Scene S) (rd : Option (List ℕ)) → Follows deeds a a (rd, rd) (Ok true)
   follows_none a rd = record { commands = []; read = reads_none a.commands.dialect (place (Some a.commands.layout) a.commands.source.now.number rd); done = does_none a.at (Ok true) (λ e. cc) }
 
@@ -107,14 +114,14 @@ module _ {S : Type 0} (deeds : Deeds S) where
   line_stopped c old new rd rd' stop h read done = record { commands = c ∷ []; read = stopped_at stop h; done = done }
     where
       stopped_at : (stop : Stop) → MayStop stop → ReadsBehind old.commands new.commands (rd, rd') (c ∷ []) (Err stop)
-      stopped_at NoMemory h = record { lines = read.lines; rest = read.rest; consumed = read.consumed; passed = read.passed; met = read.met }
-      stopped_at BookFull h = record { lines = read.lines; rest = read.rest; consumed = read.consumed; passed = read.passed; met = read.met }
-      stopped_at WriteFailed h = record { lines = read.lines; rest = read.rest; consumed = read.consumed; passed = read.passed; met = read.met }
+      stopped_at NoMemory h = record { lines = read.lines; rest = read.rest; consumed = read.consumed; passed = read.passed; met = read.met; counted = read.counted }
+      stopped_at BookFull h = record { lines = read.lines; rest = read.rest; consumed = read.consumed; passed = read.passed; met = read.met; counted = read.counted }
+      stopped_at WriteFailed h = record { lines = read.lines; rest = read.rest; consumed = read.consumed; passed = read.passed; met = read.met; counted = read.counted }
       stopped_at stop h = absurd h
 
   -- lines at the front of what is shown: none, and then more
   pub front_none : (a : Scene S) (shown : List ℕ) → FollowsFront deeds a a (take 0 shown) (Ok true)
-  front_none a shown = λ rd rd' moved. line_passed a.commands a.commands a.at rd rd' true (record { lines = []; rest = []; consumed = moved; passed = λ x. refl; met = refl })
+  front_none a shown = λ rd rd' moved. line_passed a.commands a.commands a.at rd rd' true (record { lines = []; rest = []; consumed = moved; passed = λ x. refl; met = refl; counted = omega arith })
 
   pub front_then : (a b c : Scene S) (k m : ℕ) (shown left : List ℕ) (r : Result Bool Stop) → left ≡ drop k shown → IsOfTrace a.commands b.commands
       → FollowsFront deeds a b (take k shown) (Ok true) → FollowsFront deeds b c (take m left) r → FollowsFront deeds a c (take (k + m) shown) r

@@ -1,27 +1,6 @@
 -- What the jobs of a crew come to, by its book.
-use Rattle.std.specs.Prelude.{◌≡◌, ◌≢◌, ◌≤◌, ◌==◌, ◌++◌}
-use Rattle.g1_replay.specs.{ℕ, List, [], length, refl, sym, subst, ap, ◌∙◌, append-nil, Option, inl, inr, arith, Result, Ok, Err, IfErr, IfSome, cases_Bool, eqb-true, count_by, Shape, opening, Entry, IsPermitted, is_store, History, IsHistory, BookTerms, Refusal, Command, is_store_command, layout_in, AppendsFront, stores_text, front_more, puts_none, puts_then, Stop, BookFull, NoThread, WriteFailed, CrewRan, CrewDrained, crew_book, AreOfCallers, Options, Some, None, crew_stop, drains, book_draining, at, HasDrained, played_none, entries_of, HasPlayed, IsBookFull, MayStop, Prints, written_by, IsRunEnd, IsUnstarted, Appends}
+use Rattle.g1_replay.specs.{◌≡◌, ◌≢◌, ◌≤◌, ◌==◌, ◌++◌, ◌∙◌, PrintsSome, ℕ, List, [], length, refl, sym, subst, ap, append-nil, Option, inl, inr, arith, Result, Ok, Err, IfErr, IfSome, cases_Bool, eqb-true, count_by, Shape, opening, Entry, IsPermitted, is_store, History, IsHistory, BookTerms, Refusal, Command, is_store_command, layout_in, stores_text, puts_none, Stop, BookFull, NoThread, CrewRan, CrewDrained, crew_book, AreOfCallers, Options, Some, None, crew_stop, book_draining, at, HasDrained, entries_of, MayStop, Prints, written_by, IsRunEnd, IsUnstarted}
 use Rattle.g1_history.specs.declared.refusal.Refusal.TheVariants as refusal
-
--- a book with drains behind it is a run, and its text counts the stores in front of them
-ran_book : (asked : List Command) (old new : History) (k : ℕ) (r : Result (Unit {0}) Stop) (text : List ℕ) → count_by is_store old.entries ≡ count_by is_store_command asked → HasPlayed old (drains k) text new → IsHistory new → IsRunEnd r → r ≢ Err NoThread → (r ≡ Err BookFull → IsBookFull new) → (r ≡ Ok tt → k ≡ (layout_in old).regions)
-    → CrewDrained (crew_book old.limit (layout_in old) None old.entries) asked r (stores_text (count_by is_store old.entries) ++ text)
-ran_book asked old new k r text many p h ends alone full all =
-    let es : new.entries ≡ old.entries ++ entries_of p.pieces = p.grows.entries in
-    let most : new.limit ≡ old.limit = ap (λ (t : BookTerms). t.limit) p.grows.terms in
-    let shape : layout_in new ≡ layout_in old = ap (λ (t : BookTerms). t.layout) p.grows.terms in
-    record {
-      drained = k;
-      pieces = p.pieces;
-      ends = ends;
-      walked = p.walked;
-      permitted = subst (λ (xs : List Entry). IsPermitted (opening (layout_in old)) xs) es (subst (λ (s : Shape). IsPermitted (opening s) new.entries) shape h.run);
-      within = subst (λ (xs : List Entry). length xs ≤ old.limit) es (subst (λ (n : ℕ). length new.entries ≤ n) most h.within);
-      full = λ e. ap (λ (xs : List Entry). length xs) (sym es) ∙ full e ∙ most;
-      all = all;
-      stopped = tt;
-      said = inr (alone, refl, many, ap (λ t. stores_text (count_by is_store old.entries) ++ t) p.said);
-    }
 
 pub may_end : (r : Result (Unit {0}) Stop) → IfErr r MayStop → IsRunEnd r
 may_end (Ok done) h = tt
@@ -31,17 +10,29 @@ may_end (Err stop) h = inr h
 pub drains_alone : (r : Result (Unit {0}) Stop) → IfErr r MayStop → r ≢ Err NoThread
 drains_alone r h e = subst (λ r. IfErr r MayStop) e h
 
--- the count could not be written
-pub stores_failed : (asked : List Command) (h : History) (out out' : Option (List ℕ)) → IsHistory h → count_by is_store h.entries ≡ count_by is_store_command asked → AppendsFront out out' (stores_text (count_by is_store h.entries))
-    → (text : List ℕ) × CrewDrained (crew_book h.limit (layout_in h) None h.entries) asked (Err WriteFailed) text × Prints {V = Unit {0}} out out' (Err WriteFailed) text
-stores_failed asked h out out' history many w =
-    (stores_text (count_by is_store h.entries) ++ [], ran_book asked h h 0 (Err WriteFailed) [] many (played_none h) history (inr tt) (λ e. cc) (λ e. cc) (λ e. cc), front_more out out' (stores_text (count_by is_store h.entries)) [] w)
-
--- the count was written, and drains behind it
-pub book_written : (asked : List Command) (old new : History) (out mid_out out' : Option (List ℕ)) (r : Result (Unit {0}) Stop) → IfErr r MayStop → IsHistory new → count_by is_store old.entries ≡ count_by is_store_command asked → Appends out mid_out (stores_text (count_by is_store old.entries))
-    → HasDrained book_draining (layout_in old).regions (at old mid_out) (at new out') r → (text : List ℕ) × CrewDrained (crew_book old.limit (layout_in old) None old.entries) asked r text × Prints out out' r text
-book_written asked old new out mid_out out' r stops history many w d =
-    (stores_text (count_by is_store old.entries) ++ d.text, ran_book asked old new d.drained r d.text many d.played history (may_end r stops) (drains_alone r stops) d.filled d.all, puts_then out mid_out out' (written_by r) (stores_text (count_by is_store old.entries)) d.text w d.written)
+-- a book with drains behind it is a run, and its text counts the stores in front of them
+pub book_written : (asked : List Command) (old new : History) (stores : ℕ) (out out' : Option (List ℕ)) (r : Result (Unit {0}) Stop) → IfErr r MayStop → IsHistory new → stores ≡ count_by is_store old.entries → stores ≡ count_by is_store_command asked
+    → HasDrained book_draining (layout_in old).regions stores (at old out) (at new out') r → PrintsSome (CrewDrained (crew_book old.limit (layout_in old) None old.entries) asked) out out' r
+book_written asked old new stores out out' r stops h own many d =
+    let p = d.played in
+    let es : new.entries ≡ old.entries ++ entries_of p.pieces = p.grows.entries in
+    let most : new.limit ≡ old.limit = ap (λ (t : BookTerms). t.limit) p.grows.terms in
+    let shape : layout_in new ≡ layout_in old = ap (λ (t : BookTerms). t.layout) p.grows.terms in (
+      stores_text stores ++ d.text,
+      record {
+        drained = d.drained;
+        pieces = p.pieces;
+        ends = may_end r stops;
+        walked = p.walked;
+        permitted = subst (λ (xs : List Entry). IsPermitted (opening (layout_in old)) xs) es (subst (λ (s : Shape). IsPermitted (opening s) new.entries) shape h.run);
+        within = subst (λ (xs : List Entry). length xs ≤ old.limit) es (subst (λ (n : ℕ). length new.entries ≤ n) most h.within);
+        full = λ e. ap (λ (xs : List Entry). length xs) (sym es) ∙ d.filled e ∙ most;
+        all = d.all;
+        stopped = tt;
+        said = inr (drains_alone r stops, refl, sym own ∙ many, ap (λ n. stores_text n ++ d.text) own ∙ ap (λ t. stores_text (count_by is_store old.entries) ++ t) p.said);
+      },
+      d.written,
+    )
 
 abbrev ends_with : Stop → Result (Unit {0}) Stop
 ends_with stop = Err stop

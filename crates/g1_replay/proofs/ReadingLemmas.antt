@@ -1,6 +1,5 @@
 -- Lines that were read: one, and one after another.
-use Rattle.std.specs.Prelude.{◌≡◌, ◌≢◌, ◌+◌, ◌<◌, ◌≤◌, ◌∷◌, ◌++◌}
-use Rattle.g1_replay.specs.{ℕ, List, [], refl, length, take, sym, ap, ◌∙◌, subst, arith, append_assoc, append-nil, Option, Some, None, true, false, rules, Bool, Result, Ok, Err, nat_lt, option_to_list, zero, suc, Consumes-nil, Consumes-trans, ne_eqb, length-append, Consumes, IsAtEnd, Shape, Command, Dialect, TraceFault, TooLong, Cut, NoHeader, read_command, read_on, read_line, after_line, at_end, before, faulty, IsPart, Stop, Fault, ReadFailed, ReadsLine, IsLeftToRead, Reads, Place, place}
+use Rattle.g1_replay.specs.{◌≡◌, ◌≢◌, ◌+◌, ◌<◌, ◌≤◌, ◌∷◌, ◌++◌, ◌∙◌, ℕ, List, [], refl, length, take, sym, ap, subst, arith, append_assoc, append-nil, Option, Some, None, true, false, rules, Bool, Result, Ok, Err, nat_lt, option_to_list, zero, suc, Consumes-nil, Consumes-trans, ne_eqb, length-append, Consumes, IsAtEnd, Shape, Command, Dialect, TraceFault, TooLong, Cut, NoHeader, read_command, read_on, read_line, after_line, at_end, before, faulty, IsPart, Stop, Fault, ReadFailed, ReadsLine, IsLeftToRead, Reads, Place, place}
 use Rattle.g1_trace.specs.Plain.{IsLineBefore}
 
 -- bytes of one line
@@ -39,34 +38,39 @@ left_none (Some left) x e h = h ∙ e
 -- a line that was not read to its end, or is too long
 pub line_stopped : (d : Dialect) (heap : Option Shape) (n : ℕ) (rd rd' : Option (List ℕ)) (stop : Stop) (line : List ℕ) → ReadsLine rd rd' (Err stop) line → Reads d (place heap n rd) (place heap n rd') [] (Err stop)
 line_stopped d heap n rd rd' (Fault TooLong) line h =
-    record { lines = []; rest = line ++ h.0 ∷ []; consumed = h.1; passed = λ x. refl; met = λ x _. line_too_long line d heap n h.0 h.3 h.4 h.2 x }
+    record { lines = []; rest = line ++ h.0 ∷ []; consumed = h.1; passed = λ x. refl; met = λ x _. line_too_long line d heap n h.0 h.3 h.4 h.2 x; counted = omega arith }
 line_stopped d heap n rd rd' (Fault Cut) line h =
-    record { lines = []; rest = line; consumed = h.0; passed = λ x. refl; met = λ x e. line_cut line d heap n h.2 h.3 h.4 x (left_none rd' x h.1 e) }
+    record { lines = []; rest = line; consumed = h.0; passed = λ x. refl; met = λ x e. line_cut line d heap n h.2 h.3 h.4 x (left_none rd' x h.1 e); counted = omega arith }
 line_stopped d heap n rd rd' (Fault f) line h = absurd h
-line_stopped d heap n rd rd' ReadFailed line h = record { lines = []; rest = line; consumed = h.0; passed = λ x. refl; met = (h.1, h.2) }
+line_stopped d heap n rd rd' ReadFailed line h = record { lines = []; rest = line; consumed = h.0; passed = λ x. refl; met = (h.1, h.2); counted = omega arith }
 line_stopped d heap n rd rd' stop line h = absurd h
 
 -- no line, before the header and behind it
 pub no_header : (d : Dialect) (n : ℕ) (rd rd' : Option (List ℕ)) (line : List ℕ) → ReadsLine rd rd' (Ok false) line → Reads d (place None n rd) (place None n rd') [] (Err (Fault NoHeader))
-no_header d n rd rd' line h = record { lines = []; rest = []; consumed = h.0; passed = λ x. refl; met = λ x e. ap (λ w. read_on d None n [] w) (left_none rd' x h.1 e) }
+no_header d n rd rd' line h = record { lines = []; rest = []; consumed = h.0; passed = λ x. refl; met = λ x e. ap (λ w. read_on d None n [] w) (left_none rd' x h.1 e); counted = omega arith }
 
 pub no_line : (d : Dialect) (l : Shape) (n : ℕ) (rd rd' : Option (List ℕ)) (line : List ℕ) → ReadsLine rd rd' (Ok false) line → Reads d (place (Some l) n rd) (place (Some l) n rd') [] (Ok false)
-no_line d l n rd rd' line h = record { lines = []; rest = []; consumed = h.0; passed = λ x. refl; met = (refl, h.1, refl) }
+no_line d l n rd rd' line h = record { lines = []; rest = []; consumed = h.0; passed = λ x. refl; met = (refl, h.1, refl); counted = omega arith }
 
 -- a whole line without a fault
 pub line_read : (d : Dialect) (heap opened : Option Shape) (n : ℕ) (rd rd' : Option (List ℕ)) (line : List ℕ) (cs : List Command)
-    → ReadsLine rd rd' (Ok true) line → Ok (opened, cs) ≡ read_line d heap line → Reads d (place heap n rd) (place opened (n + 1) rd') cs (Ok true)
-line_read d heap opened n rd rd' line cs h e = record {
+    → length cs ≤ 1 → ReadsLine rd rd' (Ok true) line → Ok (opened, cs) ≡ read_line d heap line → Reads d (place heap n rd) (place opened (n + 1) rd') cs (Ok true)
+line_read d heap opened n rd rd' line cs few h e = record {
   lines = line ++ 10 ∷ [];
   rest = [];
   consumed = subst (λ (w : List ℕ). Consumes rd rd' w) (sym (append-nil (line ++ 10 ∷ []))) h.0;
   passed = λ x. line_done line d heap n h.1 h.2 x ∙ ap (λ r. after_line heap n r (λ to. read_on d to (n + 1) [] x)) (sym e);
   met = refl;
+  counted = omega arith;
 }
+
+list_few : (o : Option Command) → length (option_to_list o) ≤ 1
+list_few None = omega arith
+list_few (Some c) = omega arith
 
 pub command_read : (d : Dialect) (l : Shape) (n : ℕ) (rd rd' : Option (List ℕ)) (line : List ℕ) (o : Option Command) → ReadsLine rd rd' (Ok true) line → Ok o ≡ read_command l d line
     → Reads d (place (Some l) n rd) (place (Some l) (n + 1) rd') (option_to_list o) (Ok true)
-command_read d l n rd rd' line o h e = line_read d (Some l) (Some l) n rd rd' line (option_to_list o) h (rw (← e) refl)
+command_read d l n rd rd' line o h e = line_read d (Some l) (Some l) n rd rd' line (option_to_list o) (list_few o) h (rw (← e) refl)
 
 -- a line has a byte at least, its line feed
 pub takes_some : (n : ℕ) (bytes line : List ℕ) → take n bytes ≡ line ++ 10 ∷ [] → 0 < n
@@ -87,6 +91,7 @@ line_faulty d heap n rd rd' line f h e = record {
   consumed = h.0;
   passed = λ x. refl;
   met = λ x _. line_done line d heap n h.1 h.2 x ∙ ap (λ r. after_line heap n r (λ to. read_on d to (n + 1) [] x)) (sym e);
+  counted = omega arith;
 }
 
 pub command_faulty : (d : Dialect) (l : Shape) (n : ℕ) (rd rd' : Option (List ℕ)) (line : List ℕ) (f : TraceFault) → ReadsLine rd rd' (Ok true) line → Err f ≡ read_command l d line
@@ -95,7 +100,7 @@ command_faulty d l n rd rd' line f h e = line_faulty d (Some l) n rd rd' line f 
 
 -- lines, and then more
 pub reads_none : (d : Dialect) (p : Place) → Reads d p p [] (Ok true)
-reads_none d p = record { lines = []; rest = []; consumed = Consumes-nil p.left; passed = λ x. refl; met = refl }
+reads_none d p = record { lines = []; rest = []; consumed = Consumes-nil p.left; passed = λ x. refl; met = refl; counted = omega arith }
 
 pub reads_then : (d : Dialect) (a b c : Place) (cs ds : List Command) (r : Result Bool Stop) → Reads d a b cs (Ok true) → Reads d b c ds r → Reads d a c (cs ++ ds) r
 reads_then d a b c cs ds r p q = record {
@@ -106,4 +111,5 @@ reads_then d a b c cs ds r p q = record {
   passed = λ x. ap (λ w. read_on d a.heap a.number [] w) (append_assoc p.lines q.lines x) ∙ p.passed (q.lines ++ x) ∙ ap (before cs) (q.passed x)
       ∙ ap (λ (w : List Command). record { heap = (read_on d c.heap c.number [] x).heap; commands = w; fault = (read_on d c.heap c.number [] x).fault }) (sym (append_assoc cs ds _));
   met = q.met;
+  counted = omega (arith, p.counted, q.counted, length-append cs ds);
 }

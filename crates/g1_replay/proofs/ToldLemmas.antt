@@ -1,8 +1,7 @@
 -- From what was read and played to the text of a permitted run.
-use Rattle.std.specs.Prelude.{◌≡◌, ◌≢◌, ◌≤◌, ◌++◌, ◌⊎◌}
-use Rattle.g1_replay.specs.{Bool, ℕ, List, [], refl, length, sym, ap, ◌∙◌, subst, arith, Option, Some, None, true, Result, Ok, Err, IfErr, IfSome, IfNone, Shape, opening, Entry, IsPermitted, History, IsHistory, BookTerms, layout_in, Command, Dialect, Options, Stop, Fault, NoMemory, BookFull, NoThread, Told, PrintsSome, written_by, puts_none, ⊎_elim, end_met, AreSetBy, entries_of, IsNewMachinery, Machinery, stepping, Scene, Follows, inl, inr, MayStop, Prints, IsReadStop, Reads, place, Spot, spot, with_heap, dialect_in, Run}
-use Rattle.g1_replay.proofs.PlayingLemmas.{none_undone}
-use Rattle.g1_replay.proofs.ReadingLemmas.{reads_then}
+use Rattle.g1_replay.specs.{◌≡◌, ◌≢◌, ◌≤◌, ◌++◌, ◌⊎◌, ◌∙◌, Bool, ℕ, List, [], refl, length, sym, ap, subst, arith, Option, Some, None, true, Result, Ok, Err, IfErr, IfSome, IfNone, Shape, opening, Entry, IsPermitted, History, IsHistory, BookTerms, layout_in, Command, Options, Stop, NoMemory, BookFull, NoThread, Told, PrintsSome, written_by, puts_none, ⊎_elim, end_met, AreSetBy, entries_of, IsNewMachinery, Machinery, stepping, Scene, Follows, inl, inr, MayStop, IsReadStop, Reads, place, Spot, spot, with_heap, dialect_in, Run}
+use Rattle.g1_replay.proofs.EndLemmas.{written_as}
+use Rattle.g1_replay.proofs.PlayingLemmas.{none_undone, reads_behind}
 use Rattle.g1_replay.proofs.SteppedLemmas.{stepped_played}
 
 abbrev no_command : List Command
@@ -44,12 +43,7 @@ head_told o old new out stop h read = told_nothing o old new out None stop (λ e
 -- a header, and no memory for what it asks for
 pub unopened_told : (o : Options) (old new : Spot) (l : Shape) (out : Option (List ℕ)) → Reads (dialect_in Run o) (with_heap None old) (with_heap (Some l) new) [] (Ok true) → PrintsSome (Told o old new) out out (Err NoMemory)
 unopened_told o old new l out read =
-    told_nothing o old new out (Some l) NoMemory (λ e. cc) (λ e. cc) (record { lines = read.lines; rest = read.rest; consumed = read.consumed; passed = read.passed; met = read.met })
-
-pub written_as : (out out' : Option (List ℕ)) (r : Result (Unit {0}) Stop) (text : List ℕ) → Prints out out' (end_met r) text → Prints out out' r text
-written_as out out' (Ok done) text w = w
-written_as out out' (Err (Fault f)) text w = w
-written_as out out' (Err stop) text w = w
+    told_nothing o old new out (Some l) NoMemory (λ e. cc) (λ e. cc) (record { lines = read.lines; rest = read.rest; consumed = read.consumed; passed = read.passed; met = read.met; counted = read.counted })
 
 -- neither a line nor a command starts a thread
 starts_none : (r : Result (Unit {0}) Stop) → IfErr r (λ stop. IsReadStop stop ⊎ MayStop stop) → r ≢ Err NoThread
@@ -76,9 +70,7 @@ played_told o n n' from to rd rd1 rd' r is_run at_end opened head f stops h =
         done = f.done.done;
         undone = f.done.undone;
         ends = starts_none r stops;
-        read = reads_then (dialect_in Run o) _ _ _ [] f.commands (end_met r) head
-            (subst (λ (k : ℕ). Reads (dialect_in Run o) (place (Some a.layout) a.source.now.number rd1) (place (Some a.layout) k rd') f.commands (end_met r)) at_end
-            (subst (λ (d : Dialect). Reads d (place (Some a.layout) a.source.now.number rd1) (place (Some a.layout) to.commands.source.now.number rd') f.commands (end_met r)) is_run f.read));
+        read = reads_behind stepping.deeds (dialect_in Run o) n n' from to rd rd1 rd' (end_met r) is_run at_end head f;
         all = f.done.all;
         stopped = f.done.stopped;
         unopened = tt;

@@ -1,8 +1,7 @@
 -- Drains of a core, one after another.
-use Rattle.std.specs.Prelude.{◌≡◌, ◌∷◌, ◌++◌}
-use Rattle.g1_replay.specs.Prelude.{ℕ, List, [], refl, sym, ap, ◌∙◌, subst, flat_map-append}
-use Rattle.g1_replay.specs.Prelude.{Drained, drain_entry, Machine, IsStep, Table, Command, Drain}
-use Rattle.g1_replay.specs.Prelude.{Call}
+use Rattle.g1_replay.specs.Prelude.{◌≡◌, ◌∷◌, ◌++◌, ◌∙◌, ℕ, List, [], refl, sym, ap, subst}
+use Rattle.g1_replay.specs.Prelude.{flat_map-append, Drained, drain_entry, Machine, IsStep, Table}
+use Rattle.g1_replay.specs.Prelude.{Command, Drain, Call}
 use Rattle.g1_replay.specs.Drains.{Draining}
 use Rattle.g1_replay.specs.Race.{drain_text, drained_text}
 

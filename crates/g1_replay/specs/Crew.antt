@@ -1,16 +1,13 @@
 -- What a crew writes: how many stores its run has, and the drains that end it.
-use Rattle.std.specs.Prelude.{◌≡◌, ◌≢◌, ◌≤◌, ◌==◌, ◌⊎◌, ◌+◌, ◌++◌, if◌then◌else◌}
-use Rattle.g1_replay.specs.Prelude.{ℕ, List, [], Result, Ok, Err, length, count_by, Shape, opening}
-use Rattle.g1_replay.specs.Prelude.{Entry, IsPermitted, is_store, Refusal, Command, stores_text}
-use Rattle.g1_replay.specs.Prelude.{Option, None, IfSome, IsErrAnd, Options}
+use Rattle.g1_replay.specs.Prelude.{◌≡◌, ◌≢◌, ◌≤◌, ◌==◌, ◌⊎◌, ◌+◌, ◌++◌, if◌then◌else◌, ℕ, List, []}
+use Rattle.g1_replay.specs.Prelude.{Result, Ok, Err, length, count_by, Shape, opening, Entry}
+use Rattle.g1_replay.specs.Prelude.{IsPermitted, is_store, Refusal, Command, stores_text, Option}
+use Rattle.g1_replay.specs.Prelude.{None, IfSome, IsErrAnd, Options, Stop, BookFull, NoMemory}
+use Rattle.g1_replay.specs.Prelude.{NoThread}
 use Rattle.g1_history.specs.declared.refusal.Refusal.TheVariants as refusal
-use Rattle.g1_trace.specs.declared.mode.Mode.TheVariants as mode
-use Rattle.g1_replay.specs.declared.stop.Stop.{Stop}
-use Rattle.g1_replay.specs.declared.stop.Stop.TheVariants.{BookFull, NoMemory, NoThread}
 use Rattle.g1_replay.specs.Drains.{drains}
 use Rattle.g1_replay.specs.Pieces.{Piece, Walks, lines_of, entries_of}
-use Rattle.g1_replay.specs.Output.{dialect_in}
-use Rattle.g1_replay.specs.Scripted.{IsRunEnd, IsUnstarted, Scripting}
+use Rattle.g1_replay.specs.Scripted.{IsRunEnd, IsUnstarted}
 use Rattle.g1_replay.specs.Scripts.{is_store_command, HasCome, IsScriptFor}
 
 -- why a crew ends one of whose calls was refused, by a book of this many entries
@@ -73,7 +70,3 @@ pub record CrewRan (o : Options) (l : Shape) (commands : List Command)
   pub entries : List Entry
   pub made : IsUnrun r entries text ⊎ AreOfCallers o commands refused entries
   pub ended : CrewDrained (crew_book o.history l refused entries) commands r text
-
--- the scripts of a crew
-abbrev pub crewing : Options → Scripting
-crewing o = record { dialect = dialect_in mode.Crew o; ran = CrewRan o }

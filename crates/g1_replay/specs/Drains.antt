@@ -1,9 +1,6 @@
 -- The drains that end a crew or a race.
-use Rattle.std.specs.Prelude.{◌≡◌, ◌∷◌, ◌++◌}
-use Rattle.g1_replay.specs.Prelude.{ℕ, zero, suc, List, [], Result, Ok, Err, Command, Drain}
-use Rattle.g1_replay.specs.Prelude.{Call, Shape}
-use Rattle.g1_replay.specs.declared.stop.Stop.{Stop}
-use Rattle.g1_replay.specs.declared.stop.Stop.TheVariants.{BookFull}
+use Rattle.g1_replay.specs.Prelude.{◌≡◌, ◌∷◌, ◌++◌, stores_text, ℕ, zero, suc, List, [], Result, Ok}
+use Rattle.g1_replay.specs.Prelude.{Err, Command, Drain, Call, Shape, Stop, BookFull}
 use Rattle.g1_replay.specs.Playing.{At, Deeds, Prints}
 
 -- the drains of the first k regions, in order
@@ -31,13 +28,14 @@ deeds_of d = record {
   then = λ s t u cs ds es xs ys. d.then s t u cs ds xs ys;
 }
 
--- The drains of the first regions were made, and this is their text; at the end without a stop
--- those of all regions. Where a book is full, it is full then.
-pub record HasDrained {S : Type 0} (d : Draining S) (regions : ℕ) (old new : At S)
+-- How many stores there were was written, and the lines of drains of the first regions behind it,
+-- with this text; at the end without a stop those of all regions. Where a book is full, it is full
+-- then.
+pub record HasDrained {S : Type 0} (d : Draining S) (regions stores : ℕ) (old new : At S)
     (r : Result (Unit {0}) Stop) : Type 0 where
   pub drained : ℕ
   pub text : List ℕ
   pub played : d.did old.state (drains drained) text new.state
   pub filled : r ≡ Err BookFull → d.full new.state
   pub all : r ≡ Ok tt → drained ≡ regions
-  pub written : Prints old.written new.written r text
+  pub written : Prints old.written new.written r (stores_text stores ++ text)

@@ -1,8 +1,8 @@
 -- Pieces behind pieces, and plays that follow each other.
-use Rattle.std.specs.Prelude.{◌≡◌, ◌∷◌, ◌++◌}
-use Rattle.g1_replay.specs.Prelude.{ℕ, List, [], refl, sym, ◌∙◌, ap, subst, append_assoc}
-use Rattle.g1_replay.specs.Prelude.{vec_len, append-nil, flat_map-append, Settings, Entry, History}
-use Rattle.g1_replay.specs.Prelude.{BookTerms, layout_in, Grows, grows_none, grows_then, Command}
+use Rattle.g1_replay.specs.Prelude.{◌≡◌, ◌∷◌, ◌++◌, ◌∙◌, ℕ, List, [], refl, sym, ap, subst}
+use Rattle.g1_replay.specs.Prelude.{append_assoc, vec_len, append-nil, flat_map-append, Settings}
+use Rattle.g1_replay.specs.Prelude.{Entry, History, BookTerms, layout_in, Grows, grows_none}
+use Rattle.g1_replay.specs.Prelude.{grows_then, Command}
 use Rattle.g1_replay.specs.declared.runs.machinery.Machinery.{Machinery}
 use Rattle.g1_replay.specs.Drains.{Draining}
 use Rattle.g1_replay.specs.Playing.{HasPlayed, IsBookFull, IsReady, MayStop, Plays}

@@ -13,11 +13,9 @@ pub mod Race
 pub mod CoreDrains
 pub mod RaceJobs
 pub mod Scripts
-pub mod Still
 pub mod Parties
 pub mod Played
 pub mod Stepped
-pub mod Opened
 unfoldable pub use Prelude.*
 pub use Lines.*
 pub use Reading.*
@@ -32,13 +30,9 @@ pub use Race.*
 pub use CoreDrains.*
 pub use RaceJobs.*
 pub use Scripts.*
-pub use Still.*
 pub use Parties.*
 pub use Played.*
 pub use Stepped.*
-pub use Opened.*
-pub use declared.end.End.{End}
-pub use declared.end.End.TheVariants.{Refused, Whole}
 pub use declared.lines.line.Byte.{Byte}
 pub use declared.lines.line.Part.{Part}
 pub use declared.lines.line.Part.TheVariants.{Failed, More, Nothing}
@@ -48,6 +42,3 @@ pub use declared.races.desk.Party.TheVariants.{Racing, Sweeping}
 pub use declared.races.parties.Returned.{Returned}
 pub use declared.races.opening.OpenRace.{OpenRace}
 pub use declared.runs.machinery.Machinery.{Machinery}
-pub use declared.stop.Stop.{Stop}
-pub use declared.stop.Stop.TheVariants.{BookFull, Fault, NoMemory, NoThread, ReadFailed}
-pub use declared.stop.Stop.TheVariants.{WriteFailed}

@@ -1,16 +1,14 @@
 -- What a read of one line takes from the bytes that a reader has left.
-use Rattle.std.specs.Prelude.{◌≡◌, ◌≢◌, ◌∷◌, ◌++◌, ◌≤◌, ◌<◌}
-use Rattle.g1_replay.specs.Prelude.{ℕ, List, [], length, take, slice_index, Bool, true, false}
-use Rattle.g1_replay.specs.Prelude.{Result, Ok, Err, Option, Some, None, Consumes, IsAtEnd, IsPart}
-use Rattle.g1_replay.specs.Prelude.{TooLong, Cut}
+use Rattle.g1_replay.specs.Prelude.{◌≡◌, ◌≢◌, ◌∷◌, ◌++◌, ◌≤◌, ◌<◌, ℕ, List, [], length, take}
+use Rattle.g1_replay.specs.Prelude.{slice_index, Bool, true, false, Result, Ok, Err, Option, Some}
+use Rattle.g1_replay.specs.Prelude.{None, Consumes, IsAtEnd, IsPart, TooLong, Cut, Stop, Fault}
+use Rattle.g1_replay.specs.Prelude.{ReadFailed}
 use Rattle.g1_replay.specs.declared.lines.line.Byte.{Byte}
 use Rattle.g1_replay.specs.declared.lines.line.Byte.TheVariants.{Some as OneByte, End as NoByte}
 use Rattle.g1_replay.specs.declared.lines.line.Byte.TheVariants.{Failed as FailedByte}
 use Rattle.g1_replay.specs.declared.lines.line.Part.{Part}
 use Rattle.g1_replay.specs.declared.lines.line.Part.TheVariants.{Whole, TooLong as LongPart, More}
 use Rattle.g1_replay.specs.declared.lines.line.Part.TheVariants.{Nothing, Failed}
-use Rattle.g1_replay.specs.declared.stop.Stop.{Stop}
-use Rattle.g1_replay.specs.declared.stop.Stop.TheVariants.{Fault, ReadFailed}
 
 -- one read of one byte
 abbrev pub ReadsByte : Option (List ℕ) → Option (List ℕ) → Byte → Type 0

@@ -1,19 +1,11 @@
 -- What a replay writes: the text of a permitted run of the commands that were read.
-use Rattle.std.specs.Prelude.{◌≡◌, ◌≢◌, ◌≤◌, ◌⊎◌, ◌++◌}
-use Rattle.g1_replay.specs.Prelude.{ℕ, List, [], Bool, false, Result, Ok, Err, Option, Some, None}
-use Rattle.g1_replay.specs.Prelude.{IfSome, IfNone, length, Appends, Shape, opening}
-use Rattle.g1_replay.specs.Prelude.{IsPermitted, Command, Dialect, TraceFault, Options}
+use Rattle.g1_replay.specs.Prelude.{◌≡◌, ◌≢◌, ◌≤◌, ◌⊎◌, ◌++◌, ℕ, List, [], Bool, false, Result, Ok}
+use Rattle.g1_replay.specs.Prelude.{Err, Option, Some, None, IfSome, IfNone, length, Appends, Shape}
+use Rattle.g1_replay.specs.Prelude.{opening, IsPermitted, Command, Dialect, TraceFault, Options}
 use Rattle.g1_replay.specs.Prelude.{AppendsFront, fault_line, no_memory_line, book_full_line}
-use Rattle.g1_replay.specs.Prelude.{no_thread_line, read_failed_line, read_trace}
-use Rattle.g1_trace.specs.declared.mode.Mode.{Mode}
-use Rattle.g1_trace.specs.declared.mode.Mode.TheVariants.{Run}
-use Rattle.g1_replay.specs.declared.end.End.{End}
-use Rattle.g1_replay.specs.declared.end.End.TheVariants.{Whole, Refused, Stopped}
-use Rattle.g1_replay.specs.declared.end.End.TheVariants.{ReadFailed as EndReadFailed}
-use Rattle.g1_replay.specs.declared.end.End.TheVariants.{WriteFailed as EndWriteFailed}
-use Rattle.g1_replay.specs.declared.stop.Stop.{Stop}
-use Rattle.g1_replay.specs.declared.stop.Stop.TheVariants.{Fault, NoMemory, BookFull, NoThread}
-use Rattle.g1_replay.specs.declared.stop.Stop.TheVariants.{ReadFailed, WriteFailed}
+use Rattle.g1_replay.specs.Prelude.{no_thread_line, read_failed_line, read_trace, End, Stop, Fault}
+use Rattle.g1_replay.specs.Prelude.{NoMemory, BookFull, NoThread, ReadFailed, WriteFailed, Mode}
+use Rattle.g1_replay.specs.Prelude.{Run, Whole, Refused, Stopped, EndReadFailed, EndWriteFailed}
 use Rattle.g1_replay.specs.Pieces.{Piece, AreSetBy, Walks, lines_of, entries_of}
 use Rattle.g1_replay.specs.Playing.{IsUndone}
 use Rattle.g1_replay.specs.Stepped.{IsSteppedText}

@@ -1,9 +1,9 @@
 -- The calls that each command of a trace makes, and the line that is printed of them.
-use Rattle.std.specs.Prelude.{◌≡◌, ◌≤◌, ◌⊎◌, ◌||◌, ◌∷◌, ◌++◌, if◌then◌else◌}
-use Rattle.g1_replay.specs.Prelude.{ℕ, Bool, true, false, List, [], All, flat_map, sum_by, length}
-use Rattle.g1_replay.specs.Prelude.{Kind, Logged, Fill, No, Full, Helped, Entry, Reply, Settings}
-use Rattle.g1_replay.specs.Prelude.{round_size, Command, stored_line, flushed_line, refined_line}
-use Rattle.g1_replay.specs.Prelude.{worked_line, call_line, FlushReply}
+use Rattle.g1_replay.specs.Prelude.{◌≡◌, ◌≤◌, ◌⊎◌, ◌||◌, ◌∷◌, ◌++◌, if◌then◌else◌, ℕ, Bool, true}
+use Rattle.g1_replay.specs.Prelude.{false, List, [], All, flat_map, sum_by, length, Kind, Logged}
+use Rattle.g1_replay.specs.Prelude.{Fill, No, Full, Helped, Entry, Reply, Settings, round_size}
+use Rattle.g1_replay.specs.Prelude.{Command, stored_line, flushed_line, refined_line, worked_line}
+use Rattle.g1_replay.specs.Prelude.{call_line, FlushReply}
 use Rattle.g1_core.specs.declared.entry.Call.{Call}
 use Rattle.g1_core.specs.declared.entry.Call.TheVariants.{Store, Refine}
 use Rattle.g1_core.specs.declared.entry.Reply.TheVariants as reply

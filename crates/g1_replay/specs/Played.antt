@@ -1,20 +1,17 @@
 -- What each command of a trace does to the machinery that it is played on, and what it answers.
-use Rattle.std.specs.Prelude.{◌≡◌, ◌<◌, ◌⊎◌}
-use Rattle.g1_replay.specs.Prelude.{ℕ, Bool, true, false, List, [], length, set, slice_index_or}
-use Rattle.g1_replay.specs.Prelude.{Option, Result, Ok, Err, Appends, Puts, Reply, History}
-use Rattle.g1_replay.specs.Prelude.{layout_in, card_of, StoreReply, RefineReply, FlushReply}
-use Rattle.g1_replay.specs.Prelude.{Refusal, Mutator, Taker, CallMade, AreCalls, IsBookCall}
-use Rattle.g1_replay.specs.Prelude.{IsStoreStep, IsFlushStep, IsRefineStep, IsWorkStep, IsStopped}
-use Rattle.g1_replay.specs.Prelude.{Empties, IsSameTaker, taken_of, capacity_of, MakesAsked}
-use Rattle.g1_replay.specs.Prelude.{Command, store_text, refine_text, work_text, call_line}
+use Rattle.g1_replay.specs.Prelude.{◌≡◌, ◌<◌, ◌⊎◌, Drain, Redirect, ℕ, Bool, true, false, List, []}
+use Rattle.g1_replay.specs.Prelude.{length, set, slice_index_or, Option, Result, Ok, Err, Appends}
+use Rattle.g1_replay.specs.Prelude.{Puts, Reply, History, layout_in, card_of, StoreReply}
+use Rattle.g1_replay.specs.Prelude.{RefineReply, FlushReply, Refusal, Mutator, Taker, CallMade}
+use Rattle.g1_replay.specs.Prelude.{AreCalls, IsBookCall, IsStoreStep, IsFlushStep, IsRefineStep}
+use Rattle.g1_replay.specs.Prelude.{IsWorkStep, IsStopped, Empties, IsSameTaker, taken_of}
+use Rattle.g1_replay.specs.Prelude.{capacity_of, MakesAsked, Command, store_text, refine_text}
+use Rattle.g1_replay.specs.Prelude.{work_text, call_line, Stop, WriteFailed}
 use Rattle.g1_core.specs.declared.entry.Call.{Call}
 use Rattle.g1_trace.specs.declared.command.Command.TheVariants as command
 use Rattle.g1_replay.specs.declared.runs.machinery.Machinery.{Machinery}
-use Rattle.g1_replay.specs.declared.stop.Stop.{Stop}
-use Rattle.g1_replay.specs.declared.stop.Stop.TheVariants.{WriteFailed}
 use Rattle.g1_replay.specs.Pieces.{flush_text}
 use Rattle.g1_replay.specs.Playing.{At, stop_of, written_by}
-use Rattle.g1_replay.specs.Still.{is_pause}
 
 -- This caller makes these calls at a book, and nobody else makes one.
 abbrev pub CallsBy : ℕ → History → List CallMade → History → Type 0
@@ -65,6 +62,17 @@ WorksAt old result new =
     FirstSteps (λ before after. IsWorkStep (CallsBy 0) old.line old.book.machine.settings.start
     old.book before result after new.book) old new
     × (new.mutators ≡ old.mutators)
+
+-- whether the mutators stand still for a call
+abbrev pub is_pause : Call → Bool
+is_pause (Drain region) = true
+is_pause (Redirect from to) = true
+is_pause _ = false
+
+-- The log of each is empty.
+abbrev pub AreStill : List Mutator → Type 0
+AreStill mutators =
+    (k : ℕ) (d : Mutator) → k < length mutators → (slice_index_or mutators k d).log.cards ≡ []
 
 -- The mutators stand still: the log of each was emptied, and the queue by the first taker.
 pub record StandStill (old new : Machinery) : Type 0 where

@@ -1,14 +1,12 @@
 -- What is done with the commands of a trace, between two states of the reader, the writer and the
 -- one that plays.
-use Rattle.std.specs.Prelude.{◌≡◌, ◌≤◌, ◌∷◌, ◌++◌, ◌⊎◌, ◌<◌, ◌+◌}
-use Rattle.g1_replay.specs.Prelude.{ℕ, List, [], Bool, Result, Ok, Err, Option, length, take}
-use Rattle.g1_replay.specs.Prelude.{IfErr, IfSome, IsNone, OnOk, Consumes, Shape, Line, capacity_of}
-use Rattle.g1_replay.specs.Prelude.{History, opened, layout_in, Grows, Refusal, Command, Dialect}
-use Rattle.g1_replay.specs.Prelude.{Options, Puts}
+use Rattle.g1_replay.specs.Prelude.{◌≡◌, ◌≤◌, ◌∷◌, ◌++◌, ◌⊎◌, ◌<◌, ◌+◌, ℕ, List, [], Bool, Result}
+use Rattle.g1_replay.specs.Prelude.{Ok, Err, Option, length, take, IfErr, IfSome, IsNone, OnOk}
+use Rattle.g1_replay.specs.Prelude.{Consumes, Shape, Line, capacity_of, History, opened, layout_in}
+use Rattle.g1_replay.specs.Prelude.{Grows, Refusal, Command, Dialect, Options, Puts, Stop, NoMemory}
+use Rattle.g1_replay.specs.Prelude.{BookFull, WriteFailed}
 use Rattle.g1_history.specs.declared.refusal.Refusal.TheVariants as refusal
 use Rattle.g1_replay.specs.declared.lines.source.Commands.{Commands}
-use Rattle.g1_replay.specs.declared.stop.Stop.{Stop}
-use Rattle.g1_replay.specs.declared.stop.Stop.TheVariants.{NoMemory, BookFull, WriteFailed}
 use Rattle.g1_replay.specs.Pieces.{Piece, AreSetBy, Walks, lines_of, entries_of}
 use Rattle.g1_replay.specs.Reading.{IsOfTrace, IsReadStop, ReadsBehind, more_may_come}
 

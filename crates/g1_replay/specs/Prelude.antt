@@ -14,7 +14,7 @@ pub use Rattle.std.proofs.lemmas.List.{drop-take, get_or-map, get_or-set_other, 
 pub use Rattle.std.proofs.lemmas.List.{length-append, length-drop, length-map, length-set}
 pub use Rattle.std.proofs.lemmas.List.{take-append-drop, take-take, take_more}
 pub use Rattle.std.proofs.lemmas.List.Concat.{flat_map-append}
-pub use Rattle.std.proofs.lemmas.List.Elements.{All-cons, All-contains, All-head, All-nil, All-pop}
+pub use Rattle.std.proofs.lemmas.List.Elements.{All-cons, All-head, All-nil, All-pop}
 pub use Rattle.std.proofs.lemmas.List.Elements.{All-push, All-rest, All-same, All-set, All-tail}
 pub use Rattle.std.proofs.lemmas.List.Elements.{filter_map-append, length_all_zip}
 pub use Rattle.std.proofs.lemmas.List.Sums.{count_by-le-length, sum_by-append, sum_by-cons}
@@ -29,6 +29,8 @@ pub use Rattle.std.specs.Prelude.{[], All, Bool, codes, count_by, Err, IfErr, If
 pub use Rattle.std.specs.Prelude.{IsErrAnd, IsNone, IsSome, MatchResult, Ok, OnErr, OnOk}
 pub use Rattle.std.specs.Prelude.{option_to_list, Result, slice_index, slice_index_or, sum_by}
 pub use Rattle.std.specs.Prelude.{unwrap_or, zero}
+pub use Rattle.std.specs.Prelude.{replicate, filter, if◌then◌else◌, ◌≡◌, ◌≢◌, ◌<◌, ◌≤◌, ◌+◌, ◌-◌}
+pub use Rattle.std.specs.Prelude.{◌*◌, ◌^◌, ◌==◌, ◌&&◌, ◌||◌, ◌⊎◌, ◌∷◌, ◌++◌}
 pub use Rattle.std.specs.Vec.Iter.{into_iter_items, into_iter_len}
 pub use Rattle.arrayvec.specs.ArrayVec.{array_vec_len}
 pub use Rattle.g1_core.specs.Adoption.{IsPairOf}
@@ -78,11 +80,11 @@ pub use Rattle.g1_race_words.specs.Rule.{BeganInto, beginning, histories_of, In,
 pub use Rattle.g1_race_words.specs.Rule.{StoreHistory}
 pub use Rattle.g1_race_words.specs.Steps.{gains_store}
 pub use Rattle.g1_race_words.specs.declared.view.View.{View}
-pub use Rattle.g1_shared.specs.Callers.{CallerState, IsCallerOf}
-pub use Rattle.g1_shared.specs.Callers.{AreMadeBy, IsTold}
+pub use Rattle.g1_shared.specs.Callers.{AreMadeBy, CallerState, IsCallerOf}
 pub use Rattle.g1_shared.specs.Counts.{CallerCounts, kept_terms, made_by, shared_terms}
 pub use Rattle.g1_shared.specs.Counts.{stored_by}
 pub use Rattle.g1_shared.specs.Did.{most_for}
+pub use Rattle.g1_shared.specs.Prelude.{entries_by}
 pub use Rattle.g1_steps.proofs.StepLemmas.{grows_none, grows_then}
 pub use Rattle.g1_steps.specs.Ask.{Ask, AskFlush, asks_in, asks_of, AskStore, AskWork, is_store_ask}
 pub use Rattle.g1_steps.specs.Ask.{JobRan, Ran, ScriptFits, StepFits}
@@ -91,7 +93,7 @@ pub use Rattle.g1_steps.specs.Made.{AreCalls, CallMade, entries_made, Refined, S
 pub use Rattle.g1_steps.specs.Opening.{AreNewMutators}
 pub use Rattle.g1_steps.specs.Rounds.{IsRound, IsWorkStep, replies_of, round_calls, round_size}
 pub use Rattle.g1_steps.specs.Rounds.{Turn}
-pub use Rattle.g1_steps.specs.Served.{HasServed, ServesAll, was_made}
+pub use Rattle.g1_steps.specs.Served.{ServesAll, was_made}
 pub use Rattle.g1_steps.specs.Steps.{called, Empties, filled, flush_answer, Help, help_calls}
 pub use Rattle.g1_steps.specs.Steps.{IsFlushStep, IsRefineStep, IsStopped, IsStored, IsStoreStep}
 pub use Rattle.g1_steps.specs.Steps.{nothing_flushed, PutsBy, store_answer}
@@ -116,6 +118,14 @@ pub use Rattle.g1_trace.specs.declared.command.Command.TheVariants.{Call, Flush,
 pub use Rattle.g1_trace.specs.declared.dialect.Dialect.{Dialect}
 pub use Rattle.g1_trace.specs.declared.fault.TraceFault.{TraceFault}
 pub use Rattle.g1_trace.specs.declared.fault.TraceFault.TheVariants.{Cut, NoHeader, TooLong}
+pub use Rattle.g1_trace.specs.declared.mode.Mode.{Mode}
 pub use Rattle.g1_trace.specs.declared.mode.Mode.TheVariants.{Run}
 pub use Rattle.memchr.specs.Find.{is_byte}
 unfoldable pub use Rattle.memchr.specs.Find.{places_from}
+pub use Rattle.g1_replay.specs.declared.end.End.{End}
+pub use Rattle.g1_replay.specs.declared.end.End.TheVariants.{ReadFailed as EndReadFailed, Refused}
+pub use Rattle.g1_replay.specs.declared.end.End.TheVariants.{Stopped, Whole}
+pub use Rattle.g1_replay.specs.declared.end.End.TheVariants.{WriteFailed as EndWriteFailed}
+pub use Rattle.g1_replay.specs.declared.stop.Stop.{Stop}
+pub use Rattle.g1_replay.specs.declared.stop.Stop.TheVariants.{BookFull, Fault, NoMemory, NoThread}
+pub use Rattle.g1_replay.specs.declared.stop.Stop.TheVariants.{ReadFailed, WriteFailed}

@@ -1,15 +1,14 @@
 -- What a race writes: how many stores were made, and what the drains that follow answer.
-use Rattle.std.specs.Prelude.{◌≡◌, ◌≢◌, ◌⊎◌, ◌<◌, ◌==◌, ◌&&◌, if◌then◌else◌, ◌∷◌, ◌++◌}
-use Rattle.g1_replay.specs.Prelude.{ℕ, List, [], Result, Ok, Err, Option, Some}
-use Rattle.g1_replay.specs.Prelude.{None, Contains, codes, flat_map, count_by, length}
-use Rattle.g1_replay.specs.Prelude.{slice_index_or, option_or, Shape, slot_count, card_of}
-use Rattle.g1_replay.specs.Prelude.{region_of, region_of_card, Table, Holds, Drained, Cards, Short}
-use Rattle.g1_replay.specs.Prelude.{Command, Drain, Store, Call, drained_line, stores_text, Options}
+use Rattle.g1_replay.specs.Prelude.{◌≡◌, ◌≢◌, ◌⊎◌, ◌<◌, ◌==◌, ◌&&◌, if◌then◌else◌, ◌∷◌, ◌++◌, Mode}
+use Rattle.g1_replay.specs.Prelude.{ℕ, List, [], Result, Ok, Err, Option, Some, None, Contains}
+use Rattle.g1_replay.specs.Prelude.{codes, flat_map, count_by, length, slice_index_or, option_or}
+use Rattle.g1_replay.specs.Prelude.{Shape, slot_count, card_of, region_of, region_of_card, Table}
+use Rattle.g1_replay.specs.Prelude.{Holds, Drained, Cards, Short, Command, Drain, Store, Call}
+use Rattle.g1_replay.specs.Prelude.{drained_line, stores_text, Options, Stop, BookFull, NoThread}
 use Rattle.std.specs.List.Sorted.{IsStrictlyIncreasing}
 use Rattle.std.specs.FinSet as set
 use Rattle.g1_trace.specs.declared.mode.Mode.TheVariants as mode
-use Rattle.g1_replay.specs.declared.stop.Stop.{Stop}
-use Rattle.g1_replay.specs.declared.stop.Stop.TheVariants.{BookFull, NoThread}
+use Rattle.g1_replay.specs.Crew.{CrewRan}
 use Rattle.g1_replay.specs.Drains.{drains}
 use Rattle.g1_replay.specs.Output.{dialect_in}
 use Rattle.g1_replay.specs.Scripted.{IsRunEnd, ScriptEnd, Scripting}
@@ -93,6 +92,16 @@ abbrev pub RaceRan : ℕ → ScriptEnd
 RaceRan mutators l commands r text =
     IsRunEnd r × (r ≢ Err BookFull) × IsRaceText l mutators commands r text
 
--- the scripts of a race
+-- the scripts of traces in this mode: those of a race, or of a crew
+abbrev pub ran_in : Mode → Options → ScriptEnd
+ran_in mode.Race o = RaceRan o.mutators
+ran_in _ o = CrewRan o
+
+abbrev pub scripting : Mode → Options → Scripting
+scripting mode o = record { dialect = dialect_in mode o; ran = ran_in mode o }
+
+abbrev pub crewing : Options → Scripting
+crewing o = scripting mode.Crew o
+
 abbrev pub racing : Options → Scripting
-racing o = record { dialect = dialect_in mode.Race o; ran = RaceRan o.mutators }
+racing o = scripting mode.Race o

@@ -1,14 +1,15 @@
--- The jobs of a race, and the table that they leave.
-use Rattle.std.specs.Prelude.{◌≡◌, ◌⊎◌, ◌∷◌, ◌++◌}
-use Rattle.g1_replay.specs.Prelude.{ℕ, suc, nat_lt, List, [], Option, Some, None, filter_map}
-use Rattle.g1_replay.specs.Prelude.{Sender, Taker, Line, Race, Racer, Sweeper, racer_view, Ended}
-use Rattle.g1_replay.specs.Prelude.{refs_of, table_of, Holds, IsCovered, IsRecorded, IsPairOf}
-use Rattle.g1_replay.specs.Prelude.{Step, Command}
+-- What a race is opened with, its jobs, and the table that they leave.
+use Rattle.g1_replay.specs.Prelude.{◌+◌, ◌≡◌, ◌⊎◌, ◌∷◌, ◌++◌, vec_len, sum_by, Shape, Options}
+use Rattle.g1_replay.specs.Prelude.{capacity_of, line_rights, race_layout, race_shape, shape_of, ℕ}
+use Rattle.g1_replay.specs.Prelude.{suc, nat_lt, List, [], Option, Some, None, filter_map, Sender}
+use Rattle.g1_replay.specs.Prelude.{Taker, Line, Race, Racer, Sweeper, racer_view, Ended, refs_of}
+use Rattle.g1_replay.specs.Prelude.{table_of, Holds, IsCovered, IsRecorded, IsPairOf, Step, Command}
 use Rattle.g1_steps.specs.declared.crew.desk.Step.TheVariants as step
 use Rattle.g1_replay.specs.declared.races.desk.Party.{Party}
 use Rattle.g1_replay.specs.declared.races.desk.Party.TheVariants.{Racing, Sweeping}
+use Rattle.g1_replay.specs.declared.races.opening.OpenRace.{OpenRace}
 use Rattle.g1_replay.specs.declared.races.parties.Returned.{Returned}
-use Rattle.g1_replay.specs.Parties.{IsPartyOf, is_racer, party_logged}
+use Rattle.g1_replay.specs.Parties.{IsPartyOf, is_racer, party_logged, party_rights}
 use Rattle.g1_replay.specs.Race.{AreLeftBy, StoresInto}
 
 -- each item fits its place, the first of them place k
@@ -27,6 +28,16 @@ pub record IsNewParty (race : Race) (line : Line) (mutators k : ℕ) (m : Party)
   pub kind : is_racer m ≡ nat_lt k mutators
   pub logged : party_logged m ≡ 0
   pub fresh : HasStoredNothing m
+
+-- A race over this heap, of a racer for each mutator and a sweeper for each refinement thread. Its
+-- queue holds as many buffers as the limit says, and all ends of the queue are the parties'.
+pub record IsOpenedBy (l : Shape) (o : Options) (opened : OpenRace) : Type 0 where
+  pub layout : race_layout opened.race ≡ l
+  pub shape : race_shape opened.race ≡ shape_of l (o.mutators + o.refiners)
+  pub capacity : capacity_of opened.line ≡ o.config.limit
+  pub many : vec_len opened.parties ≡ o.mutators + o.refiners
+  pub parties : AllFrom (IsNewParty opened.race opened.line o.mutators) 0 opened.parties.items
+  pub ends : sum_by party_rights opened.parties.items ≡ line_rights
 
 -- in a race a script ends with a flush
 abbrev pub with_flush : {E : Type 0} → (E → List Step) → E → List Step

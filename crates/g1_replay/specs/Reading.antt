@@ -1,14 +1,12 @@
 -- What the calls that read lines take from the reader, and which part of the trace that is.
-use Rattle.std.specs.Prelude.{◌≡◌, ◌≤◌, ◌+◌, ◌*◌, ◌^◌, ◌∷◌, ◌++◌}
-use Rattle.g1_replay.specs.Prelude.{ℕ, List, [], length, Bool, true, false, Result, Ok, Err, Option}
-use Rattle.g1_replay.specs.Prelude.{Some, None, IsSome, Consumes, IsAtEnd, Shape, Command, Dialect}
-use Rattle.g1_replay.specs.Prelude.{IsCommandOf, read_on, before, faulty, IsPart}
+use Rattle.g1_replay.specs.Prelude.{◌≡◌, ◌≤◌, ◌+◌, ◌*◌, ◌^◌, ◌∷◌, ◌++◌, ℕ, List, [], length, Bool}
+use Rattle.g1_replay.specs.Prelude.{true, false, Result, Ok, Err, Option, Some, None, IsSome}
+use Rattle.g1_replay.specs.Prelude.{Consumes, IsAtEnd, Shape, Command, Dialect, IsCommandOf}
+use Rattle.g1_replay.specs.Prelude.{read_on, before, faulty, IsPart, Stop, Fault, ReadFailed}
 use Rattle.g1_replay.specs.declared.lines.next.Next.{Next}
 use Rattle.g1_replay.specs.declared.lines.next.Next.TheVariants.{End, Blank, Do}
 use Rattle.g1_replay.specs.declared.lines.source.Commands.{Commands}
 use Rattle.g1_replay.specs.declared.lines.source.Source.{Source}
-use Rattle.g1_replay.specs.declared.stop.Stop.{Stop}
-use Rattle.g1_replay.specs.declared.stop.Stop.TheVariants.{Fault, ReadFailed}
 
 -- x is what the reader has left, where that is known
 abbrev pub IsLeftToRead : Option (List ℕ) → List ℕ → Type 0
@@ -51,7 +49,8 @@ IsMet d p rest (Err (Fault f)) = (x : List ℕ) → IsLeftToRead p.left x
 IsMet d p rest (Err ReadFailed) = IsPart rest × (length rest ≤ 64)
 IsMet d p rest r = rest ≡ []
 
--- Whole lines without a fault were read, from one line to another, and then what comes there.
+-- Whole lines without a fault were read, from one line to another, and then what comes there. None
+-- has more than one command.
 pub record Reads (d : Dialect) (old new : Place) (commands : List Command)
     (r : Result Bool Stop) : Type 0 where
   pub lines : List ℕ
@@ -59,6 +58,7 @@ pub record Reads (d : Dialect) (old new : Place) (commands : List Command)
   pub consumed : Consumes old.left new.left (lines ++ rest)
   pub passed : Passes d old lines commands new
   pub met : IsMet d new rest r
+  pub counted : old.number + length commands ≤ new.number
 
 -- Commands are still those of the same trace, and their lines are counted in the same place.
 abbrev pub IsOfTrace : Commands → Commands → Type 0

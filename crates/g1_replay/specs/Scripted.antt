@@ -1,10 +1,7 @@
 -- A trace that is read whole before its scripts run.
-use Rattle.std.specs.Prelude.{◌≡◌, ◌⊎◌}
-use Rattle.g1_replay.specs.Prelude.{ℕ, List, [], false, Result, Ok, Option, Some, None, IfSome}
-use Rattle.g1_replay.specs.Prelude.{IfErr, IsErrAnd, Shape, Command, Dialect}
-use Rattle.g1_replay.specs.declared.end.End.{End}
-use Rattle.g1_replay.specs.declared.stop.Stop.{Stop}
-use Rattle.g1_replay.specs.declared.stop.Stop.TheVariants.{NoMemory, NoThread}
+use Rattle.g1_replay.specs.Prelude.{◌≡◌, ◌⊎◌, ℕ, List, [], false, Result, Ok, Option, Some, None}
+use Rattle.g1_replay.specs.Prelude.{IfSome, IfErr, IsErrAnd, Shape, Command, Dialect, End, Stop}
+use Rattle.g1_replay.specs.Prelude.{NoMemory, NoThread}
 use Rattle.g1_replay.specs.Output.{IsReplayed, Streams, Tale, end_met}
 use Rattle.g1_replay.specs.Playing.{MayStop}
 use Rattle.g1_replay.specs.Reading.{IsReadStop, Reads, Spot, with_heap}

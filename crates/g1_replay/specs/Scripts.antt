@@ -1,18 +1,16 @@
 -- The scripts of a crew or a race: what each caller is to do.
-use Rattle.std.specs.Prelude.{◌≡◌, ◌<◌, ◌≤◌, ◌==◌, ◌+◌, ◌∷◌, ◌++◌, if◌then◌else◌}
+use Rattle.g1_replay.specs.Prelude.{◌≡◌, ◌<◌, ◌≤◌, ◌==◌, ◌+◌, ◌∷◌, ◌++◌, if◌then◌else◌, ◌∙◌, filter}
 use Rattle.g1_replay.specs.Prelude.{ℕ, List, [], Bool, true, false, length, take, map, count_by}
 use Rattle.g1_replay.specs.Prelude.{slice_index_or, Option, Some, None, Result, Err, refl, sym}
-use Rattle.g1_replay.specs.Prelude.{subst, ap, ◌∙◌, append-nil, append_assoc, filter_map-append}
+use Rattle.g1_replay.specs.Prelude.{subst, ap, append-nil, append_assoc, filter_map-append}
 use Rattle.g1_replay.specs.Prelude.{add_assoc, add-zero, sum_by-append, sum_by, cond, filter_map}
 use Rattle.g1_replay.specs.Prelude.{option_or, Ask, asks_in, asks_of, is_store_ask, Step, Script}
-use Rattle.g1_replay.specs.Prelude.{Mutate, Refine, Refusal, Command, Store, Flush, Options}
-use Rattle.g1_replay.specs.Prelude.{All, slot_count, StepFits, vec_len, most_for, Entry, CallMade}
-use Rattle.g1_replay.specs.Prelude.{entries_made, ServesAll, was_made, is_store}
-use Rattle.g1_shared.specs.Prelude.{entries_by}
-use Rattle.std.specs.Prelude.{filter}
+use Rattle.g1_replay.specs.Prelude.{Mutate, Refine, Refusal, Command, Store, Flush, Options, All}
+use Rattle.g1_replay.specs.Prelude.{slot_count, StepFits, vec_len, most_for, Entry, CallMade}
+use Rattle.g1_replay.specs.Prelude.{entries_made, ServesAll, was_made, is_store, NoMemory}
+use Rattle.g1_replay.specs.Prelude.{entries_by}
 use Rattle.g1_steps.specs.declared.crew.desk.Step.TheVariants as step
 use Rattle.g1_replay.specs.declared.scripts.Scripts.{Scripts}
-use Rattle.g1_replay.specs.declared.stop.Stop.TheVariants.{NoMemory}
 use Rattle.g1_replay.specs.Playing.{MayStop, Plays}
 
 -- the call that a command asks of a mutator, and of which

@@ -1,8 +1,7 @@
 -- What the commands of a run come to, one after another: the steps of a new machinery.
-use Rattle.std.specs.Prelude.{◌≡◌, ◌∷◌, ◌++◌}
-use Rattle.g1_replay.specs.Prelude.{ℕ, List, [], All, vec_len, Option, Some, Ok, Err, Shape}
-use Rattle.g1_replay.specs.Prelude.{Options, Command, Refusal, capacity_of, AreNewMutators}
-use Rattle.g1_replay.specs.Prelude.{IsNewTaker}
+use Rattle.g1_replay.specs.Prelude.{◌≡◌, ◌∷◌, ◌++◌, ℕ, List, [], All, vec_len, Option, Some, Ok}
+use Rattle.g1_replay.specs.Prelude.{Err, Shape, Options, Command, Refusal, capacity_of}
+use Rattle.g1_replay.specs.Prelude.{AreNewMutators, IsNewTaker}
 use Rattle.g1_replay.specs.declared.runs.machinery.Machinery.{Machinery}
 use Rattle.g1_replay.specs.Playing.{IsOpened}
 use Rattle.g1_replay.specs.Played.{Makes}

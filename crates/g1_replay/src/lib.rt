@@ -22,6 +22,7 @@ mod end;
 mod lines;
 mod races;
 mod runs;
+mod scripted;
 mod scripts;
 mod stop;
 

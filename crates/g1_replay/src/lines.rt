@@ -4,7 +4,6 @@
 //! - `opening` reads the lines up to the header, and `Commands` of `source` those behind it: in
 //!   `playing` all of them, by `shown` what a reader shows as a whole, and else by `next`.
 //! - `player` says what is done with the commands.
-//! - `whole` reads a trace to its end, and keeps its scripts.
 
 mod line;
 mod next;
@@ -13,4 +12,3 @@ pub(crate) mod player;
 pub(crate) mod playing;
 mod shown;
 pub(crate) mod source;
-pub(crate) mod whole;

@@ -1,12 +1,11 @@
 //! A replay by threads whose stores race.
 //!
 //! - `play` runs it to its end.
-//! - `opening` opens it, `parties` and `desk` are those of the threads, `jobs` makes their calls,
-//!   and `output` prints what they leave.
+//! - `opening` opens it, `parties` and `desk` are those of the threads, and `jobs` makes their
+//!   calls.
 
 mod desk;
 mod jobs;
 mod opening;
-mod output;
 mod parties;
 pub(crate) mod play;

@@ -1,10 +1,9 @@
 //! The jobs of a crew, and the book that they leave.
-ghost use Rattle.std.specs.Prelude.{◌≡◌, ◌+◌, ◌≤◌, ◌^◌, ◌<◌};
-ghost use Rattle.g1_replay.specs.{[], true, IfErr, IfOk, All, map, count_by, sum_by};
-ghost use Rattle.g1_replay.specs.{vec_len, vec_capacity, IsCallerOf, is_store, kept_terms};
-ghost use Rattle.g1_replay.specs.{shared_terms, terms_of, slot_count, StepFits, AllFrom};
-ghost use Rattle.g1_replay.specs.{IsUnstarted, first_refusal, HasCome, IsScriptAt, stored_by};
-ghost use Rattle.g1_replay.specs.{layout_in, IsOpened};
+ghost use Rattle.g1_replay.specs.{◌≡◌, ◌+◌, ◌≤◌, ◌^◌, ◌<◌, [], true, IfErr, IfOk, All, map};
+ghost use Rattle.g1_replay.specs.{count_by, sum_by, vec_len, vec_capacity, IsCallerOf, is_store};
+ghost use Rattle.g1_replay.specs.{kept_terms, shared_terms, terms_of, slot_count, StepFits};
+ghost use Rattle.g1_replay.specs.{AllFrom, IsUnstarted, first_refusal, HasCome, IsScriptAt};
+ghost use Rattle.g1_replay.specs.{stored_by, layout_in, IsOpened};
 
 use crate::scripts::{next_script, refusal_of};
 use crate::stop::Stop;
@@ -12,7 +11,7 @@ use g1_history::{Book, Refusal};
 use g1_layout::NoMemory;
 use g1_options::Options;
 use g1_shared::{Caller, Ledgers, Shared, SharedDesk, Terms};
-use g1_steps::{Job, Script, Step, run_crew};
+use g1_steps::{Job, Step, run_crew};
 use std::alloc::Global;
 use std::marker::Send;
 use std::sync::Wait;

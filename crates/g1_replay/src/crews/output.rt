@@ -1,42 +1,12 @@
 //! What a crew prints of its book: how many stores there were, and a drain of each region.
-ghost use Rattle.std.specs.Prelude.{◌≡◌};
-ghost use Rattle.g1_replay.specs.{List, None, length, count_by, is_store, is_store_command};
+ghost use Rattle.g1_replay.specs.{◌≡◌, List, None, length, count_by, is_store, is_store_command};
 ghost use Rattle.g1_replay.specs.{Command, IsHistory, layout_in, CrewDrained, crew_book, crew_stop};
-ghost use Rattle.g1_replay.specs.{book_draining, PrintsSome};
+ghost use Rattle.g1_replay.specs.{PrintsSome};
 
-use crate::calls::play_call;
-use crate::drains::{Drains, put_drains};
+use crate::drains::put_left;
 use crate::stop::Stop;
-use g1_history::{Book, Call, Refusal};
-use g1_layout::Region;
-use g1_trace::put_stores;
+use g1_history::{Book, Refusal};
 use std::io::Write;
-
-impl Drains for Book {
-    ghost draining = { book_draining };
-
-    /// The first caller's drain of the region.
-    #[tactic(auto, using(crate::proofs::asked_plays, crate::proofs::asked_stops))]
-    fn put_drain<W: Write>(&mut self, region: Region, output: &mut W) -> Result<(), Stop> {
-        play_call(self, Call::Drain(region), output)
-    }
-}
-
-// How many stores there were, and the drains of all regions.
-fn put_book<W: Write>(book: &mut Book, stores: u64, output: &mut W) -> Result<(), Stop>
-    requires { stores ≡ count_by is_store book.old.entries }
-    ensures { (commands : List Command) → stores ≡ count_by is_store_command commands
-        → PrintsSome
-        (CrewDrained (crew_book book.old.limit (layout_in book.old) None book.old.entries) commands)
-        (W.contents output.old) (W.contents output.new) result }
-{
-    let layout = book.layout();
-    let _before = book.entries();
-    put_stores(output, stores)?;
-    let result = put_drains(book, layout, output);
-    let _after = book.entries();
-    result
-}
 
 // Why a crew that was refused a call ends: the history is full, or memory was refused.
 fn crew_stop(book: &Book, refusal: Refusal, history: u32) -> Stop
@@ -67,8 +37,11 @@ pub(crate) fn put_crew<W: Write>(
         (crew_book history (layout_in book.old) refused book.old.entries) commands)
         (W.contents output.old) (W.contents output.new) result }
 {
-    match refused {
-        Some(refusal) => Err(crew_stop(book, refusal, history)),
-        None => put_book(book, stores, output),
+    if let Some(refusal) = refused {
+        return Err(crew_stop(book, refusal, history));
     }
+    let layout = book.layout();
+    let result = put_left(book, layout, stores, output);
+    let _history = book.entries();
+    result
 }

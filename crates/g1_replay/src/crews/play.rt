@@ -1,16 +1,12 @@
-//! Reads a trace to its end, makes the calls of each mutator in a thread of its own, and prints the
-//! result.
-ghost use Rattle.std.specs.Prelude.{◌≡◌};
-ghost use Rattle.g1_replay.specs.{List, true, vec_len, All, slot_count, AreScripts, PrintsSome};
-ghost use Rattle.g1_replay.specs.{StepFits, Command, CrewRan, IsScriptReplayed, crewing, spot};
-ghost use Rattle.g1_replay.specs.{streams};
-ghost use Rattle.g1_replay.specs.Scripted.{Scripted};
+//! Makes the calls of each mutator in a thread of its own, and prints the result.
+ghost use Rattle.g1_replay.specs.{◌≡◌, List, true, vec_len, All, slot_count, AreScripts};
+ghost use Rattle.g1_replay.specs.{PrintsSome, StepFits, Command, CrewRan, IsScriptReplayed};
+ghost use Rattle.g1_replay.specs.{crewing, streams};
 
 use crate::crews::jobs::run_jobs;
 use crate::crews::output::put_crew;
-use crate::end::{End, put_end};
-use crate::lines::source::Source;
-use crate::lines::whole::read_scripts;
+use crate::end::End;
+use crate::scripted::replay_scripts;
 use crate::stop::Stop;
 use g1_history::Book;
 use g1_layout::Layout;
@@ -24,8 +20,8 @@ use std::marker::Brand;
 use std::sync::Wait;
 use std::thread::Threads;
 
-// Runs the scripts, and prints the result.
-fn run_scripts<T: Threads + Wait + Sync, W: Write>(
+/// Runs the scripts, and prints the result.
+pub(crate) fn run_scripts<T: Threads + Wait + Sync, W: Write>(
     rt: &T,
     alloc: Global,
     layout: Layout,
@@ -55,24 +51,6 @@ fn run_scripts<T: Threads + Wait + Sync, W: Write>(
     put_crew(&mut book, stores, refused, options.history, output)
 }
 
-// The whole trace and then its scripts, but for the line of the end.
-fn play_crew<T: Threads + Wait + Sync, R: BufRead, W: Write>(
-    rt: &T,
-    alloc: Global,
-    source: &mut Source,
-    input: &mut R,
-    output: &mut W,
-    options: &Options,
-) -> Result<(), Stop>
-    ensures { PrintsSome (Scripted (crewing options.now)
-        (spot source.old.number (R.remaining input.old))
-        (spot source.new.number (R.remaining input.new)))
-        (W.contents output.old) (W.contents output.new) result }
-{
-    let (layout, scripts) = read_scripts(rt, alloc, Mode::Crew, source, input, output, options)?;
-    run_scripts(rt, alloc, layout, scripts.steps, output, options)
-}
-
 /// Replays a trace by a crew: reads all of it, makes the calls of each mutator in a thread of its
 /// own with refinement threads beside them, and writes how many stores were made and what a drain
 /// of each region returns (docs/traces.md).
@@ -97,7 +75,5 @@ pub fn crew<T: Threads + Wait + Sync, R: BufRead, W: Write>(
         (streams (R.remaining input.old) (W.contents output.old))
         (streams (R.remaining input.new) (W.contents output.new)) result }
 {
-    let mut source = Source::start();
-    let outcome = play_crew(rt, alloc, &mut source, input, output, options);
-    put_end(output, source.number, outcome)
+    replay_scripts(rt, alloc, Mode::Crew, input, output, options)
 }

@@ -1,23 +1,20 @@
-//! Reads a trace to its end, makes the stores of each mutator in a race, in a thread of its own,
-//! and prints the result.
-ghost use Rattle.std.specs.Prelude.{◌≡◌, ◌<◌, ◌^◌};
-ghost use Rattle.g1_replay.specs.{List, true, All, vec_len, sum_by, slot_count, StepFits, Command};
-ghost use Rattle.g1_replay.specs.{AreScripts, RaceRan, IsScriptReplayed, PrintsSome, racing};
-ghost use Rattle.g1_replay.specs.{IfOk, core_of, stores_in, spot, streams};
-ghost use Rattle.g1_replay.specs.Scripted.{Scripted};
+//! Makes the stores of each mutator in a race, in a thread of its own, and prints the result.
+ghost use Rattle.g1_replay.specs.{◌≡◌, ◌<◌, ◌^◌, List, true, All, vec_len, sum_by, slot_count};
+ghost use Rattle.g1_replay.specs.{StepFits, Command, AreScripts, RaceRan, IsScriptReplayed};
+ghost use Rattle.g1_replay.specs.{PrintsSome, racing, IfOk, core_of, stores_in, streams};
 
-use crate::end::{End, put_end};
-use crate::lines::source::Source;
-use crate::lines::whole::read_scripts;
+use crate::drains::put_left;
+use crate::end::End;
 use crate::races::jobs::run_race;
 use crate::races::opening::open_race;
-use crate::races::output::put_race;
-use crate::scripts::{Scripts, count_stores};
+use crate::scripted::replay_scripts;
+use crate::scripts::count_stores;
 use crate::stop::Stop;
 use g1_core::Core;
 use g1_layout::{Layout, NoMemory};
 use g1_options::Options;
 use g1_race::Closed;
+use g1_steps::Step;
 use g1_trace::Mode;
 use std::alloc::Global;
 use std::io::{BufRead, Write};
@@ -34,47 +31,29 @@ fn adopted(alloc: Global, closed: Closed, options: &Options) -> Result<Core, NoM
     }
 }
 
-// Races the scripts, and prints the result.
-fn race_scripts<T: Threads + Wait + Sync, W: Write>(
+/// Races the scripts, and prints the result.
+pub(crate) fn race_scripts<T: Threads + Wait + Sync, W: Write>(
     rt: &T,
     alloc: Global,
     layout: Layout,
-    scripts: Scripts,
+    scripts: Vec<Vec<Step>>,
     output: &mut W,
     options: &Options,
 ) -> Result<(), Stop>
-    requires count { vec_len scripts.steps ≡ options.now.mutators }
+    requires count { vec_len scripts ≡ options.now.mutators }
     requires fits { All (λ steps.
-        All (StepFits (slot_count layout) true) steps.items) scripts.steps.items }
-    requires few { sum_by (λ steps. stores_in steps.items) scripts.steps.items < 2 ^ 64 }
+        All (StepFits (slot_count layout) true) steps.items) scripts.items }
+    requires few { sum_by (λ steps. stores_in steps.items) scripts.items < 2 ^ 64 }
     ensures { (commands : List Command)
-        → AreScripts (λ steps. steps.items) scripts.steps.items commands
+        → AreScripts (λ steps. steps.items) scripts.items commands
         → PrintsSome (RaceRan options.now.mutators layout commands)
         (W.contents output.old) (W.contents output.new) result }
 {
-    let stores = count_stores(&scripts.steps);
+    let stores = count_stores(&scripts);
     let opened = open_race(alloc, layout, options)?;
-    let closed = run_race(rt, alloc, opened, scripts.steps, options)?;
+    let closed = run_race(rt, alloc, opened, scripts, options)?;
     let mut core = adopted(alloc, closed, options)?;
-    put_race(&mut core, stores, output)
-}
-
-// The whole trace and then its scripts, but for the line of the end.
-fn play_race<T: Threads + Wait + Sync, R: BufRead, W: Write>(
-    rt: &T,
-    alloc: Global,
-    source: &mut Source,
-    input: &mut R,
-    output: &mut W,
-    options: &Options,
-) -> Result<(), Stop>
-    ensures { PrintsSome (Scripted (racing options.now)
-        (spot source.old.number (R.remaining input.old))
-        (spot source.new.number (R.remaining input.new)))
-        (W.contents output.old) (W.contents output.new) result }
-{
-    let (layout, scripts) = read_scripts(rt, alloc, Mode::Race, source, input, output, options)?;
-    race_scripts(rt, alloc, layout, scripts, output, options)
+    put_left(&mut core, layout, stores, output)
 }
 
 /// Replays a trace of stores by a race: reads all of it, and makes the stores of each mutator in a
@@ -104,7 +83,5 @@ pub fn race<T: Threads + Wait + Sync, R: BufRead, W: Write>(
         (streams (R.remaining input.old) (W.contents output.old))
         (streams (R.remaining input.new) (W.contents output.new)) result }
 {
-    let mut source = Source::start();
-    let outcome = play_race(rt, alloc, &mut source, input, output, options);
-    put_end(output, source.number, outcome)
+    replay_scripts(rt, alloc, Mode::Race, input, output, options)
 }

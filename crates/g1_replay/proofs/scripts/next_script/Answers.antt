@@ -1,5 +1,4 @@
-use Rattle.std.specs.Prelude.{◌<◌}
-use Rattle.g1_replay.specs.{length, refl, rules}
+use Rattle.g1_replay.specs.{◌<◌, length, refl, rules}
 use Rattle.g1_replay.proofs.{some_left}
 use Rattle.g1_replay.proofs.scripts.next_script.Goals as goal
 

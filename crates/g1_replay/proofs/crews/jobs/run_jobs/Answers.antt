@@ -1,4 +1,4 @@
-use Rattle.g1_replay.specs.{ap, sym, subst, ◌∙◌, zero-add, arith, slot_count, capacity_of, AreMadeBy}
+use Rattle.g1_replay.specs.{◌∙◌, ap, sym, subst, zero-add, arith, slot_count, capacity_of, AreMadeBy}
 use Rattle.g1_replay.proofs.JobLemmas.{has_come}
 use Rattle.g1_replay.proofs.{each_from, script_at_fits}
 use Rattle.g1_replay.proofs.crews.jobs.run_jobs.Goals as goal

@@ -1,5 +1,4 @@
-use Rattle.std.specs.Prelude.{◌≤◌, ◌-◌}
-use Rattle.g1_replay.specs.{length, arith, subst, unwrap_or, EndsAtFeed, YieldsFirst}
+use Rattle.g1_replay.specs.{◌≤◌, ◌-◌, length, arith, subst, unwrap_or, EndsAtFeed, YieldsFirst}
 use Rattle.g1_replay.proofs.{feed_found}
 use Rattle.g1_replay.proofs.lines.line.part_len.Goals as goal
 

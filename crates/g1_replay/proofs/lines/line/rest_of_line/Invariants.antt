@@ -1,5 +1,4 @@
-use Rattle.std.specs.Prelude.{◌≤◌, ◌^◌, ◌-◌}
-use Rattle.g1_replay.specs.{ℕ, List, Option, length, HasPart}
+use Rattle.g1_replay.specs.{◌≤◌, ◌^◌, ◌-◌, ℕ, List, Option, length, HasPart}
 use Rattle.g1_replay.proofs.lines.line.rest_of_line.Given as goal
 
 -- the last part that was taken belongs to the line

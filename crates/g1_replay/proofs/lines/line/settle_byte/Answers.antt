@@ -1,5 +1,4 @@
-use Rattle.std.specs.Prelude.{◌≡◌, ◌≢◌, ◌<◌}
-use Rattle.g1_replay.specs.{length, subst, arith, ReadsByte, Byte}
+use Rattle.g1_replay.specs.{◌≡◌, ◌≢◌, ◌<◌, length, subst, arith, ReadsByte, Byte}
 use Rattle.g1_replay.proofs.{byte_more}
 use Rattle.g1_replay.proofs.lines.line.settle_byte.Goals as goal
 

@@ -1,4 +1,4 @@
-use Rattle.g1_replay.specs.{[], refl, None}
+use Rattle.g1_replay.specs.{arith, [], refl, None}
 use Rattle.g1_replay.proofs.{err_is}
 use Rattle.g1_replay.proofs.ReadingLemmas.{line_stopped, no_header, line_read, line_faulty}
 use Rattle.g1_replay.proofs.lines.opening.next_header.Goals as goal
@@ -21,4 +21,4 @@ pub returns-clause-read : goal.returns-clause-read
 returns-clause-read g c =
     let line = rw c.if-not-branch.false at c.in_ok-next_line.ensures.line in
     let read = rw c.as_slice.ensures.value at c.in_ok-heap.ensures in
-    λ d. line_read d None _ _ _ _ _ [] line (rw (← read) refl)
+    λ d. line_read d None _ _ _ _ _ [] (omega arith) line (rw (← read) refl)

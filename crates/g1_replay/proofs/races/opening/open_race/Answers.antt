@@ -1,4 +1,4 @@
-use Rattle.g1_replay.specs.{ℕ, sym, subst, ◌∙◌, arith, null_of, HaveBegun, AllFrom, IsNewParty}
+use Rattle.g1_replay.specs.{◌∙◌, ℕ, sym, subst, arith, null_of, HaveBegun, AllFrom, IsNewParty}
 use Rattle.g1_race_words.specs.declared.view.RaceShape.{RaceShape}
 use Rattle.g1_replay.proofs.races.opening.open_race.Goals as goal
 

@@ -1,5 +1,5 @@
 use Rattle.std.proofs.lemmas.List.{with_items_is}
-use Rattle.g1_replay.specs.{ap, refl, ◌∙◌, length}
+use Rattle.g1_replay.specs.{◌∙◌, ap, refl, length}
 use Rattle.g1_replay.proofs.PlayedLemmas.{all_stopped, first_stepped}
 use Rattle.g1_replay.proofs.runs.play.stop_all.Goals as goal
 

@@ -1,5 +1,4 @@
-use Rattle.std.specs.Prelude.{◌^◌, ◌-◌}
-use Rattle.g1_replay.specs.{true, Ok, Follows, scene, IsOfTrace}
+use Rattle.g1_replay.specs.{◌^◌, ◌-◌, true, Ok, Follows, scene, IsOfTrace}
 use Rattle.g1_replay.proofs.lines.source.Commands.play_all.Given as goal
 
 -- what was done so far

@@ -1,4 +1,4 @@
-use Rattle.g1_replay.specs.{true, refl, ◌∙◌, arith, Ok, Err}
+use Rattle.g1_replay.specs.{◌∙◌, true, refl, arith, Ok, Err}
 use Rattle.g1_replay.proofs.{front_none, front_then}
 use Rattle.g1_replay.proofs.lines.source.Commands.play_shown.Goals as goal
 

@@ -1,7 +1,7 @@
 use Rattle.g1_replay.specs.{true, Ok, Err, WriteFailed}
 use Rattle.g1_replay.proofs.{err_is}
 use Rattle.g1_replay.proofs.CoreDrainLemmas.{drives_refused, drives_said}
-use Rattle.g1_replay.proofs.races.output.CoreDrains.put_drain.Goals as goal
+use Rattle.g1_replay.proofs.drains.CoreDrains.put_drain.Goals as goal
 
 pub returns-in_err-answer-clause-played : goal.returns-in_err-answer-clause-played
 returns-in_err-answer-clause-played g c = rw (err_is _ c.from_residual.ensures.1) (drives_refused _ _ c.args.region _ c.in_err-answer.ensures.err)
