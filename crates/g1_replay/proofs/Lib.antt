@@ -9,7 +9,6 @@ pub mod RanLemmas
 pub mod ScriptedLemmas
 pub mod CrewScriptLemmas
 pub mod SweptLemmas
-pub mod TakenLemmas
 pub mod PlacedLemmas
 pub mod StoreLemmas
 pub mod RanRaceLemmas
@@ -28,4 +27,3 @@ use RaceLemmas.*
 use RanLemmas.*
 use ScriptedLemmas.*
 use SteppedLemmas.*
-use TakenLemmas.*

@@ -1,7 +1,12 @@
 -- What a command comes to, by the steps of the callers.
-use Rattle.g1_replay.specs.{◌≡◌, ◌<◌, ◌∙◌, ℕ, List, Bool, true, false, arith, length, set, vec_len, slice_index_or, refl, sym, ap, subst, inl, inr, Option, Result, Ok, Err, IsErrAnd, err_from_is_err_and, Appends, AppendsFront, Appends-nil, History, Reply, Refusal, Mutator, Taker, MutatorSteps, FirstSteps, IsStopped, MakesAsked, Machinery, AnswersAt, Says, IsPlayed, IsDoneAndSaid, StandIf, StandStill, call_line, is_pause, Stop, WriteFailed, stop_of, At, at, IsCallPlayed}
+use Rattle.g1_replay.specs.{◌≡◌, ◌<◌, ◌∙◌, All, Line, IsSenderOf, AreNewMutators, ℕ, List, Bool, true, false, arith, length, set, vec_len, slice_index_or, refl, sym, ap, subst, inl, inr, Option, Result, Ok, Err, IsErrAnd, err_from_is_err_and, Appends, AppendsFront, Appends-nil, History, Reply, Refusal, Mutator, Taker, MutatorSteps, FirstSteps, IsStopped, MakesAsked, Machinery, AnswersAt, Says, IsPlayed, IsDoneAndSaid, StandIf, StandStill, call_line, is_pause, Stop, WriteFailed, stop_of, At, at, IsCallPlayed}
 use Rattle.g1_core.specs.declared.entry.Call.{Call}
+use Rattle.g1_steps.proofs.OpeningLemmas.{mutators_each}
 use Rattle.g1_trace.specs.declared.command.Command.TheVariants as command
+
+-- new mutators have senders of their line
+pub are_senders : (line : Line) (size k : ℕ) (ms : List Mutator) → AreNewMutators line size k ms → All (λ m. IsSenderOf line m.sender) ms
+are_senders line size k ms all = mutators_each line size k ms (λ m. IsSenderOf line m.sender) (λ n m new. new.sender.of) all
 
 -- a step of a mutator, and one of the first taker
 pub mutator_stepped : (by : ℕ) (Step : Mutator → Mutator → Type 0) (old new : Machinery) (before after : Mutator) → by < old.book.mutators → vec_len old.mutators ≡ old.book.mutators → before ≡ slice_index_or old.mutators.items by before → Step before after

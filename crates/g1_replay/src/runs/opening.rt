@@ -11,7 +11,7 @@ use std::alloc::Global;
 /// An empty heap, history and queue of completed buffers, and an empty log for each mutator.
 ///
 /// Returns `NoMemory` if a growth for heap, queue or callers was refused.
-#[tactic(auto, using(crate::proofs::are_senders))]
+#[tactic(auto, using(crate::proofs::PlayedLemmas::are_senders))]
 pub(crate) fn open_machinery(
     alloc: Global,
     layout: Layout,
