@@ -8,7 +8,12 @@ pub returns-in-Ok : goal.returns-in-Ok
 returns-in-Ok c =
     let done = c.in-Ok in
     let count : card_count c.layout-layout.result ≡ card_count c.args.core.now.state.table.layout = ap card_count c.layout-layout.ensures.value in
-    let few = few_refined c.args.core.now.state (redirect_refined done.answer) c.layout-layout.ensures.sound (done.ensures.step 0).allowed.refines in
-    (((omega (arith, few, count, c.card_count.ensures.count, c.if-room-card_count.false), fits_words c.args.core.now.state (redirect_refined done.answer) c.layout-layout.ensures.sound few),
-    moved_to (λ from to. RedirectsTo c.args.core.now from to done.answer c.redirect.new.self) c.in_ok-from.ensures.regions.0 c.in_ok-from.ensures.regions.1
-    (record { made = record { did = done.ensures.did; step = done.ensures.step; later = done.ensures.later } })), tt, tt)
+    let few = few_refined c.args.core.now.state (redirect_refined done.answer) c.layout-layout.ensures.sound (done.ensures.step 0).allowed.refines in (
+      (
+        (omega (arith, few, count, c.card_count.ensures.count, c.if-room-card_count.false), fits_words c.args.core.now.state (redirect_refined done.answer) c.layout-layout.ensures.sound few),
+        moved_to (λ from to. RedirectsTo c.args.core.now from to done.answer c.redirect.new.self) c.in_ok-from.ensures.regions.0 c.in_ok-from.ensures.regions.1
+            (record { made = record { did = done.ensures.did; step = done.ensures.step; later = done.ensures.later } }),
+      ),
+      tt,
+      tt,
+    )

@@ -9,6 +9,12 @@ pub returns-in-Ok : goal.returns-in-Ok
 returns-in-Ok c =
     let done = c.in-Ok in
     let count : card_count c.layout-layout.result ≡ card_count c.args.core.now.state.table.layout = ap card_count c.layout-layout.ensures.value in
-    let few = few_drained c.args.core.now c.drain.new.self c.in_ok-region.region done.answer done.ensures.did in
-    (((omega (arith, few, count, c.card_count-most.ensures.count, c.if-room-most.false), fits_words c.args.core.now.state (drain_cards done.answer) c.layout-layout.ensures.sound few),
-    grind (arith, few_refined, fits_words), first_of (search rules, grind (arith, common_steps))), tt, tt)
+    let few = few_drained c.args.core.now c.drain.new.self c.in_ok-region.region done.answer done.ensures.did in (
+      (
+        (omega (arith, few, count, c.card_count-most.ensures.count, c.if-room-most.false), fits_words c.args.core.now.state (drain_cards done.answer) c.layout-layout.ensures.sound few),
+        grind (arith, few_refined, fits_words),
+        first_of (search rules, grind (arith, common_steps)),
+      ),
+      tt,
+      tt,
+    )

@@ -5,6 +5,9 @@ use Rattle.g1_handles.proofs.one_core.queries.target_in.Goals as goal
 
 pub returns : goal.returns
 returns c =
-    let at = rw c.in_ok-slot.ensures.ok_part at c.slot.ensures in
-    (moved_to (λ slot target. RefersTo c.args.core.now slot target c.target.new.self) at.1 (sym c.reference_word.ensures)
-    (record { did = c.target.ensures.did; step = c.target.ensures.step; later = c.target.ensures.later }), tt, tt)
+    let at = rw c.in_ok-slot.ensures.ok_part at c.slot.ensures in (
+      moved_to (λ slot target. RefersTo c.args.core.now slot target c.target.new.self) at.1 (sym c.reference_word.ensures)
+          (record { did = c.target.ensures.did; step = c.target.ensures.step; later = c.target.ensures.later }),
+      tt,
+      tt,
+    )
