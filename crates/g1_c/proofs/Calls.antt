@@ -1,6 +1,6 @@
 -- What a clause of an exported call says once the call's result is known.
 use Rattle.std.specs.Prelude.{◌≡◌, ◌<◌, ◌≤◌, ◌⊎◌}
-use Rattle.g1_c.specs.{ℕ, arith, subst, Option, Some, Result, Ok, Err, Pause, Reason, refusal_word, IsHeapRefused, IsRoleRefused, refl, sym, OfRole, SaysNoParty, IsSameHeap, OfPaused, SaysNoHeap, SaysNotPaused, IsCalled, IsVisit, FnOnceReturnsAtMut, RacingHeap, Ghosts, Party, Called, IsMadeOrRefused, OnHeap, ToldByHeap, ClearReply, cleared_of, Tells, IsTold, MutBor, called_ok, called_why, called_same, role_ok, role_of, role_why, visit_same}
+use Rattle.g1_c.specs.{ℕ, arith, subst, Option, Some, Result, Ok, Err, Pause, Reason, refusal_word, IsHeapRefused, IsRoleRefused, refl, sym, OfRole, SaysNoParty, IsSameHeap, OfPaused, SaysNoHeap, SaysNotPaused, IsCalled, IsVisit, FnOnceReturnsAtMut, RacingHeap, Ghosts, Party, Called, IsMadeOrRefused, ClearReply, cleared_of, Tells, IsTold, MutBor, called_ok, called_why, called_same, kept_same, role_ok, role_of, role_why, visit_same}
 use denote.Param.Members.{Once}
 
 module _ {V : Type 0} (most : ℕ) (call : Called V) (Untold Does : Type 0) (Why : Reason → Type 0) where
@@ -100,7 +100,7 @@ module _ {F A : Type 0} (h : Once F (MutBor Pause × Unit {0}) (Result A Reason 
       → ((a : A) (p q : MutBor Pause) → h.post f (p, tt) (Ok a, (q, tt)) → R a p.now q.now)
       → ((r : Reason) (p q : MutBor Pause) → h.post f (p, tt) (Err r, (q, tt)) → Why p.now r)
       → ((r : Reason) (p q : MutBor Pause) → h.post f (p, tt) (Err r, (q, tt)) → q.now ≡ p.now)
-      → OnHeap 0 call Untold (R told) Why
+      → IsMadeOrRefused 0 call Untold (IsSameHeap call.old call.new (R told)) (IsHeapRefused call.old Why)
   heap_tells R Why call answer told Untold is tells so why kept =
       makes call told Untold (λ a. IsSameHeap call.old call.new (R a)) (IsHeapRefused call.old Why) answer tells
       (λ a e. heap_made (R a) call.old call.new a (subst (λ r. IsCalled Done call.old r call.new) e is) (so a))
@@ -113,7 +113,7 @@ module _ {F A : Type 0} (h : Once F (MutBor Pause × Unit {0}) (Result A Reason 
       → ((a : A) (p q : MutBor Pause) → h.post f (p, tt) (Ok a, (q, tt)) → R a p.now)
       → ((r : Reason) (p q : MutBor Pause) → h.post f (p, tt) (Err r, (q, tt)) → Why p.now r)
       → ((r : Result A Reason) (p q : MutBor Pause) → h.post f (p, tt) (r, (q, tt)) → q.now ≡ p.now)
-      → ToldByHeap call told Untold R Why
+      → IsTold call told Untold (λ a. IsSameHeap call.old call.new (λ o n. R a o)) (IsHeapRefused call.old Why)
   heap_answers R Why call answer told Untold is tells so why same =
       answers call told Untold (λ a. IsSameHeap call.old call.new (λ o n. R a o)) (IsHeapRefused call.old Why) answer tells
       (λ a e. heap_made (λ o n. R a o) call.old call.new a (subst (λ r. IsCalled Done call.old r call.new) e is) (so a))
@@ -127,7 +127,7 @@ module _ {F : Type 0} (h : Once F (MutBor Pause × Unit {0}) (Result (Unit {0}) 
       → ((p q : MutBor Pause) → h.post f (p, tt) (Ok tt, (q, tt)) → R p.now q.now)
       → ((r : Reason) (p q : MutBor Pause) → h.post f (p, tt) (Err r, (q, tt)) → Why p.now r)
       → ((r : Reason) (p q : MutBor Pause) → h.post f (p, tt) (Err r, (q, tt)) → q.now ≡ p.now)
-      → OnHeap 0 call (Unit {0}) R Why
+      → IsMadeOrRefused 0 call (Unit {0}) (IsSameHeap call.old call.new R) (IsHeapRefused call.old Why)
   heap_does R Why call answer is tells so why kept = heap_tells h f (λ a. R) Why call answer tt (Unit {0}) is tells (λ _. so) why kept
 
 module _ {F : Type 0} (h : Once F (MutBor Pause × Unit {0}) (Result (ℕ × ℕ) Reason × (MutBor Pause × Unit {0}))) (f : F) where
@@ -162,6 +162,6 @@ module _ {P : Type 0} {g : Ghosts P} {T : Type 0} (seen : Party P g → P → T)
       (role_same h f call.old call.new answer is (same answer))
 
 -- what the exports of a room cite
-pub ruleset heap_calls = (heap_made, called_same, heap_does, heap_answers, heap_not, is_made)
+pub ruleset heap_calls = (heap_made, called_same, heap_does, heap_answers, heap_not, is_made, kept_same)
 
 pub ruleset role_calls = (role_made, role_answers, role_not, is_made)

@@ -1,9 +1,9 @@
 -- What the exported calls tell that list a set or empty it.
 use Rattle.std.specs.Prelude.{◌≡◌, ◌≢◌, ◌<◌}
 use Rattle.g1_c.specs.Prelude.{ℕ, List, take, IsWritten, Reason, IsRefusal, ClearReply, Cleared}
-use Rattle.g1_c.specs.Prelude.{Pending, StillReferenced, HasFirst, RacingHeap, Pause, IsSameHeap}
+use Rattle.g1_c.specs.Prelude.{Pending, StillReferenced, HasFirst, HeapHandle, Pause, IsSameHeap}
 use Rattle.g1_c.specs.Prelude.{IsHeapRefused, LacksRegion}
-use Rattle.g1_c.specs.Calls.{Called}
+use Rattle.g1_c.specs.Calls.{Called, called}
 
 -- the caller's array before a call and after it, and how many cards it is told of
 pub record Listing : Type 0 where
@@ -27,12 +27,12 @@ pub record IsListed {V : Type 0} (call : Called V) (array : Listing) (All First 
   pub same : 0 < call.word → call.word ≢ 16 → call.new ≡ call.old
 
 -- the cards of a region that are so of a heap before and after a call, or the first of them
-abbrev pub ListsOfHeap : Called RacingHeap → Listing → (Pause → Pause → List ℕ → Type 0) → ℕ
-    → Type 0
-ListsOfHeap call array AreSo region = IsListed call array
-    (IsSameHeap call.old call.new (λ old new. AreSo old new (take array.count array.new)))
-    (IsSameHeap call.old call.new (λ old new. HasFirst (AreSo old new) array.new array.count))
-    (IsHeapRefused call.old (λ old. LacksRegion old.layout region))
+abbrev pub ListsOfHeap : ℕ → HeapHandle → HeapHandle → Listing
+    → (Pause → Pause → List ℕ → Type 0) → ℕ → Type 0
+ListsOfHeap word h h' array AreSo region = IsListed (called word h.value h'.value) array
+    (IsSameHeap h.value h'.value (λ old new. AreSo old new (take array.count array.new)))
+    (IsSameHeap h.value h'.value (λ old new. HasFirst (AreSo old new) array.new array.count))
+    (IsHeapRefused h.value (λ old. LacksRegion old.layout region))
 
 -- A clear got a reply: the word 0 says that it was granted, and 19 and 20 what speaks against it,
 -- with a number. Any other word is that of a refusal, and tells no number.
@@ -45,9 +45,9 @@ pub record IsCleared {V : Type 0} (call : Called V) (number : ℕ) (Clears : Cle
   pub why : 0 < call.word → call.word ≢ 19 → call.word ≢ 20 → IsRefusal call.word Why
 
 -- a clear of a heap at a pause, which changes nothing unless it is granted
-pub record ClearsOnHeap (call : Called RacingHeap) (number : ℕ)
+pub record ClearsOnHeap (word : ℕ) (old new : HeapHandle) (number : ℕ)
     (Clears : Pause → ClearReply → Pause → Type 0) (Why : Pause → Reason → Type 0) : Type 0 where
-  pub cleared : IsCleared call number
-      (λ reply. IsSameHeap call.old call.new (λ old new. Clears old reply new))
-      (IsHeapRefused call.old Why)
-  pub same : 0 < call.word → call.new ≡ call.old
+  pub cleared : IsCleared (called word old.value new.value) number
+      (λ reply. IsSameHeap old.value new.value (λ old new. Clears old reply new))
+      (IsHeapRefused old.value Why)
+  pub same : 0 < word → new.value ≡ old.value

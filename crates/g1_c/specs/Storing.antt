@@ -1,5 +1,5 @@
 -- What the exported stores do.
-use Rattle.std.specs.Prelude.{◌≡◌, ◌⊎◌, ◌+◌, ◌≤◌}
+use Rattle.std.specs.Prelude.{◌≡◌, ◌⊎◌}
 use Rattle.g1_c.specs.Prelude.{ℕ, Kind, OfKind}
 
 -- a racer made a store that it could make, and the word is that of its kind
@@ -22,9 +22,3 @@ pub record StoresSeveral (word : ℕ) (Made Whole Stopped Full : Type 0) : Type 
   pub stopped : word ≡ 3 → Stopped
   pub full : word ≡ 4 → Full
   pub done : (word ≡ 0) ⊎ (word ≡ 3) ⊎ (word ≡ 4)
-
--- a copy of as many slots, whose two ranges are within this many
-pub record CopiesWithin (slots from to count : ℕ) (Copied : Type 0) : Type 0 where
-  pub source : from + count ≤ slots
-  pub target : to + count ≤ slots
-  pub copied : Copied

@@ -1,8 +1,8 @@
 //! The collector's calls on a heap whose stores race.
 //!
 //! - [`life`] opens a heap, lets it go on, pauses it, and closes it.
-//! - [`queries`], [`scan`], [`drains`], [`stores`], [`row`], [`copy`], [`evacuation`], [`words`]
-//!   and [`verify`] are calls at a pause. [`reading`] lets several threads read the heap there.
+//! - [`queries`], [`drains`], [`stores`], [`copy`], [`evacuation`], [`words`] and [`verify`] are
+//!   calls at a pause. [`reading`] lets several threads read the heap there.
 #![tactic(auto, using(crate::proofs::heap_calls))]
 
 pub mod copy;
@@ -11,8 +11,6 @@ pub mod evacuation;
 pub mod life;
 pub mod queries;
 pub mod reading;
-pub mod row;
-pub mod scan;
 pub mod stores;
 pub mod verify;
 pub mod words;

@@ -1,8 +1,8 @@
 -- Stores of a racer, each after the one before.
 use Rattle.std.specs.Prelude.{◌≡◌, ◌≢◌, ◌+◌, ◌<◌, ◌∷◌, ◌++◌}
 use Rattle.g1_handles.specs.{rules, inl, inr, ℕ, suc, List, [], length, take, slice_index_or, refl, sym, ap, ◌∙◌, subst, arith, take-suc, Kind, get_or_default, Race, race_layout, Reason, BatchEnd, Stopped, Full, Store, IsStoreOf, reference_of, Stores, StoresAll, CanStore, IsEnd, SaysNoStore, is_across, true}
-use Rattle.g1_handles.specs.declared.code.Reason.TheVariants as refusal
 use Rattle.g1_handles.specs.Racing.{Racing}
+use Rattle.g1_handles.specs.declared.code.Reason.TheVariants as refusal
 
 -- one store more
 more : (a b c : Racing) (ss : List Store) (s : Store) (k : Kind) → StoresAll a ss b → CanStore b.race b.racer s.slot s.target → Stores b s.slot (reference_of s.target) k c → StoresAll a (ss ++ s ∷ []) c

@@ -2,6 +2,10 @@
 use Rattle.std.specs.Prelude.{◌≡◌, ◌<◌, ◌∷◌}
 use Rattle.g1_handles.specs.{List, [], Some, None, All, map, refl, ap, ◌∙◌, sym, subst, props, length-map, get_or-map, All-map, Option, Result, Ok, Err, OnErr, IfErr, IsErrAnd, IsSome, IsSomeAnd, ForSome, arc_value, is_prop→PathP, Race, race_id, Reason, Ghosts, Party, BelongsTo, RacerParty, SweeperParty, ReaderParty}
 
+-- what is so of two values is so of what they equal
+pub moved_to : {A B : Type 0} (P : A → B → Type 0) {a x : A} {b y : B} → a ≡ x → b ≡ y → P a b → P x y
+moved_to P {a} {x} {b} {y} e f so = subst (λ v. P v y) e (subst (λ v. P a v) f so)
+
 -- a party is its share, its counts and its role, with padding
 pub same_party : {P : Type 0} {g : Ghosts P} (m n : Party P g) → m.race ≡ n.race → m.counts ≡ n.counts → m.role ≡ n.role → m.apart ≡ n.apart → m ≡ n
 same_party {P} {g} m n race counts role apart = λ i. record {

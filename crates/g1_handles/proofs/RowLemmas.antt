@@ -1,10 +1,10 @@
 -- A row of words of a racer, each stored after the one before.
 use Rattle.std.specs.Prelude.{◌≡◌, ◌⊎◌, ◌+◌, ◌<◌, ◌≤◌, ◌^◌, ◌∷◌, ◌++◌}
 use Rattle.g1_handles.specs.{rules, ℕ, List, [], All, length, take, slice_index_or, refl, sym, subst, ◌∙◌, arith, Kind, CanStoreWord, SwapsWord, StoresWords, Pause, IsSameRace, IsWord, IsWordOf, StoresWordAt, StoresWordsAt, slot_count}
+use Rattle.g1_handles.specs.Racing.{Racing}
 use Rattle.g1_layout.specs.Shape as layout
 use Rattle.g1_race_words.specs.declared.view.RaceShape.{RaceShape}
 use Rattle.std.proofs.lemmas.List.{length-take-le, take_more}
-use Rattle.g1_handles.specs.Racing.{Racing}
 
 -- one word more
 more : (a b c : Racing) (p n : ℕ) (ws : List ℕ) (w old : ℕ) (k : Kind) → n ≡ p + length ws → StoresWords a p ws b → CanStoreWord b.race b.racer n w → SwapsWord b n w old k c → StoresWords a p (ws ++ w ∷ []) c

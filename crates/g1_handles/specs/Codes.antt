@@ -1,9 +1,9 @@
 -- The words that cross to C, and what a call on what a handle holds does.
 use Rattle.std.specs.Prelude.{◌≡◌, ◌⊎◌, ◌<◌, ◌==◌, if◌then◌else◌}
-use Rattle.g1_handles.specs.Prelude.{ℕ, Option, Some, None}
-use Rattle.g1_handles.specs.Prelude.{IfSome, IsSomeAnd, Shape, slot_count, Kind, Null, SameRegion}
-use Rattle.g1_handles.specs.Prelude.{AlreadyDirty, Logged, ClearReply, Cleared, Pending}
-use Rattle.g1_handles.specs.Prelude.{StillReferenced, Settings, Result, Err}
+use Rattle.g1_handles.specs.Prelude.{ℕ, Option, Some, None, IfSome, IfOk, IfErr, OnErr, IsSomeAnd}
+use Rattle.g1_handles.specs.Prelude.{Shape, slot_count, Kind, Null, SameRegion, AlreadyDirty}
+use Rattle.g1_handles.specs.Prelude.{Logged, ClearReply, Cleared, Pending, StillReferenced}
+use Rattle.g1_handles.specs.Prelude.{Settings, Result, Err}
 use Rattle.g1_handles.specs.declared.one_core.open.Counts.{Counts}
 use Rattle.g1_handles.specs.declared.code.Reason.{Reason}
 use Rattle.g1_handles.specs.declared.code.Reason.TheVariants as refusal
@@ -77,6 +77,17 @@ abbrev pub IsVisit : {V A : Type 0} → (V → Result A Reason → V → Type 0)
     → Option V → Result A Reason → Option V → Type 0
 IsVisit Q None r new = (new ≡ None) × (r ≡ Err refusal.NotOpen)
 IsVisit Q (Some old) r new = OfOpen new (Q old r)
+
+-- A call that led from one value to another did this, by its answer; or it was refused for this
+-- reason, and then changed nothing.
+abbrev pub IsMade : {V A : Type 0} → V → Result A Reason → V → (A → Type 0) → (Reason → Type 0)
+    → Type 0
+IsMade old r new Does Why = IfOk r Does × IfErr r Why × OnErr r (new ≡ old)
+
+-- A question, which changes nothing, has this answer, or is refused for this reason.
+abbrev pub IsAnswered : {V A : Type 0} → V → Result A Reason → V → (A → Type 0)
+    → (Reason → Type 0) → Type 0
+IsAnswered old r new Is Why = IfOk r Is × IfErr r Why × (new ≡ old)
 
 -- the layout that these counts ask for
 abbrev pub layout_of : Counts → Shape

@@ -1,11 +1,10 @@
 -- The life of a heap whose stores race.
 use Rattle.std.specs.Prelude.{◌≡◌, ◌⊎◌, ◌≤◌}
-use Rattle.g1_handles.specs.Prelude.{ℕ, List, [], All, Any, Option, Some, None}
-use Rattle.g1_handles.specs.Prelude.{IsSome, IsSomeAnd, Box, Vec, length, map, replicate, vec_len}
-use Rattle.g1_handles.specs.Prelude.{arc_value, Global, IsShape, opening, beginning}
-use Rattle.g1_handles.specs.Prelude.{Race, Racer, race_id, race_layout, racer_log, IsNewRacer}
-use Rattle.g1_handles.specs.Prelude.{IsNewSweeper, race_shape, Pause, table_at, start_at}
-use Rattle.g1_handles.specs.Prelude.{null_of}
+use Rattle.g1_handles.specs.Prelude.{ℕ, List, [], All, Any, Option, Some, None, IsSome, IsSomeAnd}
+use Rattle.g1_handles.specs.Prelude.{Box, Vec, length, map, replicate, vec_len, arc_value, Global}
+use Rattle.g1_handles.specs.Prelude.{IsShape, opening, beginning, Race, Racer, race_id, race_layout}
+use Rattle.g1_handles.specs.Prelude.{racer_log, IsNewRacer, IsNewSweeper, race_shape, Pause}
+use Rattle.g1_handles.specs.Prelude.{table_at, start_at, null_of}
 use Rattle.g1_layout.specs.Shape as layout
 use Rattle.g1_race.specs.Drain.{began}
 use Rattle.g1_handles.specs.declared.code.Reason.{Reason}
@@ -20,7 +19,7 @@ use Rattle.g1_handles.specs.declared.heap.racing_heap.RacingHeap.TheVariants as 
 use Rattle.g1_handles.specs.declared.party.counts.PartyCounts.{PartyCounts}
 use Rattle.g1_handles.specs.Own.{RacerParty, SweeperParty}
 use Rattle.g1_handles.specs.Racing.{AreClosed, role_in, TakesPart, BelongsTo, BelongsAs, counts_of}
-use Rattle.g1_handles.specs.Counting.{AreNew}
+use Rattle.g1_handles.specs.Racing.{AreNew}
 use Rattle.g1_handles.specs.Refusals.{SaysNoParty}
 
 -- the handle has a heap at a pause that no reader reads, and it is so of it

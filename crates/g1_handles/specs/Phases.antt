@@ -8,8 +8,8 @@ use Rattle.g1_handles.specs.declared.handles.ReaderHandle.{ReaderHandle}
 use Rattle.g1_handles.specs.declared.handles.SweeperHandle.{SweeperHandle}
 use Rattle.g1_handles.specs.Life.{OfHeap, OfPaused, OfRacing, HasParties, MayBelong, Belong, log_in}
 use Rattle.g1_handles.specs.Life.{GoesOn, heap_race, heap_counts, held_counts, idle_counts}
-use Rattle.g1_handles.specs.Racing.{AreClosed, racer_knows, sweeper_knows, counts_of}
-use Rattle.g1_handles.specs.Racing.{held_racers, held_readers, held_sweepers}
+use Rattle.g1_handles.specs.Racing.{AreClosed, racer_knows, sweeper_knows, counts_of, held_racers}
+use Rattle.g1_handles.specs.Racing.{held_readers, held_sweepers}
 use Rattle.g1_handles.specs.Readers.{AreReadersAt, ReadersMayBelong, ReadersBelong, IsLentHeap}
 use Rattle.g1_handles.specs.Readers.{IsReadBy}
 

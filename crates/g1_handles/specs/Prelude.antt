@@ -1,15 +1,14 @@
 -- What the crate takes from the libraries below it.
-pub use Rattle.std.proofs.Common.{[], ap, arith, Box, inl, inr, List, lit<}
-pub use Rattle.std.proofs.Common.{map, refl, rules, set, slice_index_or, subst, suc, sym, take, ℕ}
-pub use Rattle.std.proofs.Common.{◌∙◌}
+pub use Rattle.std.proofs.Common.{[], ap, arith, Box, inl, inr, List, lit<, map, refl, rules, set}
+pub use Rattle.std.proofs.Common.{slice_index_or, subst, suc, sym, take, ℕ, ◌∙◌}
 pub use Rattle.std.proofs.Math.ListN.{get_or-map}
 pub use Rattle.std.proofs.Math.Seq.{map-set_same, take-suc}
 pub use Rattle.std.proofs.Props.{props}
 pub use Rattle.std.proofs.lemmas.Bool.{cases_lt, eqb-false, eqb-true, not-true}
 pub use Rattle.std.proofs.lemmas.Grind.{common_steps}
 pub use Rattle.std.proofs.lemmas.List.{drop-set-lt, get_or-set_other, get_or-set_same, get_or-take}
-pub use Rattle.std.proofs.lemmas.List.{get_or_default, length-map, length-set}
-pub use Rattle.std.proofs.lemmas.List.{length_push, map-append, take_more_set}
+pub use Rattle.std.proofs.lemmas.List.{get_or_default, length-map, length-set, length_push}
+pub use Rattle.std.proofs.lemmas.List.{map-append, take_more_set}
 pub use Rattle.std.proofs.lemmas.List.Elements.{All-contains, All-from_all_within, All-map}
 pub use Rattle.std.proofs.lemmas.List.Elements.{All-more, All-nil, All-push, All-take}
 pub use Rattle.std.proofs.lemmas.List.Elements.{AllWithin-more_set, AllWithin-upto}
@@ -19,12 +18,10 @@ pub use Rattle.std.specs.Fn.{FnOnceReturnsAtMut}
 pub use Rattle.std.specs.Global.{Global}
 pub use Rattle.std.specs.List.{AllWithin}
 pub use Rattle.std.specs.Option.{ForSome}
-pub use Rattle.std.specs.Prelude.{All, Any, Bool, drop, Err, false, fold}
-pub use Rattle.std.specs.Prelude.{IfErr, IfNone}
-pub use Rattle.std.specs.Prelude.{IfOk, IfSome, IsErrAnd, IsOk, IsSome, IsSomeAnd, IsTrue}
-pub use Rattle.std.specs.Prelude.{length, MatchOption, None, not, Ok, OnErr, OnOk, Option}
-pub use Rattle.std.specs.Prelude.{replicate, Result, slice_set, Some, SomeIff, Vec, vec_capacity}
-pub use Rattle.std.specs.Prelude.{vec_len, ⊤}
+pub use Rattle.std.specs.Prelude.{All, Any, Bool, drop, Err, false, fold, IfErr, IfNone, IfOk}
+pub use Rattle.std.specs.Prelude.{IfSome, IsErrAnd, IsOk, IsSome, IsSomeAnd, IsTrue, length}
+pub use Rattle.std.specs.Prelude.{MatchOption, None, not, Ok, OnErr, OnOk, Option, replicate}
+pub use Rattle.std.specs.Prelude.{Result, slice_set, Some, SomeIff, Vec, vec_capacity, vec_len, ⊤}
 pub use Rattle.std.specs.contracts.impls.GlobalAllocator.TheImpl.{ghosts}
 pub use Rattle.std_alloc.specs.Box.Ownership.{box_owns}
 pub use base.Fml.{feq, fex, flft, Fml, fsep, ftrue}
@@ -45,16 +42,16 @@ pub use Rattle.g1_core.specs.Barrier.{logged_card, stored_machine, unfilled}
 pub use Rattle.g1_core.specs.Calls.{clear_entry, DoesClear, DoesCopy, DoesDrain, DoesRefine}
 pub use Rattle.g1_core.specs.Calls.{DoesStore, DoesTarget, drain_cards, drain_entry, drain_refined}
 pub use Rattle.g1_core.specs.Calls.{redirect_entry, redirect_refined, refine_entry, store_entry}
-pub use Rattle.g1_core.specs.Calls.{target_entry}
+pub use Rattle.g1_core.specs.Calls.{target_entry, TellsMembers, TellsPending, TellsStatus}
+pub use Rattle.g1_core.specs.Calls.{TellsTarget}
 pub use Rattle.g1_core.specs.Machine.{IsLater, IsOnlyRead, IsSound, Machine, machine_code}
 pub use Rattle.g1_core.specs.Machine.{new_machine, State}
-pub use Rattle.g1_core.specs.Calls.{TellsMembers, TellsPending, TellsStatus, TellsTarget}
 pub use Rattle.g1_core.specs.Prelude.{reads_after}
 pub use Rattle.g1_core.specs.Redirect.{DoesRedirect}
 pub use Rattle.g1_core.specs.Run.{drained, IsStep, kind_of, stored}
 pub use Rattle.g1_core.specs.Settings.{AreSettings}
-pub use Rattle.g1_core.specs.Table.{AreMembers, AreRefinable, Crosses, IsPending}
-pub use Rattle.g1_core.specs.Table.{IsRecorded, opening, Table, target_of}
+pub use Rattle.g1_core.specs.Table.{AreMembers, AreRefinable, Crosses, IsPending, IsRecorded}
+pub use Rattle.g1_core.specs.Table.{opening, Table, target_of}
 pub use Rattle.g1_core.specs.Verify.{Differs, IsFirst, IsMissing, looked_for}
 pub use Rattle.g1_core.specs.declared.config.Settings.{Settings}
 pub use Rattle.g1_core.specs.declared.reply.ClearReply.{ClearReply}
@@ -74,11 +71,10 @@ pub use Rattle.g1_race.specs.Evacuating.{forgotten, IsExactAtPause, IsRaceWith, 
 pub use Rattle.g1_race.specs.Evacuating.{one_word, SlotsBecome, wiped}
 pub use Rattle.g1_race.specs.Freeing.{FreesAt}
 pub use Rattle.g1_race.specs.Parties.{HasCleaned, HasDiffered, HasNotStored, HasOverwritten}
-pub use Rattle.g1_race.specs.Parties.{HasStored}
-pub use Rattle.g1_race.specs.Parties.{is_logged, IsKind, IsNewRacer, IsNewSweeper, IsPauseOf}
-pub use Rattle.g1_race.specs.Parties.{race_id, race_layout, race_shape, race_words, racer_log}
-pub use Rattle.g1_race.specs.Parties.{racer_race, racer_view, sweeper_race, sweeper_start}
-pub use Rattle.g1_race.specs.Parties.{sweeper_view}
+pub use Rattle.g1_race.specs.Parties.{HasStored, is_logged, IsKind, IsNewRacer, IsNewSweeper}
+pub use Rattle.g1_race.specs.Parties.{IsPauseOf, race_id, race_layout, race_shape, race_words}
+pub use Rattle.g1_race.specs.Parties.{racer_log, racer_race, racer_view, sweeper_race}
+pub use Rattle.g1_race.specs.Parties.{sweeper_start, sweeper_view}
 pub use Rattle.g1_race.specs.Over.{ended, Pause, start_at, table_at, table_of}
 pub use Rattle.g1_race.specs.Race.{stored_view, word_of}
 pub use Rattle.g1_race.specs.Reading.{IsNextMember, IsNextPending, IsReaderOf, Known, known}

@@ -1,21 +1,23 @@
--- What a racer's stores do that return what was there, depend on it, or are several.
-use Rattle.std.specs.Prelude.{◌≡◌, ◌<◌, ◌≤◌, ◌∷◌, ◌++◌, if◌then◌else◌}
-use Rattle.g1_handles.specs.Prelude.{ℕ, List, [], Bool, true, slice_index_or, crosses}
-use Rattle.g1_handles.specs.Prelude.{Race, Racer}
+-- What the stores of a racer do, of a target or of words, and why they are refused.
+use Rattle.std.specs.Prelude.{◌≡◌, ◌<◌, ◌≤◌, ◌∷◌, ◌++◌, if◌then◌else◌, ◌⊎◌, ◌+◌}
+use Rattle.g1_handles.specs.Prelude.{ℕ, List, [], Bool, true, slice_index_or, crosses, Race, Racer}
 use Rattle.g1_handles.specs.Prelude.{length, take, Option, array_vec_len, Kind, IsFound, slot_card}
 use Rattle.g1_handles.specs.Prelude.{HasOverwritten, HasStored, HasDiffered, HasNotStored, IsKind}
 use Rattle.g1_handles.specs.Prelude.{is_logged, race_layout, race_shape, racer_view, word_of}
+use Rattle.g1_handles.specs.Prelude.{Result, Ok, Err, slot_count, IsWord}
 use Rattle.g1_handles.specs.declared.one_core.batch.Store.{Store}
-use Rattle.g1_handles.specs.Counting.{with_store}
-use Rattle.g1_handles.specs.Racing.{Racing, Stores}
-use Rattle.g1_handles.specs.Refusals.{CanStore}
+use Rattle.g1_handles.specs.Racing.{with_store, Racing, Stores}
+use Rattle.g1_handles.specs.Refusals.{CanStore, SaysFullLog, LacksSlot, IsRow}
 use Rattle.g1_handles.specs.declared.party.batch.BatchEnd.{BatchEnd}
 use Rattle.g1_handles.specs.declared.party.batch.BatchEnd.TheVariants.{Whole, Stopped, Full}
 use Rattle.g1_handles.specs.declared.party.batch.RaceBatch.{RaceBatch}
 use Rattle.g1_handles.specs.declared.party.exchange.Exchange.{Exchange}
 use Rattle.g1_handles.specs.declared.party.exchange.Exchange.TheVariants as exchange
-use Rattle.g1_handles.specs.Batch.{IsFaultAt}
+use Rattle.g1_handles.specs.Replies.{IsFaultAt}
 use Rattle.g1_handles.specs.Codes.{reference_of}
+use Rattle.g1_race.specs.Exchanging.{HasStoredWord, HasOtherWord, HasRoomToStore}
+use Rattle.g1_handles.specs.declared.code.Reason.{Reason}
+use Rattle.g1_handles.specs.declared.code.Reason.TheVariants as refusal
 
 -- a racer before and after a store of the place t to slot p, whose overwritten word referred to the
 -- old one
@@ -78,3 +80,72 @@ pub record StoresFirst (a : Racing) (stores : List Store) (answer : RaceBatch) (
     : Type 0 where
   pub stored : StoresAll a (take answer.count stores) b
   pub end : IsEnd answer.end a stores answer.count b
+
+-- a slot of the heap may have the word: null, a reference or data
+abbrev pub MayHave : Race → ℕ → Type 0
+MayHave race word = IsWord (race_shape race) word
+
+-- a racer before and after a store of the word to slot p, which overwrote the old one
+pub record SwapsWord (a : Racing) (p word old : ℕ) (k : Kind) (b : Racing) : Type 0 where
+  pub race : b.race ≡ a.race
+  pub stored : HasStoredWord (race_shape a.race) p word old k a.racer b.racer
+  pub fits : MayHave a.race old
+  pub counts : b.counts ≡ with_store a.counts k
+
+-- a racer before and after it stored nothing to slot p, which had another word than was expected
+pub record FindsOtherWord (a : Racing) (p expected found : ℕ) (b : Racing) : Type 0 where
+  pub race : b.race ≡ a.race
+  pub same : HasNotStored a.racer b.racer
+  pub differed : HasOtherWord (race_shape a.race) (racer_view a.racer) p expected found
+  pub counts : b.counts ≡ a.counts
+
+-- what a compare-and-swap of words came to
+abbrev pub IsWordExchange : Racing → ℕ → ℕ → ℕ → Result Kind ℕ → Racing → Type 0
+IsWordExchange a p expected word (Ok k) b = SwapsWord a p word expected k b
+IsWordExchange a p expected word (Err found) b = FindsOtherWord a p expected found b
+
+-- no slot of the heap may have the word
+abbrev pub SaysBadWord : Race → ℕ → Reason → Type 0
+SaysBadWord race word r = (r ≡ refusal.BadWord) × (MayHave race word → ⊥)
+
+-- the heap has the slot, which may have the word
+abbrev pub IsWordFor : Race → ℕ → ℕ → Type 0
+IsWordFor race slot word = (slot < slot_count (race_layout race)) × MayHave race word
+
+-- the heap lacks the slot, or no slot may have the word
+abbrev pub LacksWordPlace : Race → ℕ → ℕ → Reason → Type 0
+LacksWordPlace race slot word r = LacksSlot (race_layout race) slot r ⊎ SaysBadWord race word r
+
+-- the racer can store the word to the slot
+pub record CanStoreWord (race : Race) (racer : Racer) (slot word : ℕ) : Type 0 where
+  pub fits : IsWordFor race slot word
+  pub room : HasRoomToStore (race_shape race) slot word racer
+
+-- one of the two is so, or neither and the racer's log is full
+abbrev pub SaysNoWordStore : Race → Racer → ℕ → ℕ → Reason → Type 0
+SaysNoWordStore race racer slot word r = LacksWordPlace race slot word r
+    ⊎ (IsWordFor race slot word × SaysFullLog race racer slot word r)
+
+-- a racer before and after it stored these words to the slots from slot p on, each after the one
+-- before, which it could store then
+abbrev pub StoresWords : Racing → ℕ → List ℕ → Racing → Type 0
+StoresWords a p [] b = b ≡ a
+StoresWords a p (word ∷ words) b =
+    (c : Racing) × (old : ℕ) × (k : Kind) × CanStoreWord a.race a.racer p word
+    × SwapsWord a p word old k c × StoresWords c (p + 1) words b
+
+-- the word at this index of a row refers from its slot into another region, and the racer's log is
+-- full
+pub record IsRowFullAt (race : Race) (p : ℕ) (words : List ℕ) (count : ℕ) (racer : Racer)
+    : Type 0 where
+  pub more : count < length words
+  pub across : (d : ℕ) → crosses (race_shape race) (p + count) (slice_index_or words count d) ≡ true
+  pub full : 256 ≤ array_vec_len racer.log
+
+-- a racer before and after it stored as many words of a row: all of them, or those before one for
+-- which its log has no room
+pub record StoresRow (a : Racing) (p : ℕ) (words : List ℕ) (count : ℕ) (b : Racing)
+    : Type 0 where
+  pub row : IsRow (race_layout a.race) p words
+  pub stored : StoresWords a p (take count words) b
+  pub end : (count ≡ length words) ⊎ IsRowFullAt a.race p words count b.racer

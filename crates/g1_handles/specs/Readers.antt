@@ -1,9 +1,9 @@
 -- Several threads that read one pause, each by a reader.
 use Rattle.std.specs.Prelude.{◌≡◌, ◌⊎◌, ◌<◌, ◌↔◌, ◌++◌, IsPermutation}
-use Rattle.g1_handles.specs.Prelude.{ℕ, Bool, List, length, All, Any, Option}
-use Rattle.g1_handles.specs.Prelude.{IsTrue, arc_value, card_count, Shape, Table}
-use Rattle.g1_handles.specs.Prelude.{IsRecorded, Race, race_layout, race_shape, Pause}
-use Rattle.g1_handles.specs.Prelude.{table_at, start_at, Known, known, table_read, IsReaderOf}
+use Rattle.g1_handles.specs.Prelude.{ℕ, Bool, List, length, All, Any, Option, IsTrue, arc_value}
+use Rattle.g1_handles.specs.Prelude.{card_count, Shape, Table, IsRecorded, Race, race_layout}
+use Rattle.g1_handles.specs.Prelude.{race_shape, Pause, table_at, start_at, Known, known}
+use Rattle.g1_handles.specs.Prelude.{table_read, IsReaderOf, Result, Some}
 use Rattle.g1_handles.specs.declared.code.Reason.{Reason}
 use Rattle.g1_handles.specs.declared.code.Reason.TheVariants as refusal
 use Rattle.g1_handles.specs.declared.heap.racing_heap.AtPause.{AtPause}
@@ -14,6 +14,7 @@ use Rattle.g1_handles.specs.Life.{OfPaused, OfRead, HasRacers, HasReaders, SaysN
 use Rattle.g1_handles.specs.Life.{SaysNotPaused, FillRoom, OfAtPause, boxed_counts}
 use Rattle.g1_handles.specs.Racing.{OfRole, AreClosed, TakesPart, BelongsAs}
 use Rattle.g1_handles.specs.Refusals.{SaysNoParty, IsRoleRefused}
+use Rattle.g1_handles.specs.Codes.{IsAnswered}
 
 -- a reader with its race
 pub record ReaderAt : Type 0 where
@@ -103,6 +104,8 @@ pub record ReadsPair (a : ReaderAt) (card region : ℕ) (answer : Bool) : Type 0
   pub region_within : region < (reader_layout a).regions
   pub has : IsTrue answer ↔ IsRecorded (table_of_reader a) card region
 
--- a call by the reader of a handle, which is refused of the reader for this
-abbrev pub IsReaderRefused : Option ReaderParty → (ReaderAt → Reason → Type 0) → Reason → Type 0
-IsReaderRefused m Why r = IsRoleRefused reading_in m Why r
+-- a question to a reader has this answer, or is refused for this
+abbrev pub IsAnsweredByReader : {A : Type 0} → ReaderParty → Result A Reason → ReaderParty
+    → (ReaderAt → A → Type 0) → (ReaderAt → Reason → Type 0) → Type 0
+IsAnsweredByReader old r new Is Why = IsAnswered old r new
+    (λ answer. OfReader (Some old) (λ a. Is a answer)) (IsRoleRefused reading_in (Some old) Why)

@@ -1,18 +1,73 @@
 -- Why a call is refused: each refusal that it may answer, with what is so where it comes.
-use Rattle.std.specs.Prelude.{◌≡◌, ◌⊎◌, ◌<◌, ◌≤◌}
-use Rattle.g1_handles.specs.Prelude.{All, ℕ, List, length, Option, None}
-use Rattle.g1_handles.specs.Prelude.{IsSome, array_vec_len, Shape, IsShape, card_count, Settings}
-use Rattle.g1_handles.specs.Prelude.{AreSettings, Machine, race_layout, race_shape, Race, Racer}
-use Rattle.g1_handles.specs.Prelude.{true, crosses, word_of}
-use Rattle.g1_race.specs.Exchanging.{HasRoomToStore}
+use Rattle.std.specs.Prelude.{◌≡◌, ◌⊎◌, ◌+◌, ◌<◌, ◌≤◌, ◌^◌}
+use Rattle.g1_handles.specs.Prelude.{ℕ, List, All, length, Shape, slot_count, card_count, Option}
+use Rattle.g1_handles.specs.Prelude.{None, IsSome, array_vec_len, IsShape, Settings, AreSettings}
+use Rattle.g1_handles.specs.Prelude.{Machine, race_layout, race_shape, Race, Racer, true, crosses}
+use Rattle.g1_handles.specs.Prelude.{word_of, Result, Some}
 use Rattle.g1_handles.specs.declared.code.Reason.{Reason}
 use Rattle.g1_handles.specs.declared.code.Reason.TheVariants as refusal
+use Rattle.g1_handles.specs.Codes.{IsStoreOf, OfOpen, reference_of, IsMade}
+use Rattle.g1_race.specs.Exchanging.{HasRoomToStore}
 use Rattle.g1_handles.specs.declared.party.Role.{Ghosts}
 use Rattle.g1_handles.specs.declared.party.Party.{Party}
 use Rattle.g1_handles.specs.Own.{RacerParty, SweeperParty}
-use Rattle.g1_handles.specs.Codes.{IsStoreOf, OfOpen, reference_of}
-use Rattle.g1_handles.specs.Lacks.{LacksCard, LacksRegion, LacksPlace, SaysNoData, SaysNoMove}
-use Rattle.g1_handles.specs.Racing.{Racing, role_in, OfRole, racing_in, sweeping_in}
+use Rattle.g1_handles.specs.Racing.{Racing, role_in, OfRole, racing_in, sweeping_in, OfRacer}
+
+-- no slot has this number
+abbrev pub LacksSlot : Shape → ℕ → Reason → Type 0
+LacksSlot l slot r = (r ≡ refusal.NoSlot) × (slot_count l ≤ slot)
+
+-- no card has this number
+abbrev pub LacksCard : Shape → ℕ → Reason → Type 0
+LacksCard l card r = (r ≡ refusal.NoCard) × (card_count l ≤ card)
+
+-- no region has this number
+abbrev pub LacksRegion : Shape → ℕ → Reason → Type 0
+LacksRegion l region r = (r ≡ refusal.NoRegion) × (l.regions ≤ region)
+
+-- no region has one of these numbers
+abbrev pub LacksSomeRegion : Shape → List ℕ → Reason → Type 0
+LacksSomeRegion l regions r =
+    (r ≡ refusal.NoRegion) × (All (λ region. region < l.regions) regions → ⊥)
+
+-- there are not as many slots from the first one on
+abbrev pub LacksSlots : Shape → ℕ → ℕ → Reason → Type 0
+LacksSlots l first count r = (r ≡ refusal.NoSlot) × (slot_count l < first + count)
+
+-- one of the two ranges of as many slots from there on leaves the heap
+abbrev pub LacksRanges : Shape → ℕ → ℕ → ℕ → ℕ → Reason → Type 0
+LacksRanges l first count other others r = LacksSlots l first count r ⊎ LacksSlots l other others r
+
+-- a slot of the heap may have the word: null, a reference or data
+abbrev pub IsWordOf : Shape → ℕ → Type 0
+IsWordOf l word = (word ≤ slot_count l) ⊎ (2 ^ 32 ≤ word)
+
+-- there are as many slots from the first one on, which may have these words
+pub record IsRow (l : Shape) (first : ℕ) (words : List ℕ) : Type 0 where
+  pub within : first + length words ≤ slot_count l
+  pub fit : All (IsWordOf l) words
+
+-- there are not as many slots, or no slot may have one of the words
+abbrev pub LacksRow : Shape → ℕ → List ℕ → Reason → Type 0
+LacksRow l first words r = LacksSlots l first (length words) r
+    ⊎ ((r ≡ refusal.BadWord) × (All (IsWordOf l) words → ⊥))
+
+-- there is no such slot, or no such place of the target
+abbrev pub LacksPlace : Shape → ℕ → ℕ → Reason → Type 0
+LacksPlace l slot target r = (r ≡ refusal.NoSlot) × (IsStoreOf l slot target → ⊥)
+
+-- the slot is not there, or the word is no data
+abbrev pub SaysNoData : Shape → ℕ → ℕ → Reason → Type 0
+SaysNoData l slot word r = LacksSlot l slot r ⊎ ((r ≡ refusal.BadWord) × (word < 2 ^ 32))
+
+-- one of the two regions is not there, or both are the same
+abbrev pub SaysNoMove : Shape → ℕ → ℕ → Reason → Type 0
+SaysNoMove l from to r =
+    LacksRegion l from r ⊎ LacksRegion l to r ⊎ ((r ≡ refusal.SameRegion) × (from ≡ to))
+
+-- the card or the region is not there
+abbrev pub LacksPair : Shape → ℕ → ℕ → Reason → Type 0
+LacksPair l card region r = LacksCard l card r ⊎ LacksRegion l region r
 
 -- the handle is closed
 abbrev pub SaysNotOpen : {V : Type 0} → Option V → Reason → Type 0
@@ -61,25 +116,12 @@ abbrev pub IsRoleRefused : {P : Type 0} {g : Ghosts P} {T : Type 0} → (Party P
     → Option (Party P g) → (T → Reason → Type 0) → Reason → Type 0
 IsRoleRefused seen m Why r = SaysNoParty m r ⊎ OfRole seen m (λ a. Why a r)
 
--- a call by the racer of a handle, which is refused of the racer for this
-abbrev pub IsRacerRefused : Option RacerParty → (Racing → Reason → Type 0) → Reason → Type 0
-IsRacerRefused m Why r = IsRoleRefused racing_in m Why r
-
--- a store of the target into the slot by the racer of a handle
-abbrev pub IsRaceStoreRefused : Option RacerParty → ℕ → ℕ → Reason → Type 0
-IsRaceStoreRefused m slot target =
-    IsRacerRefused m (λ a. SaysNoStore a.race a.racer slot target)
-
--- a compare-and-swap of what is expected for the target
-abbrev pub IsRaceExchangeRefused : Option RacerParty → ℕ → ℕ → ℕ → Reason → Type 0
-IsRaceExchangeRefused m slot expected target =
-    IsRacerRefused m (λ a r. SaysNoStore a.race a.racer slot target r
-    ⊎ LacksPlace (race_layout a.race) slot expected r)
-
--- a store of data by the racer of a handle
-abbrev pub IsRaceDataRefused : Option RacerParty → ℕ → ℕ → Reason → Type 0
-IsRaceDataRefused m slot word =
-    IsRacerRefused m (λ a. SaysNoData (race_layout a.race) slot word)
+-- a call by a racer did this, by its answer, or was refused for this and changed nothing
+abbrev pub IsMadeByRacer : {A : Type 0} → RacerParty → Result A Reason → RacerParty
+    → (Racing → A → Racing → Type 0) → (Racing → Reason → Type 0) → Type 0
+IsMadeByRacer old r new Does Why = IsMade old r new
+    (λ answer. OfRacer (Some old) (λ a. OfRacer (Some new) (λ b. Does a answer b)))
+    (IsRoleRefused racing_in (Some old) Why)
 
 -- the refinement of the card by the sweeper of a handle, which takes no memory
 abbrev pub IsSweepRefused : Option SweeperParty → ℕ → Reason → Type 0

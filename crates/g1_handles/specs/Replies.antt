@@ -1,14 +1,18 @@
 -- What the words that C gets stand for.
-use Rattle.std.specs.Prelude.{◌≡◌, ◌<◌, ◌≤◌, ◌==◌, if◌then◌else◌}
-use Rattle.g1_handles.specs.Prelude.{All, card_count, drop, ℕ}
-use Rattle.g1_handles.specs.Prelude.{Option, Some, None, List, length, not, ⊤, Machine, IsLater}
-use Rattle.g1_handles.specs.Prelude.{IsOnlyRead, IsStep, clear_entry, drain_entry, target_entry}
-use Rattle.g1_handles.specs.Prelude.{redirect_entry, refine_entry, store_entry, unfilled}
-use Rattle.g1_handles.specs.Prelude.{ClearReply, Drained, Kind, DoesClear, DoesDrain, DoesRedirect}
-use Rattle.g1_handles.specs.Prelude.{DoesRefine, DoesStore, DoesTarget}
+use Rattle.std.specs.Prelude.{◌≡◌, ◌+◌, ◌<◌, ◌≤◌, ◌==◌, if◌then◌else◌, ◌∷◌, ◌++◌}
+use Rattle.g1_handles.specs.Prelude.{All, card_count, drop, ℕ, Option, Some, None, List, length}
+use Rattle.g1_handles.specs.Prelude.{not, ⊤, Machine, IsLater, IsOnlyRead, IsStep, clear_entry}
+use Rattle.g1_handles.specs.Prelude.{drain_entry, target_entry, redirect_entry, refine_entry}
+use Rattle.g1_handles.specs.Prelude.{store_entry, unfilled, ClearReply, Drained, Kind, DoesClear}
+use Rattle.g1_handles.specs.Prelude.{DoesDrain, DoesRedirect, DoesRefine, DoesStore, DoesTarget, []}
+use Rattle.g1_handles.specs.Prelude.{slice_index_or, fold, card_of, kind_of, logged_card}
+use Rattle.g1_handles.specs.Prelude.{stored_machine}
 use Rattle.g1_core.specs.declared.entry.Entry.{Entry}
 use Rattle.g1_core.specs.declared.reply.RefineReply.{RefineReply}
 use Rattle.g1_core.specs.declared.reply.Redirected.{Redirected}
+use Rattle.g1_layout.specs.Shape as layout
+use Rattle.g1_handles.specs.declared.one_core.batch.Store.{Store}
+use Rattle.g1_handles.specs.Codes.{reference_of, IsStoreOf}
 
 -- What a call of a core did, and that it is the step of its entry, whoever the caller is.
 pub record MakesStep (entry : ℕ → Entry) (does : Machine → Machine → Type 0)
@@ -78,3 +82,41 @@ AreOnlyRead None None = ⊤
 AreOnlyRead None (Some new) = ⊥
 AreOnlyRead (Some old) None = ⊥
 AreOnlyRead (Some old) (Some new) = IsOnlyRead old new
+
+-- the machine after some stores, and the cards that they logged, in order
+pub record AfterStores : Type 0 where
+  pub machine : Machine
+  pub cards : List ℕ
+
+abbrev pub cards_of : List ℕ → Option ℕ → List ℕ
+cards_of cards None = cards
+cards_of cards (Some card) = cards ++ card ∷ []
+
+-- one store more
+abbrev pub made : AfterStores → Store → AfterStores
+made m store = record {
+  machine = stored_machine m.machine store.slot (reference_of store.target);
+  cards = cards_of m.cards (logged_card
+      (kind_of m.machine.state.table store.slot (reference_of store.target))
+      (card_of m.machine.state.table.layout store.slot));
+}
+
+-- these stores, each after the one before
+abbrev pub made_all : Machine → List Store → AfterStores
+made_all m stores = fold made (record { machine = m; cards = [] }) stores
+
+-- The heap has each slot and each target of these stores.
+abbrev pub AreStoresOf : layout.Shape → List Store → Type 0
+AreStoresOf l stores = All (λ s. IsStoreOf l s.slot s.target) stores
+
+-- The store at this index names a slot or a target that the heap does not have.
+abbrev pub IsFaultAt : layout.Shape → List Store → ℕ → Type 0
+IsFaultAt l stores i =
+    (i < length stores) × ((d : Store)
+    → IsStoreOf l (slice_index_or stores i d).slot (slice_index_or stores i d).target → ⊥)
+
+-- a copy of as many slots, whose two ranges are within this many
+pub record CopiesWithin (slots from to count : ℕ) (Copied : Type 0) : Type 0 where
+  pub source : from + count ≤ slots
+  pub target : to + count ≤ slots
+  pub copied : Copied

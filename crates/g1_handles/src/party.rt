@@ -3,19 +3,17 @@
 //! - [`store`], [`log`] and [`refine`] are the path of a card while parties are out, and [`counts`]
 //!   tells what a party has done.
 //! - [`exchange`] has the stores that return what a slot referred to or depend on it, [`batch`]
-//!   several stores by one call, [`data`] a store of data, [`words`] the stores of any word that
-//!   return or compare the one before, and [`row`] a row of words by one call.
+//!   several stores or a row of words by one call, and [`words`] a store of data and the stores of
+//!   any word that return or compare the one before.
 //! - [`reader_queries`] has what a reader answers.
 #![tactic(auto, using(crate::proofs::PartyLemmas::same_parties))]
 
 pub mod batch;
 pub mod counts;
-pub mod data;
 pub mod exchange;
 pub mod log;
 pub mod reader_queries;
 pub mod refine;
-pub mod row;
 pub mod store;
 pub mod words;
 

@@ -1,5 +1,5 @@
 //! Refinement and drains of a heap at a pause.
-ghost use Rattle.g1_c.specs.{ListsOfHeap, called, listing, DrainsRegion, OnHeap, Refines};
+ghost use Rattle.g1_c.specs.{ListsOfHeap, listing, DrainsRegion, OnHeap, Refines};
 
 use crate::calling::on_heap;
 use crate::tell::{answer_word, tell_set};
@@ -15,8 +15,8 @@ pub extern "C" fn g1_heap_drain(
     cards: &mut [u32],
     count: &mut u32,
 ) -> u32
-    ensures { ListsOfHeap (called result heap.old.value heap.new.value)
-        (listing cards.old cards.new count.new) (λ old new. DrainsRegion old region new) region }
+    ensures { ListsOfHeap result heap.old heap.new (listing cards.old cards.new count.new) (λ old
+        new. DrainsRegion old region new) region }
 {
     *count = 0;
     tell_set!(set_of_heap(heap, Which::Refined, region, cards), count)
@@ -25,8 +25,7 @@ pub extern "C" fn g1_heap_drain(
 /// As in `g1.h`.
 #[unsafe(no_mangle)]
 pub extern "C" fn g1_heap_refine(heap: &mut HeapHandle) -> u32
-    ensures { OnHeap 0 (called result heap.old.value heap.new.value) (Unit {0}) Refines
-        (λ old r. ⊥) }
+    ensures { OnHeap 0 result heap.old heap.new (Unit {0}) Refines (λ old r. ⊥) }
 {
     answer_word(on_heap!(heap, Ok(refine_at())))
 }

@@ -1,7 +1,7 @@
 //! What follows an evacuation of a heap at a pause: references are moved or a remembered set is
 //! emptied, and regions are freed.
 ghost use Rattle.std.specs.Prelude.{◌≡◌, ◌⊎◌};
-ghost use Rattle.g1_c.specs.{ClearsOnHeap, called, ClearsAt, LacksRegion, FreesAt, LacksSomeRegion};
+ghost use Rattle.g1_c.specs.{ClearsOnHeap, ClearsAt, LacksRegion, FreesAt, LacksSomeRegion};
 ghost use Rattle.g1_c.specs.{OnHeap, Redirects, SaysNoMove, Wipes, Forgets, RefersOut};
 
 use crate::calling::on_heap;
@@ -14,8 +14,8 @@ use g1_handles::heap::evacuation::{clear_at, forget_at, free_at, redirect_at, wi
 /// As in `g1.h`.
 #[unsafe(no_mangle)]
 pub extern "C" fn g1_heap_clear(heap: &mut HeapHandle, region: u32, detail: &mut u32) -> u32
-    ensures { ClearsOnHeap (called result heap.old.value heap.new.value) detail.new
-        (λ old reply new. ClearsAt old region reply new) (λ old. LacksRegion old.layout region) }
+    ensures { ClearsOnHeap result heap.old heap.new detail.new (λ old reply new. ClearsAt old region
+        reply new) (λ old. LacksRegion old.layout region) }
 {
     tell_reply!(on_heap!(heap, clear_at(region)), detail)
 }
@@ -23,9 +23,8 @@ pub extern "C" fn g1_heap_clear(heap: &mut HeapHandle, region: u32, detail: &mut
 /// As in `g1.h`.
 #[unsafe(no_mangle)]
 pub extern "C" fn g1_heap_free(heap: &mut HeapHandle, regions: &[u32], detail: &mut u32) -> u32
-    ensures { ClearsOnHeap (called result heap.old.value heap.new.value) detail.new
-        (λ old reply new. FreesAt old regions.now reply new)
-        (λ old. LacksSomeRegion old.layout regions.now) }
+    ensures { ClearsOnHeap result heap.old heap.new detail.new (λ old reply new. FreesAt old
+        regions.now reply new) (λ old. LacksSomeRegion old.layout regions.now) }
 {
     tell_reply!(on_heap!(heap, free_at(regions)), detail)
 }
@@ -38,8 +37,8 @@ pub extern "C" fn g1_heap_redirect(
     to: u32,
     moved: &mut u32,
 ) -> u32
-    ensures { OnHeap 0 (called result heap.old.value heap.new.value) (moved.new ≡ 0)
-        (λ old new. Redirects old from to moved.new new) (λ old. SaysNoMove old.layout from to) }
+    ensures { OnHeap 0 result heap.old heap.new (moved.new ≡ 0) (λ old new. Redirects old from to
+        moved.new new) (λ old. SaysNoMove old.layout from to) }
 {
     tell(on_heap!(heap, redirect_at(from, to)), 0, moved)
 }
@@ -47,8 +46,8 @@ pub extern "C" fn g1_heap_redirect(
 /// As in `g1.h`.
 #[unsafe(no_mangle)]
 pub extern "C" fn g1_heap_wipe(heap: &mut HeapHandle, region: u32) -> u32
-    ensures { OnHeap 0 (called result heap.old.value heap.new.value) (Unit {0})
-        (λ old new. Wipes old region new) (λ old. LacksRegion old.layout region) }
+    ensures { OnHeap 0 result heap.old heap.new (Unit {0}) (λ old new. Wipes old region new) (λ old.
+        LacksRegion old.layout region) }
 {
     answer_word(on_heap!(heap, wipe_at(region)))
 }
@@ -56,10 +55,9 @@ pub extern "C" fn g1_heap_wipe(heap: &mut HeapHandle, region: u32) -> u32
 /// As in `g1.h`.
 #[unsafe(no_mangle)]
 pub extern "C" fn g1_heap_forget(heap: &mut HeapHandle, region: u32) -> u32
-    ensures { OnHeap 0 (called result heap.old.value heap.new.value) (Unit {0})
-        (λ old new. Forgets old region new × (RefersOut old region → ⊥))
-        (λ old r. LacksRegion old.layout region r
-        ⊎ ((r ≡ Reason.StillReferenced) × RefersOut old region)) }
+    ensures { OnHeap 0 result heap.old heap.new (Unit {0}) (λ old new. Forgets old region new ×
+        (RefersOut old region → ⊥)) (λ old r. LacksRegion old.layout region r ⊎ ((r ≡
+        Reason.StillReferenced) × RefersOut old region)) }
 {
     answer_word(on_heap!(heap, forget_at(region)))
 }

@@ -8,8 +8,7 @@ ghost use Rattle.g1_c.specs.{IsPauseRefused, Closes, IsCloseRefused};
 use crate::tell::answer_word;
 use g1_handles::handles::{HeapHandle, RacerHandle, SweeperHandle};
 use g1_handles::heap::open::{close_heap, open_heap};
-use g1_handles::heap::pause::pause_heap;
-use g1_handles::heap::resume::resume_heap;
+use g1_handles::heap::phases::{pause_heap, resume_heap};
 use g1_handles::one_core::open::Counts;
 use std::alloc::Global;
 
@@ -69,9 +68,8 @@ pub extern "C" fn g1_heap_pause(
 /// As in `g1.h`.
 #[unsafe(no_mangle)]
 pub extern "C" fn g1_heap_close(alloc: Global, heap: &mut HeapHandle) -> u32
-    ensures { IsMadeOrRefused 0 (called result heap.old.value heap.new.value) (Unit {0})
-        (Closes (OfPaused heap.old.value (λ p. Unit {0})) heap.new.value)
-        (IsCloseRefused heap.old.value) }
+    ensures { IsMadeOrRefused 0 (called result heap.old.value heap.new.value) (Unit {0}) (Closes
+        (OfPaused heap.old.value (λ p. Unit {0})) heap.new.value) (IsCloseRefused heap.old.value) }
 {
     answer_word(close_heap(alloc, heap))
 }

@@ -1,13 +1,13 @@
-//! The collector's own stores into a heap at a pause.
+//! The collector's own stores into a heap at a pause, one by one or a row of words by one call.
 ghost use Rattle.std.specs.Prelude.{◌≡◌};
-ghost use Rattle.g1_c.specs.{OnHeap, called, OfKind, StoresAt, reference_of, LacksPlace};
-ghost use Rattle.g1_c.specs.{StoresSeveral, StoresAllAt, take, length, IsFaultAt};
+ghost use Rattle.g1_c.specs.{OnHeap, OfKind, StoresAt, reference_of, LacksPlace, StoresSeveral};
+ghost use Rattle.g1_c.specs.{StoresAllAt, take, length, IsFaultAt, StoresRowAt, LacksRow};
 
 use crate::calling::on_heap;
-use crate::tell::tell_kind;
+use crate::tell::{answer_word, tell_kind};
 use g1_handles::code::{DONE, STOPPED};
 use g1_handles::handles::HeapHandle;
-use g1_handles::heap::stores::{store_all_at, store_at};
+use g1_handles::heap::stores::{store_all_at, store_at, store_words_at};
 use g1_handles::one_core::batch::Store;
 
 /// As in `g1.h`.
@@ -18,9 +18,8 @@ pub extern "C" fn g1_heap_store(
     target: u32,
     kind: &mut u32,
 ) -> u32
-    ensures { OnHeap 0 (called result heap.old.value heap.new.value) (kind.new ≡ 0)
-        (λ old new. OfKind kind.new (λ k. StoresAt old slot (reference_of target) k new))
-        (λ old. LacksPlace old.layout slot target) }
+    ensures { OnHeap 0 result heap.old heap.new (kind.new ≡ 0) (λ old new. OfKind kind.new (λ k.
+        StoresAt old slot (reference_of target) k new)) (λ old. LacksPlace old.layout slot target) }
 {
     tell_kind!(on_heap!(heap, store_at(slot, target)), kind)
 }
@@ -32,10 +31,9 @@ pub extern "C" fn g1_heap_store_all(
     stores: &[Store],
     stored: &mut usize,
 ) -> u32
-    ensures { OnHeap 3 (called result heap.old.value heap.new.value) (stored.new ≡ 0)
-        (λ old new. StoresSeveral result (StoresAllAt old (take stored.new stores.now) new)
-        (stored.new ≡ length stores.now) (IsFaultAt old.layout stores.now stored.new) ⊥)
-        (λ old r. ⊥) }
+    ensures { OnHeap 3 result heap.old heap.new (stored.new ≡ 0) (λ old new. StoresSeveral result
+        (StoresAllAt old (take stored.new stores.now) new) (stored.new ≡ length stores.now)
+        (IsFaultAt old.layout stores.now stored.new) ⊥) (λ old r. ⊥) }
 {
     match on_heap!(heap, Ok(store_all_at(stores))) {
         Err(refusal) => {
@@ -47,4 +45,13 @@ pub extern "C" fn g1_heap_store_all(
             if count == stores.len() { DONE } else { STOPPED }
         }
     }
+}
+
+/// As in `g1.h`.
+#[unsafe(no_mangle)]
+pub extern "C" fn g1_heap_store_words(heap: &mut HeapHandle, slot: u32, words: &[u64]) -> u32
+    ensures { OnHeap 0 result heap.old heap.new (Unit {0}) (λ old new. StoresRowAt old slot
+        words.now new) (λ old. LacksRow old.layout slot words.now) }
+{
+    answer_word(on_heap!(heap, store_words_at(slot, words)))
 }

@@ -23,9 +23,8 @@ pub extern "C" fn g1_heap_words(heap: &mut HeapHandle, words: &mut *const u64) -
 /// As in `g1.h`.
 #[unsafe(no_mangle)]
 pub extern "C" fn g1_heap_word(heap: &mut HeapHandle, slot: u32, word: &mut u64) -> u32
-    ensures { ToldByHeap (called result heap.old.value heap.new.value) word.new (word.new ≡ 0)
-        (λ word old. TellsWord old.layout (start_at old) slot word)
-        (λ old. LacksSlot old.layout slot) }
+    ensures { ToldByHeap result heap.old heap.new word.new (word.new ≡ 0) (λ word old. TellsWord
+        old.layout (start_at old) slot word) (λ old. LacksSlot old.layout slot) }
 {
     let answer = on_heap!(heap, word_at(slot));
     tell(answer, 0, word)
@@ -34,8 +33,8 @@ pub extern "C" fn g1_heap_word(heap: &mut HeapHandle, slot: u32, word: &mut u64)
 /// As in `g1.h`.
 #[unsafe(no_mangle)]
 pub extern "C" fn g1_heap_store_data(heap: &mut HeapHandle, slot: u32, word: u64) -> u32
-    ensures { OnHeap 0 (called result heap.old.value heap.new.value) (Unit {0})
-        (λ old new. StoresDataAt old slot word new) (λ old. SaysNoData old.layout slot word) }
+    ensures { OnHeap 0 result heap.old heap.new (Unit {0}) (λ old new. StoresDataAt old slot word
+        new) (λ old. SaysNoData old.layout slot word) }
 {
     answer_word(on_heap!(heap, store_data_at(slot, word)))
 }

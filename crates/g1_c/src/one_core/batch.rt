@@ -1,6 +1,6 @@
 //! Several stores by one call.
 ghost use Rattle.std.specs.Prelude.{◌≡◌};
-ghost use Rattle.g1_c.specs.{OnCore, called, StoresSeveral, AreStored, take, length, IsFaultAt};
+ghost use Rattle.g1_c.specs.{OnCore, StoresSeveral, AreStored, take, length, IsFaultAt};
 ghost use Rattle.g1_c.specs.{AreStoresRefused, IsWritten};
 
 use crate::calling::on_core;
@@ -27,12 +27,11 @@ pub extern "C" fn g1_store_all(
     cards: &mut [u32],
     batch: &mut Batch,
 ) -> u32
-    ensures stored { OnCore 3 (called result handle.old.value handle.new.value)
-        ((batch.new.stored ≡ 0) × (batch.new.logged ≡ 0)) (λ old new. StoresSeveral result
-        (AreStored old (take batch.new.stored stores.now) (take batch.new.logged cards.new) new)
-        (batch.new.stored ≡ length stores.now)
-        (IsFaultAt old.state.table.layout stores.now batch.new.stored) ⊥)
-        (λ old. AreStoresRefused (length stores.now) (length cards.old)) }
+    ensures stored { OnCore 3 result handle.old handle.new ((batch.new.stored ≡ 0) ×
+        (batch.new.logged ≡ 0)) (λ old new. StoresSeveral result (AreStored old (take
+        batch.new.stored stores.now) (take batch.new.logged cards.new) new) (batch.new.stored ≡
+        length stores.now) (IsFaultAt old.state.table.layout stores.now batch.new.stored) ⊥) (λ old.
+        AreStoresRefused (length stores.now) (length cards.old)) }
     ensures written { IsWritten cards.old batch.new.logged cards.new }
 {
     *batch = Batch {

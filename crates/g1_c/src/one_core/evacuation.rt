@@ -17,10 +17,9 @@ use g1_handles::one_core::evacuation::{clear_in, redirect_in};
 /// A refused clear may have raised the core's count of reads.
 #[unsafe(no_mangle)]
 pub extern "C" fn g1_clear(handle: &mut Handle, region: u32, detail: &mut u32) -> u32
-    ensures cleared { IsCleared (called result handle.old.value handle.new.value) detail.new
-        (λ reply. Between handle.old.value handle.new.value (λ old new.
-        ClearsTo old region reply new)) (IsCallRefused handle.old.value (λ old.
-        LacksRegion old.state.table.layout region)) }
+    ensures cleared { IsCleared (called result handle.old.value handle.new.value) detail.new (λ
+        reply. Between handle.old.value handle.new.value (λ old new. ClearsTo old region reply new))
+        (IsCallRefused handle.old.value (λ old. LacksRegion old.state.table.layout region)) }
     ensures refused { 0 < result → AreOnlyRead handle.old.value handle.new.value }
 {
     tell_reply!(on_core!(handle, clear_in(region)), detail)
@@ -36,10 +35,10 @@ pub extern "C" fn g1_redirect(
     refined: &mut [u32],
     refined_count: &mut u32,
 ) -> u32
-    ensures redirected { OnCore 1 (called result handle.old.value handle.new.value)
-        (refined_count.new ≡ 0) (λ old new. RedirectsTo old from to (redirected_of result
-        moved.new (take refined_count.new refined.new)) new)
-        (λ old. IsRedirectRefused old.state.table.layout from to (length refined.old)) }
+    ensures redirected { OnCore 1 result handle.old handle.new (refined_count.new ≡ 0) (λ old new.
+        RedirectsTo old from to (redirected_of result moved.new (take refined_count.new
+        refined.new)) new) (λ old. IsRedirectRefused old.state.table.layout from to (length
+        refined.old)) }
     ensures none { 0 < result → moved.new ≡ 0 }
     ensures written { IsWritten refined.old refined_count.new refined.new }
 {

@@ -17,12 +17,11 @@ pub extern "C" fn g1_members(
     cards: &mut [u32],
     count: &mut u32,
 ) -> u32
-    ensures members { IsListed (called result handle.old.value handle.new.value)
-        (listing cards.old cards.new count.new) (OfOpen handle.old.value (λ core.
-        TellsMembers core.state.table region (take count.new cards.new)))
-        (OfOpen handle.old.value (λ core.
-        Overflows (TellsMembers core.state.table region) (length cards.old) count.new))
-        (IsCallRefused handle.old.value (λ old. AreMembersRefused old.state.table.layout region)) }
+    ensures members { IsListed (called result handle.old.value handle.new.value) (listing cards.old
+        cards.new count.new) (OfOpen handle.old.value (λ core. TellsMembers core.state.table region
+        (take count.new cards.new))) (OfOpen handle.old.value (λ core. Overflows (TellsMembers
+        core.state.table region) (length cards.old) count.new)) (IsCallRefused handle.old.value (λ
+        old. AreMembersRefused old.state.table.layout region)) }
     ensures unwritten { 0 < result → cards.new ≡ cards.old }
     ensures same { handle.new.value ≡ handle.old.value }
 {

@@ -1,7 +1,6 @@
 //! The pause.
 ghost use Rattle.std.specs.Prelude.{◌≡◌, ◌<◌};
-ghost use Rattle.g1_c.specs.{OnCore, called, DrainsTo, drained_of, take, IsDrainRefused, length};
-ghost use Rattle.g1_c.specs.{IsWritten};
+ghost use Rattle.g1_c.specs.{OnCore, DrainsTo, drained_of, take, IsDrainRefused, length, IsWritten};
 
 use crate::calling::on_core;
 use g1_core::Drained;
@@ -20,9 +19,9 @@ pub extern "C" fn g1_drain(
     refined: &mut [u32],
     refined_count: &mut u32,
 ) -> u32
-    ensures drained { OnCore 1 (called result handle.old.value handle.new.value)
-        (refined_count.new ≡ 0) (λ old new. DrainsTo old region (drained_of result
-        (take count.new cards.new) (take refined_count.new refined.new)) new) (λ old.
+    ensures drained { OnCore 1 result handle.old handle.new (refined_count.new ≡ 0)
+        (λ old new. DrainsTo old region (drained_of result (take count.new cards.new)
+        (take refined_count.new refined.new)) new) (λ old.
         IsDrainRefused old.state.table.layout region (length cards.old) (length refined.old)) }
     ensures none { 0 < result → count.new ≡ 0 }
     ensures cards { IsWritten cards.old count.new cards.new }

@@ -1,6 +1,6 @@
 //! Refinement.
 ghost use Rattle.std.specs.Prelude.{◌≡◌};
-ghost use Rattle.g1_c.specs.{OnCore, called, RefinesTo, reply_of, take, IsRefinementRefused};
+ghost use Rattle.g1_c.specs.{OnCore, RefinesTo, reply_of, take, IsRefinementRefused};
 ghost use Rattle.g1_c.specs.{length, IsWritten};
 
 use crate::calling::on_core;
@@ -28,11 +28,14 @@ pub extern "C" fn g1_refine(
     refined: &mut [u32],
     tally: &mut Tally,
 ) -> u32
-    ensures refined { OnCore 1 (called result handle.old.value handle.new.value)
-        (tally.new ≡ record { refined = 0; hot = 0; skipped = 0 })
-        (λ old new. RefinesTo old cards.now (reply_of result
-        (take tally.new.refined refined.new) tally.new.hot tally.new.skipped) new)
-        (λ old. IsRefinementRefused old.state.table.layout cards.now (length refined.old)) }
+    ensures refined { OnCore 1 result handle.old handle.new (tally.new ≡ record {
+      refined = 0;
+      hot =
+          0;
+      skipped = 0;
+    }) (λ old new. RefinesTo old cards.now (reply_of result (take
+        tally.new.refined refined.new) tally.new.hot tally.new.skipped) new) (λ old.
+        IsRefinementRefused old.state.table.layout cards.now (length refined.old)) }
     ensures written { IsWritten refined.old tally.new.refined refined.new }
 {
     *tally = Tally {

@@ -1,6 +1,6 @@
 //! Checks of a core for a debug build.
 ghost use Rattle.std.specs.Prelude.{◌≡◌};
-ghost use Rattle.g1_c.specs.{OnCore, called, Checks, LacksRanges, length};
+ghost use Rattle.g1_c.specs.{OnCore, Checks, LacksRanges, length};
 
 use crate::calling::on_core;
 use g1_handles::code::{DONE, NULL};
@@ -17,10 +17,9 @@ pub extern "C" fn g1_verify(
     differing: &mut u32,
     missing: &mut u32,
 ) -> u32
-    ensures { OnCore 0 (called result handle.old.value handle.new.value)
-        ((differing.new ≡ 4294967295) × (missing.new ≡ 4294967295))
-        (λ old new. Checks old first count references.now differing.new missing.new new)
-        (λ old. LacksRanges old.state.table.layout first count first (length references.now)) }
+    ensures { OnCore 0 result handle.old handle.new ((differing.new ≡ 4294967295) × (missing.new ≡
+        4294967295)) (λ old new. Checks old first count references.now differing.new missing.new
+        new) (λ old. LacksRanges old.state.table.layout first count first (length references.now)) }
 {
     match on_core!(handle, verify_in(first, count, references)) {
         Err(refusal) => {

@@ -49,10 +49,9 @@ pub extern "C" fn g1_sweeper_counts(
     references: &mut u64,
 ) -> u32
     ensures counts { IsMadeOrRefused 0 (called result sweeper.old.value sweeper.new.value)
-        ((refined.new ≡ 0) × (cleaned.new ≡ 0) × (references.new ≡ 0))
-        (OfSweeper sweeper.old.value (λ a. (refined.new ≡ a.counts.sweeps.refined)
-        × (cleaned.new ≡ a.counts.sweeps.cleaned)
-        × (references.new ≡ a.counts.sweeps.references))) (SaysNoParty sweeper.old.value) }
+        ((refined.new ≡ 0) × (cleaned.new ≡ 0) × (references.new ≡ 0)) (OfSweeper sweeper.old.value
+        (λ a. (refined.new ≡ a.counts.sweeps.refined) × (cleaned.new ≡ a.counts.sweeps.cleaned) ×
+        (references.new ≡ a.counts.sweeps.references))) (SaysNoParty sweeper.old.value) }
     ensures same { sweeper.new.value ≡ sweeper.old.value }
 {
     match on_sweeper!(sweeper, sweep_counts_by()) {

@@ -1,6 +1,6 @@
 //! Stores in a race that tell what the slot referred to before, or depend on it.
 ghost use Rattle.std.specs.Prelude.{◌≡◌, ◌⊎◌, ◌<◌};
-ghost use Rattle.g1_c.specs.{OnRacer, called, StoresAs, CanStore, Swaps, reference_of, SaysNoStore};
+ghost use Rattle.g1_c.specs.{OnRacer, StoresAs, CanStore, Swaps, reference_of, SaysNoStore};
 ghost use Rattle.g1_c.specs.{ComparesAndSwaps, IsStoreOf, race_layout, OfKind, Exchanges};
 ghost use Rattle.g1_c.specs.{FindsOther, LacksPlace};
 
@@ -18,10 +18,9 @@ pub extern "C" fn g1_race_swap(
     old: &mut u32,
     kind: &mut u32,
 ) -> u32
-    ensures { OnRacer 0 (called result racer.old.value racer.new.value)
-        ((old.new ≡ 4294967295) × (kind.new ≡ 0)) (λ a b. StoresAs kind.new
-        (CanStore a.race a.racer slot target) (λ k. Swaps a slot (reference_of target)
-        (reference_of old.new) k b)) (λ a. SaysNoStore a.race a.racer slot target) }
+    ensures { OnRacer 0 result racer.old racer.new ((old.new ≡ 4294967295) × (kind.new ≡ 0)) (λ a b.
+        StoresAs kind.new (CanStore a.race a.racer slot target) (λ k. Swaps a slot (reference_of
+        target) (reference_of old.new) k b)) (λ a. SaysNoStore a.race a.racer slot target) }
 {
     match on_racer!(racer, swap_by(slot, target)) {
         Err(refusal) => {
@@ -47,14 +46,12 @@ pub extern "C" fn g1_race_compare_exchange(
     found: &mut u32,
     kind: &mut u32,
 ) -> u32
-    ensures exchanged { OnRacer 2 (called result racer.old.value racer.new.value)
-        (found.new ≡ 4294967295) (λ a b. ComparesAndSwaps result
-        (IsStoreOf (race_layout a.race) slot expected × CanStore a.race a.racer slot target)
-        ((found.new ≡ expected) × OfKind kind.new (λ k.
-        Exchanges a slot (reference_of expected) (reference_of target) k b))
-        (FindsOther a slot (reference_of expected) (reference_of found.new) b))
-        (λ a r. SaysNoStore a.race a.racer slot target r
-        ⊎ LacksPlace (race_layout a.race) slot expected r) }
+    ensures exchanged { OnRacer 2 result racer.old racer.new (found.new ≡ 4294967295) (λ a b.
+        ComparesAndSwaps result (IsStoreOf (race_layout a.race) slot expected × CanStore a.race
+        a.racer slot target) ((found.new ≡ expected) × OfKind kind.new (λ k. Exchanges a slot
+        (reference_of expected) (reference_of target) k b)) (FindsOther a slot (reference_of
+        expected) (reference_of found.new) b)) (λ a r. SaysNoStore a.race a.racer slot target r ⊎
+        LacksPlace (race_layout a.race) slot expected r) }
     ensures none { 0 < result → kind.new ≡ 0 }
 {
     *kind = 0;

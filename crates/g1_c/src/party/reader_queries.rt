@@ -1,7 +1,7 @@
 //! Queries by a reader: what a slot refers to and its word, whether a card is pending, and what is
 //! recorded for a region.
 ghost use Rattle.std.specs.Prelude.{◌≡◌, ◌≤◌, ◌==◌};
-ghost use Rattle.g1_c.specs.{ToldByReader, called, TellsTarget, table_of_reader, reference_of};
+ghost use Rattle.g1_c.specs.{ToldByReader, TellsTarget, table_of_reader, reference_of};
 ghost use Rattle.g1_c.specs.{LacksSlot, reader_layout, TellsWord, TellsPending, LacksCard};
 ghost use Rattle.g1_c.specs.{ReadsPair, LacksPair, TellsNextMember, LacksRegion};
 
@@ -16,9 +16,9 @@ use g1_handles::party::reader_queries::{
 /// As in `g1.h`.
 #[unsafe(no_mangle)]
 pub extern "C" fn g1_reader_target(reader: &mut ReaderHandle, slot: u32, target: &mut u32) -> u32
-    ensures { ToldByReader (called result reader.old.value reader.new.value) target.new
-        (target.new ≡ 4294967295) (λ target a. TellsTarget (table_of_reader a) slot
-        (reference_of target)) (λ a. LacksSlot (reader_layout a) slot) }
+    ensures { ToldByReader result reader.old reader.new target.new (target.new ≡ 4294967295) (λ
+        target a. TellsTarget (table_of_reader a) slot (reference_of target)) (λ a. LacksSlot
+        (reader_layout a) slot) }
 {
     let answer = on_reader!(reader, target_by(slot));
     tell(answer, NULL, target)
@@ -27,9 +27,8 @@ pub extern "C" fn g1_reader_target(reader: &mut ReaderHandle, slot: u32, target:
 /// As in `g1.h`.
 #[unsafe(no_mangle)]
 pub extern "C" fn g1_reader_word(reader: &mut ReaderHandle, slot: u32, word: &mut u64) -> u32
-    ensures { ToldByReader (called result reader.old.value reader.new.value) word.new
-        (word.new ≡ 0) (λ word a. TellsWord (reader_layout a) a.reader.start slot word)
-        (λ a. LacksSlot (reader_layout a) slot) }
+    ensures { ToldByReader result reader.old reader.new word.new (word.new ≡ 0) (λ word a. TellsWord
+        (reader_layout a) a.reader.start slot word) (λ a. LacksSlot (reader_layout a) slot) }
 {
     let answer = on_reader!(reader, word_by(slot));
     tell(answer, 0, word)
@@ -42,9 +41,9 @@ pub extern "C" fn g1_reader_is_pending(
     card: u32,
     pending: &mut u32,
 ) -> u32
-    ensures told { ToldByReader (called result reader.old.value reader.new.value)
-        (pending.new == 1) (pending.new ≡ 0) (λ answer a.
-        TellsPending (table_of_reader a) card answer) (λ a. LacksCard (reader_layout a) card) }
+    ensures told { ToldByReader result reader.old reader.new (pending.new == 1) (pending.new ≡ 0) (λ
+        answer a. TellsPending (table_of_reader a) card answer) (λ a. LacksCard (reader_layout a)
+        card) }
     ensures word { pending.new ≤ 1 }
 {
     let answer = on_reader!(reader, is_pending_by(card));
@@ -59,9 +58,8 @@ pub extern "C" fn g1_reader_has(
     region: u32,
     has: &mut u32,
 ) -> u32
-    ensures told { ToldByReader (called result reader.old.value reader.new.value) (has.new == 1)
-        (has.new ≡ 0) (λ answer a. ReadsPair a card region answer)
-        (λ a. LacksPair (reader_layout a) card region) }
+    ensures told { ToldByReader result reader.old reader.new (has.new == 1) (has.new ≡ 0) (λ answer
+        a. ReadsPair a card region answer) (λ a. LacksPair (reader_layout a) card region) }
     ensures word { has.new ≤ 1 }
 {
     let answer = on_reader!(reader, has_by(card, region));
@@ -76,9 +74,9 @@ pub extern "C" fn g1_reader_next_member(
     from: u32,
     card: &mut u32,
 ) -> u32
-    ensures { ToldByReader (called result reader.old.value reader.new.value) card.new
-        (card.new ≡ 4294967295) (λ card a. TellsNextMember (table_of_reader a) region from
-        (reference_of card)) (λ a. LacksRegion (reader_layout a) region) }
+    ensures { ToldByReader result reader.old reader.new card.new (card.new ≡ 4294967295) (λ card a.
+        TellsNextMember (table_of_reader a) region from (reference_of card)) (λ a. LacksRegion
+        (reader_layout a) region) }
 {
     let answer = on_reader!(reader, next_member_by(region, from));
     tell(answer, NULL, card)

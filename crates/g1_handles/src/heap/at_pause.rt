@@ -1,6 +1,5 @@
 //! A call on a heap at a pause.
-ghost use Rattle.g1_handles.specs.{Result, FnOnceReturnsAtMut, Pause, Reason, IsRaceWith};
-ghost use Rattle.g1_handles.specs.{IsCalled};
+ghost use Rattle.g1_handles.specs.{Result, FnOnceReturnsAtMut, Pause, Reason, IsRaceWith, IsCalled};
 
 use crate::any_handle::AnyHandle;
 use crate::code::Reason;

@@ -1,7 +1,6 @@
 //! A range of slots is copied to another one at a pause.
-ghost use Rattle.std.specs.Prelude.{◌≡◌, ◌+◌, ◌≤◌};
-ghost use Rattle.g1_handles.specs.{IsOk, OnOk, IfErr, OnErr, slot_count, IsRaceWith};
-ghost use Rattle.g1_handles.specs.{LacksRanges, Copies};
+ghost use Rattle.g1_handles.specs.{slot_count, IsRaceWith, LacksRanges, Copies, IsMade};
+ghost use Rattle.g1_handles.specs.{CopiesWithin};
 
 use crate::code::Reason;
 use crate::heap::at_pause::PausedHeap;
@@ -10,11 +9,9 @@ use crate::one_core::copy::has_slots;
 /// Copies the words of `count` slots, from the slot `from` on, to as many from the slot `to` on.
 /// Returns `NoSlot` if one of the two ranges leaves the heap: nothing has changed.
 pub fn copy_at(heap: &mut PausedHeap, from: u32, to: u32, count: u32) -> Result<(), Reason>
-    ensures copied { OnOk result (Copies heap.old from to count heap.new) }
-    ensures within { IsOk result → (from + count ≤ slot_count heap.old.layout)
-        × (to + count ≤ slot_count heap.old.layout) }
-    ensures why { IfErr result (LacksRanges heap.old.layout from count to count) }
-    ensures refused { OnErr result (heap.new ≡ heap.old) }
+    ensures copied { IsMade heap.old result heap.new (λ done. CopiesWithin
+        (slot_count heap.old.layout) from to count (Copies heap.old from to count heap.new))
+        (LacksRanges heap.old.layout from count to count) }
     ensures kept { IsRaceWith heap.new.logs heap.old heap.new }
 {
     let layout = heap.layout();

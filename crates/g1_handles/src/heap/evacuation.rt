@@ -1,14 +1,14 @@
 //! What follows an evacuation: references are moved or a remembered set is emptied, and regions are
 //! freed.
 ghost use Rattle.std.specs.Prelude.{◌≡◌, ◌≢◌, ◌<◌, ◌⊎◌};
-ghost use Rattle.g1_handles.specs.{true, ℕ, false, IfOk, OnOk, IfErr, OnErr};
-ghost use Rattle.g1_handles.specs.{region_of, Crosses, table_at, IsRaceWith, ClearsAt, Redirects};
-ghost use Rattle.g1_handles.specs.{Wipes, Forgets, RefersOut, cleared_of, IsClearWord, LacksRegion};
-ghost use Rattle.g1_handles.specs.{SaysNoMove, FreesAt, LacksSomeRegion};
+ghost use Rattle.g1_handles.specs.{true, ℕ, false, region_of, Crosses, table_at, IsRaceWith};
+ghost use Rattle.g1_handles.specs.{ClearsAt, Redirects, Wipes, Forgets, RefersOut, cleared_of};
+ghost use Rattle.g1_handles.specs.{IsClearWord, LacksRegion, SaysNoMove, FreesAt, LacksSomeRegion};
+ghost use Rattle.g1_handles.specs.{IsMade};
 
 use crate::code::Reason;
 use crate::heap::at_pause::PausedHeap;
-use crate::heap::scan::has_regions;
+use crate::heap::queries::has_regions;
 use crate::one_core::evacuation::{move_of, words_of};
 use g1_layout::{Layout, Region};
 
@@ -17,16 +17,12 @@ use g1_layout::{Layout, Region};
 /// [`clear_in`](crate::one_core::evacuation::clear_in) does. Unless that word is 0, nothing has
 /// changed. Returns `NoRegion` if the call was refused.
 pub fn clear_at(heap: &mut PausedHeap, region: u32) -> Result<(u32, u32), Reason>
-    ensures cleared { IfOk result (λ answer.
-        ClearsAt heap.old region (cleared_of answer.0 answer.1) heap.new) }
-    ensures words { IfOk result (λ answer. IsClearWord answer.0 answer.1) }
-    ensures why { IfErr result (LacksRegion heap.old.layout region) }
-    ensures refused { OnErr result (heap.new ≡ heap.old) }
+    ensures cleared { IsMade heap.old result heap.new (λ answer. IsClearWord answer.0 answer.1
+        × ClearsAt heap.old region (cleared_of answer.0 answer.1) heap.new)
+        (LacksRegion heap.old.layout region) }
     ensures kept { IsRaceWith heap.new.logs heap.old heap.new }
 {
-    let Some(region) = heap.layout().region(region) else {
-        return Err(Reason::NoRegion);
-    };
+    let region = heap.layout().region(region).ok_or(Reason::NoRegion)?;
     Ok(words_of(heap.clear(region)))
 }
 
@@ -34,11 +30,9 @@ pub fn clear_at(heap: &mut PausedHeap, region: u32) -> Result<(u32, u32), Reason
 /// the word of the reply and the number that goes with it, as [`clear_at`] does. Unless that word
 /// is 0, nothing has changed. Returns `NoRegion` if one of the numbers is of no region.
 pub fn free_at(heap: &mut PausedHeap, regions: &[u32]) -> Result<(u32, u32), Reason>
-    ensures freed { IfOk result (λ answer.
-        FreesAt heap.old regions.now (cleared_of answer.0 answer.1) heap.new) }
-    ensures words { IfOk result (λ answer. IsClearWord answer.0 answer.1) }
-    ensures why { IfErr result (LacksSomeRegion heap.old.layout regions.now) }
-    ensures refused { OnErr result (heap.new ≡ heap.old) }
+    ensures freed { IsMade heap.old result heap.new (λ answer. IsClearWord answer.0 answer.1
+        × FreesAt heap.old regions.now (cleared_of answer.0 answer.1) heap.new)
+        (LacksSomeRegion heap.old.layout regions.now) }
     ensures kept { IsRaceWith heap.new.logs heap.old heap.new }
 {
     has_regions(heap.layout(), regions)?;
@@ -48,9 +42,8 @@ pub fn free_at(heap: &mut PausedHeap, regions: &[u32]) -> Result<(u32, u32), Rea
 /// Moves the references into one region to another, and returns how many slots changed. Returns
 /// `NoRegion`, for either region, or `SameRegion` if the call was refused: nothing has changed.
 pub fn redirect_at(heap: &mut PausedHeap, from: u32, to: u32) -> Result<u32, Reason>
-    ensures redirected { IfOk result (λ slots. Redirects heap.old from to slots heap.new) }
-    ensures why { IfErr result (SaysNoMove heap.old.layout from to) }
-    ensures refused { OnErr result (heap.new ≡ heap.old) }
+    ensures redirected { IsMade heap.old result heap.new
+        (λ slots. Redirects heap.old from to slots heap.new) (SaysNoMove heap.old.layout from to) }
     ensures kept { IsRaceWith heap.new.logs heap.old heap.new }
 {
     let (from, to) = move_of(heap.layout(), from, to)?;
@@ -60,9 +53,8 @@ pub fn redirect_at(heap: &mut PausedHeap, from: u32, to: u32) -> Result<u32, Rea
 /// Stores null into each slot of a region. Returns `NoRegion` if the call was refused: nothing has
 /// changed.
 pub fn wipe_at(heap: &mut PausedHeap, region: u32) -> Result<(), Reason>
-    ensures wiped { OnOk result (Wipes heap.old region heap.new) }
-    ensures why { IfErr result (LacksRegion heap.old.layout region) }
-    ensures refused { OnErr result (heap.new ≡ heap.old) }
+    ensures wiped { IsMade heap.old result heap.new (λ done. Wipes heap.old region heap.new)
+        (LacksRegion heap.old.layout region) }
     ensures kept { IsRaceWith heap.new.logs heap.old heap.new }
 {
     let region = heap.layout().region(region).ok_or(Reason::NoRegion)?;
@@ -73,11 +65,9 @@ pub fn wipe_at(heap: &mut PausedHeap, region: u32) -> Result<(), Reason>
 /// Removes a region's cards from all remembered sets. Returns `NoRegion`, or `StillReferenced` if a
 /// slot of the region refers out of it: nothing has changed.
 pub fn forget_at(heap: &mut PausedHeap, region: u32) -> Result<(), Reason>
-    ensures forgotten { OnOk result (Forgets heap.old region heap.new) }
-    ensures closed { OnOk result (RefersOut heap.old region → ⊥) }
-    ensures why { IfErr result (λ refusal. LacksRegion heap.old.layout region refusal
+    ensures forgotten { IsMade heap.old result heap.new (λ done. Forgets heap.old region heap.new
+        × (RefersOut heap.old region → ⊥)) (λ refusal. LacksRegion heap.old.layout region refusal
         ⊎ ((refusal ≡ Reason.StillReferenced) × RefersOut heap.old region)) }
-    ensures refused { OnErr result (heap.new ≡ heap.old) }
     ensures kept { IsRaceWith heap.new.logs heap.old heap.new }
 {
     let layout = heap.layout();

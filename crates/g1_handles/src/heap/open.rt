@@ -1,5 +1,5 @@
 //! How a heap whose stores race begins and ends: at a pause.
-ghost use Rattle.std.specs.Prelude.{◌≡◌, ◌<◌};
+ghost use Rattle.std.specs.Prelude.{◌≡◌};
 ghost use Rattle.g1_handles.specs.{IsTrue, Some, None, All, IfOk, IfErr, OnOk, OnErr};
 ghost use Rattle.g1_handles.specs.{vec_len, arc_value, layout_of, IsNewHeap};
 ghost use Rattle.g1_handles.specs.{IsHeapOpenRefused, AreHeapCounts, OfPaused, IsCloseRefused};

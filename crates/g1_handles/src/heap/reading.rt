@@ -1,17 +1,20 @@
-//! How a heap at a pause is lent to several threads, each of which reads it by a reader.
+//! How a heap at a pause is lent to several threads, each of which reads it by a reader, and how it
+//! is at its pause again.
 ghost use Rattle.std.specs.Prelude.{◌≡◌, ◌+◌, ◌≤◌, ◌++◌, IsPermutation};
-ghost use Rattle.g1_handles.specs.{Some, All, IfErr, OnOk, OnErr, vec_len};
-ghost use Rattle.g1_handles.specs.{vec_capacity, arc_value, Race, OfPaused, OfRead, BeginsReading};
-ghost use Rattle.g1_handles.specs.{held_readers, IsLentHeap, IsReadRefused, AreOut, AreShared};
-ghost use Rattle.g1_handles.specs.{OfAtPause};
+ghost use Rattle.g1_handles.specs.{Some, All, IfErr, OnOk, OnErr, vec_len, vec_capacity, arc_value};
+ghost use Rattle.g1_handles.specs.{Race, OfPaused, OfRead, BeginsReading, held_readers, IsLentHeap};
+ghost use Rattle.g1_handles.specs.{IsReadRefused, AreOut, AreShared, OfAtPause, EndsReading};
+ghost use Rattle.g1_handles.specs.{IsReadEndRefused, AreOnlyItsReaders};
 
 use crate::any_handle::{AnyHandle, are_closed};
 use crate::code::Reason;
 use crate::handles::{HeapHandle, ReaderHandle};
+use crate::heap::one_race::check_parties;
+use crate::heap::phases::{gather, hand_out_to};
 use crate::heap::racing_heap::{AtPause, BeingRead, RacingHeap, Readers, Room};
-use crate::heap::resume::hand_out_to;
 use crate::party::{Party, Role};
 use core::mem::replace_with;
+use std::alloc::Global;
 
 /// Lets threads read the heap of a handle, which is at a pause, and puts a reader into each of
 /// these closed handles. A reader reads what the pause has. Nothing changes until the reading ends.
@@ -113,4 +116,83 @@ pub(crate) fn move_boxes<P: Role>(
         };
         to.push_reserved(party);
     }
+}
+
+/// Ends the reading of the heap of a handle, which is then at its pause as it was. All its readers
+/// must be handed in, and their handles are closed. Takes no memory.
+///
+/// Returns `NotOpen`, also for a reader's handle, `NotPaused` if the heap's parties are out,
+/// `BadHandles` if not as many readers read it, or `OtherRace` for a reader of another heap or one
+/// that is given twice: nothing has changed. Readers of other heaps are refused before anything
+/// relies on the condition `one`.
+pub fn end_read_of_heap(
+    alloc: Global,
+    handle: &mut HeapHandle,
+    readers: &mut [ReaderHandle],
+) -> Result<(), Reason>
+    requires one { AreOnlyItsReaders handle.old.value readers.old }
+    ensures ended { OnOk result (EndsReading handle.old.value handle.new.value
+        readers.old readers.new) }
+    ensures why { IfErr result (IsReadEndRefused handle.old.value (held_readers readers.old)) }
+    ensures refused { OnErr result ((handle.new.value ≡ handle.old.value)
+        × (held_readers readers.new ≡ held_readers readers.old)) }
+{
+    let Some(heap) = handle.value_mut() else {
+        return Err(Reason::NotOpen);
+    };
+    let being_read = match &*heap {
+        RacingHeap::Read(being_read) => being_read,
+        RacingHeap::Paused(_) => return Err(Reason::BadHandles),
+        RacingHeap::Racing(_) => return Err(Reason::NotPaused),
+    };
+    if readers.len() != being_read.readers.out.count {
+        return Err(Reason::BadHandles);
+    }
+    check_parties(&being_read.race, readers)?;
+    let RacingHeap::Read(being_read) = heap else {
+        unreachable!()
+    };
+    let out = &mut being_read.readers.out;
+    gather(alloc, readers, &mut out.roles, &mut out.boxes);
+    replace_with(heap, (), end);
+    Ok(())
+}
+
+/// The heap is at its pause again once its readers are in.
+fn end(heap: RacingHeap, _nothing: ()) -> (RacingHeap, ())
+    requires { OfRead (Some heap) (λ b. AreOut b.readers.out.count b) }
+    ensures lent { IsLentHeap (Some result.0) (Some heap) }
+    ensures shared { OfAtPause (Some result.0) (λ a. OfRead (Some heap) (AreShared a)) }
+{
+    let RacingHeap::Read(being_read) = heap else {
+        unreachable!()
+    };
+    let BeingRead {
+        race,
+        reading,
+        racers,
+        sweepers,
+        readers,
+    } = being_read;
+    let Readers { mut idle, out } = readers;
+    let Room {
+        count,
+        mut roles,
+        mut boxes,
+    } = out;
+    let pause = reading.pause(&mut roles);
+    move_boxes(&mut boxes, &mut idle, count);
+    let out = Room {
+        count: 0,
+        roles,
+        boxes,
+    };
+    let at = AtPause {
+        race,
+        pause,
+        racers,
+        sweepers,
+        readers: Readers { idle, out },
+    };
+    (RacingHeap::Paused(at), ())
 }

@@ -1,9 +1,7 @@
 //! The remembered set of a region at a pause, in the caller's own array.
 ghost use Rattle.std.specs.Prelude.{◌≡◌, ◌<◌};
-ghost use Rattle.g1_handles.specs.Prelude.{Some, OnErr, slice_set, AreMembers, table_at};
-ghost use Rattle.g1_handles.specs.Prelude.{IsRaceWith};
-ghost use Rattle.g1_handles.specs.HeapCalls.{IsCalled};
-ghost use Rattle.g1_handles.specs.Sets.{TellsSet, IsSetCall};
+ghost use Rattle.g1_handles.specs.Prelude.{OnErr, slice_set, AreMembers, table_at, IsRaceWith};
+ghost use Rattle.g1_handles.specs.AtPause.{IsCalled, TellsSet, IsSetCall};
 
 use crate::any_handle::AnyHandle;
 use crate::code::Reason;
@@ -62,9 +60,7 @@ fn set_at(
     ensures unwritten { OnErr result (cards.new ≡ cards.old) }
     ensures kept { IsRaceWith heap.new.logs heap.old heap.new }
 {
-    let Some(region) = heap.layout().region(region) else {
-        return Err(Reason::NoRegion);
-    };
+    let region = heap.layout().region(region).ok_or(Reason::NoRegion)?;
     match which {
         Which::Recorded => Ok(write_set(heap, region, cards)),
         Which::Refined => {

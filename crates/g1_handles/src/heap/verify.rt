@@ -1,8 +1,5 @@
 //! Checks of a heap at a pause, for a debug build.
-ghost use Rattle.std.specs.Prelude.{◌≡◌};
-ghost use Rattle.g1_handles.specs.{length, IfOk, IfErr};
-ghost use Rattle.g1_handles.specs.{IsRaceWith};
-ghost use Rattle.g1_handles.specs.{Finds, LacksRanges, table_at};
+ghost use Rattle.g1_handles.specs.{length, Finds, LacksRanges, table_at, IsAnswered};
 
 use crate::code::Reason;
 use crate::heap::at_pause::PausedHeap;
@@ -19,12 +16,9 @@ pub fn verify_at(
     count: u32,
     memory: &[u32],
 ) -> Result<Findings, Reason>
-    ensures found { IfOk result (λ f.
-        Finds (table_at heap.old) first count memory.now f.differing f.missing) }
-    ensures why { IfErr result (LacksRanges heap.old.layout first count first
-        (length memory.now)) }
-    ensures same { heap.new ≡ heap.old }
-    ensures kept { IsRaceWith heap.new.logs heap.old heap.new }
+    ensures { IsAnswered heap.old result heap.new (λ f.
+        Finds (table_at heap.old) first count memory.now f.differing f.missing)
+        (LacksRanges heap.old.layout first count first (length memory.now)) }
 {
     let layout = heap.layout();
     if !has_slots(layout, first, count as usize) || !has_slots(layout, first, memory.len()) {

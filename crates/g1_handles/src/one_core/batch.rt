@@ -4,7 +4,7 @@ ghost use Rattle.g1_handles.specs.Prelude.{true, false, length, take, IfOk, OnEr
 ghost use Rattle.g1_handles.specs.Prelude.{IfNone, IsSome, MatchOption};
 ghost use Rattle.g1_handles.specs.Codes.{IsStoreOf};
 ghost use Rattle.g1_handles.specs.Refusals.{AreStoresRefused};
-ghost use Rattle.g1_handles.specs.Batch.{made, made_all, cards_of, AreStoresOf, IsFaultAt};
+ghost use Rattle.g1_handles.specs.Replies.{made, made_all, cards_of, AreStoresOf, IsFaultAt};
 
 use crate::code::Reason;
 use crate::one_core::store::store_of;

@@ -1,7 +1,6 @@
 //! A range of slots of a core is copied to another one.
-ghost use Rattle.std.specs.Prelude.{◌≡◌, ◌+◌, ◌≤◌, ◌↔◌};
-ghost use Rattle.g1_handles.specs.{IsTrue, IsOk, OnOk, IfErr, OnErr};
-ghost use Rattle.g1_handles.specs.{slot_count, DoesCopy, LacksRanges};
+ghost use Rattle.std.specs.Prelude.{◌+◌, ◌≤◌, ◌↔◌};
+ghost use Rattle.g1_handles.specs.{IsTrue, slot_count, DoesCopy, LacksRanges, IsMade, CopiesWithin};
 
 use crate::code::Reason;
 use g1_core::Core;
@@ -10,12 +9,10 @@ use g1_layout::Layout;
 /// Copies what `count` slots of a core refer to, from the slot `from` on, to as many from the slot
 /// `to` on. Returns `NoSlot` if one of the two ranges leaves the heap: nothing has changed.
 pub fn copy_in(core: &mut Core, from: u32, to: u32, count: u32) -> Result<(), Reason>
-    ensures copied { OnOk result (DoesCopy from to count core.old core.new) }
-    ensures within { IsOk result → (from + count ≤ slot_count core.old.state.table.layout)
-        × (to + count ≤ slot_count core.old.state.table.layout) }
-    ensures why { IfErr result
+    ensures { IsMade core.old result core.new (λ done. CopiesWithin
+        (slot_count core.old.state.table.layout) from to count
+        (DoesCopy from to count core.old core.new))
         (LacksRanges core.old.state.table.layout from count to count) }
-    ensures refused { OnErr result (core.new ≡ core.old) }
 {
     let layout = core.layout();
     let _reads = core.reads();

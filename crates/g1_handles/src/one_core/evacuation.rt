@@ -1,8 +1,8 @@
 //! The clear and the redirect, which may follow an evacuation.
 ghost use Rattle.std.specs.Prelude.{◌≡◌, ◌≢◌, ◌<◌};
-ghost use Rattle.g1_handles.specs.{IfOk, IfErr, OnErr, cleared_of};
-ghost use Rattle.g1_handles.specs.{IsClearWord, ClearsTo, LacksRegion, redirect_refined};
-ghost use Rattle.g1_handles.specs.{IsRedirectRefused, RedirectsTo, FitIn, IsOk, SaysNoMove};
+ghost use Rattle.g1_handles.specs.{IfOk, IfErr, cleared_of, IsClearWord, ClearsTo, LacksRegion};
+ghost use Rattle.g1_handles.specs.{redirect_refined, IsRedirectRefused, RedirectsTo, FitIn, IsOk};
+ghost use Rattle.g1_handles.specs.{SaysNoMove, IsMade};
 
 use crate::code::{DONE, Reason};
 use g1_core::{ClearReply, Core, Redirected};
@@ -17,16 +17,12 @@ use g1_layout::{Layout, Region};
 /// In the second and third case the core is as it was, except for its count of reads. Returns
 /// `NoRegion` if the call was refused: nothing has changed.
 pub fn clear_in(core: &mut Core, region: u32) -> Result<(u32, u32), Reason>
-    ensures cleared { IfOk result (λ answer.
-        ClearsTo core.old region (cleared_of answer.0 answer.1) core.new) }
-    ensures words { IfOk result (λ answer. IsClearWord answer.0 answer.1) }
-    ensures why { IfErr result (LacksRegion core.old.state.table.layout region) }
-    ensures refused { OnErr result (core.new ≡ core.old) }
+    ensures { IsMade core.old result core.new (λ answer. IsClearWord answer.0 answer.1
+        × ClearsTo core.old region (cleared_of answer.0 answer.1) core.new)
+        (LacksRegion core.old.state.table.layout region) }
 {
     let layout = core.layout();
-    let Some(region) = layout.region(region) else {
-        return Err(Reason::NoRegion);
-    };
+    let region = layout.region(region).ok_or(Reason::NoRegion)?;
     Ok(words_of(core.clear(region)))
 }
 
@@ -48,10 +44,9 @@ pub(crate) fn words_of(reply: ClearReply) -> (u32, u32)
 /// Returns `NoRegion` for either region, `SameRegion`, `NoRoom` if the array is shorter than the
 /// heap has cards, or `NoMemory`: nothing has changed.
 pub fn redirect_in(core: &mut Core, from: u32, to: u32, room: usize) -> Result<Redirected, Reason>
-    ensures redirected { IfOk result (λ answer. RedirectsTo core.old from to answer core.new) }
-    ensures refined { IfOk result (λ answer. FitIn room (redirect_refined answer)) }
-    ensures why { IfErr result (IsRedirectRefused core.old.state.table.layout from to room) }
-    ensures refused { OnErr result (core.new ≡ core.old) }
+    ensures { IsMade core.old result core.new (λ answer. FitIn room (redirect_refined answer)
+        × RedirectsTo core.old from to answer core.new)
+        (IsRedirectRefused core.old.state.table.layout from to room) }
 {
     let layout = core.layout();
     let (from, to) = move_of(layout, from, to)?;
@@ -71,12 +66,8 @@ pub(crate) fn move_of(layout: Layout, from: u32, to: u32) -> Result<(Region, Reg
     ensures apart { IsOk result → from ≢ to }
     ensures why { IfErr result (SaysNoMove layout from to) }
 {
-    let Some(from) = layout.region(from) else {
-        return Err(Reason::NoRegion);
-    };
-    let Some(to) = layout.region(to) else {
-        return Err(Reason::NoRegion);
-    };
+    let from = layout.region(from).ok_or(Reason::NoRegion)?;
+    let to = layout.region(to).ok_or(Reason::NoRegion)?;
     if from == to {
         return Err(Reason::SameRegion);
     }

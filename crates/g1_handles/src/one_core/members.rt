@@ -24,9 +24,7 @@ pub fn members_in(core: &Core, region: u32, room: usize) -> Result<Listed, Reaso
     ensures why { IfErr result (AreMembersRefused core.now.state.table.layout region) }
 {
     let layout = core.layout();
-    let Some(region) = layout.region(region) else {
-        return Err(Reason::NoRegion);
-    };
+    let region = layout.region(region).ok_or(Reason::NoRegion)?;
     let Ok(members) = core.members(region) else {
         return Err(Reason::NoMemory);
     };

@@ -1,7 +1,6 @@
 //! The pause.
-ghost use Rattle.std.specs.Prelude.{◌≡◌};
-ghost use Rattle.g1_handles.specs.{IfOk, IfErr, OnErr, drain_cards, drain_refined};
-ghost use Rattle.g1_handles.specs.{IsDrainRefused, DrainsTo, FitIn};
+ghost use Rattle.g1_handles.specs.{drain_cards, drain_refined, IsDrainRefused, DrainsTo, FitIn};
+ghost use Rattle.g1_handles.specs.{IsMade};
 
 use crate::code::Reason;
 use g1_core::{Core, Drained};
@@ -18,17 +17,12 @@ pub fn drain_in(
     room: usize,
     refined_room: usize,
 ) -> Result<Drained, Reason>
-    ensures drained { IfOk result (λ answer. DrainsTo core.old region answer core.new) }
-    ensures cards { IfOk result (λ answer. FitIn room (drain_cards answer)) }
-    ensures refined { IfOk result (λ answer. FitIn refined_room (drain_refined answer)) }
-    ensures why { IfErr result
+    ensures { IsMade core.old result core.new (λ answer. FitIn room (drain_cards answer)
+        × FitIn refined_room (drain_refined answer) × DrainsTo core.old region answer core.new)
         (IsDrainRefused core.old.state.table.layout region room refined_room) }
-    ensures refused { OnErr result (core.new ≡ core.old) }
 {
     let layout = core.layout();
-    let Some(region) = layout.region(region) else {
-        return Err(Reason::NoRegion);
-    };
+    let region = layout.region(region).ok_or(Reason::NoRegion)?;
     let most = layout.card_count() as usize;
     if room < most {
         return Err(Reason::NoRoom);

@@ -1,8 +1,7 @@
 //! Queries: what a slot refers to, whether a card is pending, and how much is pending and recorded.
 ghost use Rattle.std.specs.Prelude.{◌≡◌, ◌<◌};
-ghost use Rattle.g1_handles.specs.{IfOk, IfErr, OnErr, IfSome, slot_count};
-ghost use Rattle.g1_handles.specs.{reference_of, RefersTo, TellsPending, TellsStatus};
-ghost use Rattle.g1_handles.specs.{LacksCard, LacksSlot};
+ghost use Rattle.g1_handles.specs.{IfOk, IfErr, IfSome, slot_count, reference_of, RefersTo};
+ghost use Rattle.g1_handles.specs.{TellsPending, TellsStatus, LacksCard, LacksSlot, IsMade};
 
 use crate::code::{NULL, Reason};
 use g1_core::{Core, Status};
@@ -10,14 +9,11 @@ use g1_layout::{Layout, Slot};
 
 /// Returns the word of what a slot of a core refers to, or `NoSlot`: nothing has changed.
 pub fn target_in(core: &mut Core, slot: u32) -> Result<u32, Reason>
-    ensures target { IfOk result (λ word. RefersTo core.old slot (reference_of word) core.new) }
-    ensures why { IfErr result (LacksSlot core.old.state.table.layout slot) }
-    ensures refused { OnErr result (core.new ≡ core.old) }
+    ensures { IsMade core.old result core.new (λ word. RefersTo core.old slot (reference_of word)
+        core.new) (LacksSlot core.old.state.table.layout slot) }
 {
     let layout = core.layout();
-    let Some(slot) = layout.slot(slot) else {
-        return Err(Reason::NoSlot);
-    };
+    let slot = layout.slot(slot).ok_or(Reason::NoSlot)?;
     Ok(reference_word(layout, core.target(slot)))
 }
 
@@ -38,9 +34,7 @@ pub fn is_pending_in(core: &Core, card: u32) -> Result<bool, Reason>
     ensures pending { IfOk result (TellsPending core.now.state.table card) }
     ensures why { IfErr result (LacksCard core.now.state.table.layout card) }
 {
-    let Some(card) = core.layout().card(card) else {
-        return Err(Reason::NoCard);
-    };
+    let card = core.layout().card(card).ok_or(Reason::NoCard)?;
     Ok(core.is_pending(card))
 }
 

@@ -1,8 +1,7 @@
 //! Refinement.
 ghost use Rattle.std.specs.Prelude.{◌≡◌, ◌<◌, ◌≤◌, if◌then◌else◌};
-ghost use Rattle.g1_handles.specs.{length, All, IfSome, IfNone, IfOk, IsSome};
-ghost use Rattle.g1_handles.specs.{IfErr, OnErr, card_count, IsRefinementRefused, RefinesTo};
-ghost use Rattle.g1_handles.specs.{reply_of};
+ghost use Rattle.g1_handles.specs.{length, All, IfSome, IfNone, IsSome, card_count};
+ghost use Rattle.g1_handles.specs.{IsRefinementRefused, RefinesTo, reply_of, IsMade};
 
 use crate::code::{DONE, Reason, SHORT};
 use arrayvec::ArrayVec;
@@ -26,12 +25,9 @@ pub fn reply_word(reply: &RefineReply) -> u32
 /// Returns `NoRoom` if the array is shorter than the list of cards, `TooManyCards` for more than
 /// 256 cards, `NoCard`, or `NoMemory`: nothing has changed.
 pub fn refine_in(core: &mut Core, cards: &[u32], room: usize) -> Result<RefineReply, Reason>
-    ensures refined { IfOk result (λ reply. RefinesTo core.old cards.now reply core.new) }
-    ensures few { IfOk result (λ reply.
-        (length reply.refined ≤ room) × (length reply.refined ≤ 256)) }
-    ensures why { IfErr result
+    ensures { IsMade core.old result core.new (λ reply. (length reply.refined ≤ room)
+        × (length reply.refined ≤ 256) × RefinesTo core.old cards.now reply core.new)
         (IsRefinementRefused core.old.state.table.layout cards.now room) }
-    ensures refused { OnErr result (core.new ≡ core.old) }
 {
     if room < cards.len() {
         return Err(Reason::NoRoom);
@@ -39,9 +35,7 @@ pub fn refine_in(core: &mut Core, cards: &[u32], room: usize) -> Result<RefineRe
     if 256 < cards.len() {
         return Err(Reason::TooManyCards);
     }
-    let Some(buffer) = buffer_of(core.layout(), cards) else {
-        return Err(Reason::NoCard);
-    };
+    let buffer = buffer_of(core.layout(), cards).ok_or(Reason::NoCard)?;
     match core.refine(Some(&buffer)) {
         Ok(reply) => Ok(reply),
         Err(_) => Err(Reason::NoMemory),

@@ -1,7 +1,7 @@
 //! Stores.
 ghost use Rattle.std.specs.Prelude.{◌≡◌, ◌<◌};
-ghost use Rattle.g1_handles.specs.{IfSome, IfNone, IfOk, IfErr, IsOk, OnErr};
-ghost use Rattle.g1_handles.specs.{slot_count, reference_of, IsStoreOf, StoresTo, LacksPlace};
+ghost use Rattle.g1_handles.specs.{IfSome, IfNone, IfOk, IfErr, IsOk, slot_count, reference_of};
+ghost use Rattle.g1_handles.specs.{IsStoreOf, StoresTo, LacksPlace, IsMade};
 
 use crate::code::{NULL, Reason};
 use g1_core::Core;
@@ -11,10 +11,9 @@ use g1_layout::{Kind, Layout, Slot};
 /// or the target: nothing has changed.
 #[inline(always)]
 pub fn store_in(core: &mut Core, slot: u32, target: u32) -> Result<Kind, Reason>
-    ensures stored { IfOk result (λ kind.
-        StoresTo core.old slot (reference_of target) kind core.new) }
-    ensures why { IfErr result (LacksPlace core.old.state.table.layout slot target) }
-    ensures refused { OnErr result (core.new ≡ core.old) }
+    ensures { IsMade core.old result core.new
+        (λ kind. StoresTo core.old slot (reference_of target) kind core.new)
+        (LacksPlace core.old.state.table.layout slot target) }
 {
     let (slot, target) = store_of(core.layout(), slot, target)?;
     let (kind, _dirtied) = core.store_unlogged(slot, target);

@@ -1,8 +1,8 @@
 //! Checks of a core for a debug build.
-ghost use Rattle.std.specs.Prelude.{◌≡◌};
-ghost use Rattle.g1_handles.specs.Prelude.{length, IfOk, IfErr, OnErr};
+ghost use Rattle.g1_handles.specs.Prelude.{length};
 ghost use Rattle.g1_handles.specs.Queries.{Checks};
-ghost use Rattle.g1_handles.specs.Lacks.{LacksRanges};
+ghost use Rattle.g1_handles.specs.Refusals.{LacksRanges};
+ghost use Rattle.g1_handles.specs.Codes.{IsMade};
 
 use crate::code::{NULL, Reason};
 use crate::one_core::copy::has_slots;
@@ -34,11 +34,9 @@ pub fn verify_in(
     count: u32,
     memory: &[u32],
 ) -> Result<Findings, Reason>
-    ensures found { IfOk result (λ f.
-        Checks core.old first count memory.now f.differing f.missing core.new) }
-    ensures why { IfErr result
+    ensures { IsMade core.old result core.new (λ f.
+        Checks core.old first count memory.now f.differing f.missing core.new)
         (LacksRanges core.old.state.table.layout first count first (length memory.now)) }
-    ensures refused { OnErr result (core.new ≡ core.old) }
 {
     let layout = core.layout();
     let _reads = core.reads();

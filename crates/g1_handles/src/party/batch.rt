@@ -1,12 +1,12 @@
-//! Several stores in a race by one call.
+//! Several stores, or a row of words, in a race by one call.
 ghost use Rattle.std.specs.Prelude.{◌≡◌, ◌≢◌};
-ghost use Rattle.g1_handles.specs.Prelude.{Some, IfOk, IfErr, OnErr, race_id};
-ghost use Rattle.g1_handles.specs.Prelude.{racer_race};
-ghost use Rattle.g1_handles.specs.Racing.{OfRacer, racing};
-ghost use Rattle.g1_handles.specs.RaceStores.{StoresFirst};
-ghost use Rattle.g1_handles.specs.Refusals.{SaysNoParty};
+ghost use Rattle.g1_handles.specs.Prelude.{race_id, race_layout, racer_race};
+ghost use Rattle.g1_handles.specs.Racing.{racing};
+ghost use Rattle.g1_handles.specs.RaceStores.{StoresFirst, StoresRow};
+ghost use Rattle.g1_handles.specs.Refusals.{IsMadeByRacer, IsRow, LacksRow};
 
 use crate::code::Reason;
+use crate::heap::stores::check_row;
 use crate::one_core::batch::Store;
 use crate::party::Party;
 use crate::party::counts::PartyCounts;
@@ -36,10 +36,8 @@ pub struct RaceBatch {
 /// Makes stores in order by a racer, up to the first that it cannot make. Returns `NotOpen` if the
 /// call was refused: nothing has changed.
 pub fn store_all_by(party: &mut Party<Racer>, stores: &[Store]) -> Result<RaceBatch, Reason>
-    ensures stored { IfOk result (λ answer. OfRacer (Some party.old) (λ a.
-        OfRacer (Some party.new) (λ b. StoresFirst a stores.now answer b))) }
-    ensures why { IfErr result (SaysNoParty (Some party.old)) }
-    ensures refused { OnErr result (party.new ≡ party.old) }
+    ensures { IsMadeByRacer party.old result party.new (λ a answer b.
+        StoresFirst a stores.now answer b) (λ a r. ⊥) }
 {
     let Some(racer) = &mut party.role else {
         return Err(Reason::NotOpen);
@@ -84,4 +82,50 @@ fn end_of(refusal: Reason) -> BatchEnd
         Reason::LogFull => BatchEnd::Full,
         _ => BatchEnd::Stopped,
     }
+}
+
+/// Stores words by a racer into as many slots from this one on: null, references and data. Stores
+/// them in order, up to the first that refers into another region while the log is full, and
+/// returns how many it stored.
+///
+/// Returns `NotOpen`, `NoSlot` if the row leaves the heap, or `BadWord` if no slot may have one of
+/// the words: nothing has changed.
+pub fn store_words_by(party: &mut Party<Racer>, slot: u32, words: &[u64]) -> Result<usize, Reason>
+    ensures { IsMadeByRacer party.old result party.new (λ a count b.
+        StoresRow a slot words.now count b) (λ a. LacksRow (race_layout a.race) slot words.now) }
+{
+    let Some(racer) = &mut party.role else {
+        return Err(Reason::NotOpen);
+    };
+    check_row(party.race.layout(), slot, words)?;
+    Ok(store_row(&party.race, racer, &mut party.counts, slot, words))
+}
+
+// Stores the words that its racer can store, and counts them.
+fn store_row(
+    race: &Race,
+    racer: &mut Racer,
+    counts: &mut PartyCounts,
+    first: u32,
+    words: &[u64],
+) -> usize
+    requires same { racer_race racer.old ≡ race_id race.now }
+    requires row { IsRow (race_layout race.now) first words.now }
+    ensures same { racer_race racer.new ≡ racer_race racer.old }
+    ensures stored { StoresRow (racing race.now racer.old counts.old) first words.now result
+        (racing race.now racer.new counts.new) }
+{
+    let layout = race.layout();
+    for i in 0..words.len() {
+        let word = words[i];
+        let Some(slot) = layout.slot(first + i as u32) else {
+            unreachable!()
+        };
+        if !racer.has_room_for_word(race, slot, word) {
+            return i;
+        }
+        let (kind, _old) = racer.swap_word(race, slot, word);
+        counts.add_store(kind);
+    }
+    words.len()
 }

@@ -1,9 +1,8 @@
 //! What the racers and the sweepers of a heap have done, in numbers.
 ghost use Rattle.std.specs.Prelude.{◌≡◌};
 ghost use Rattle.g1_handles.specs.Prelude.{IfOk, IfErr};
-ghost use Rattle.g1_handles.specs.Counting.{no_counts, one_more_of, and_swept, with_store};
-ghost use Rattle.g1_handles.specs.Counting.{with_refined_card};
-ghost use Rattle.g1_handles.specs.Racing.{OfRacer, OfSweeper};
+ghost use Rattle.g1_handles.specs.Racing.{no_counts, with_store};
+ghost use Rattle.g1_handles.specs.Racing.{with_refined_card, OfRacer, OfSweeper};
 ghost use Rattle.g1_handles.specs.Refusals.{SaysNoParty};
 
 use crate::code::{Reason, kind_word};
@@ -20,18 +19,6 @@ pub struct StoreCounts {
     pub by_kind: [u64; 4],
 }
 
-impl StoreCounts {
-    /// Counts one more store.
-    #[inline(always)]
-    pub(crate) fn add(&mut self, kind: Kind)
-        ensures { self.new ≡ one_more_of self.old kind }
-    {
-        // (By a match, a store would take a jump more.)
-        let index = kind_word(kind) as usize;
-        self.by_kind[index] = self.by_kind[index].wrapping_add(1);
-    }
-}
-
 /// What a sweeper has done since its heap was opened, whatever pauses came between. A count that
 /// would be 2^64 begins at 0 again.
 #[derive(Clone, Copy, Debug)]
@@ -42,20 +29,6 @@ pub struct SweepCounts {
     pub cleaned: u64,
     /// How many references into another region it read on them.
     pub references: u64,
-}
-
-impl SweepCounts {
-    /// The counts after one more card.
-    #[inline(always)]
-    pub(crate) fn and(self, swept: Swept) -> SweepCounts
-        ensures { result ≡ and_swept self swept.was_dirty swept.references }
-    {
-        SweepCounts {
-            refined: self.refined.wrapping_add(1),
-            cleaned: self.cleaned.wrapping_add(u64::from(swept.was_dirty)),
-            references: self.references.wrapping_add(swept.references),
-        }
-    }
 }
 
 /// Which party of its heap it is, and what it has done. A racer refines nothing, a sweeper stores
@@ -92,7 +65,9 @@ impl PartyCounts {
     pub(crate) fn add_store(&mut self, kind: Kind)
         ensures { self.new ≡ with_store self.old kind }
     {
-        self.stores.add(kind);
+        // (By a match, a store would take a jump more.)
+        let index = kind_word(kind) as usize;
+        self.stores.by_kind[index] = self.stores.by_kind[index].wrapping_add(1);
     }
 
     /// Counts one more card.
@@ -100,7 +75,11 @@ impl PartyCounts {
     pub(crate) fn add_card(&mut self, swept: Swept)
         ensures { self.new ≡ with_refined_card self.old swept.was_dirty swept.references }
     {
-        self.sweeps = self.sweeps.and(swept);
+        self.sweeps = SweepCounts {
+            refined: self.sweeps.refined.wrapping_add(1),
+            cleaned: self.sweeps.cleaned.wrapping_add(u64::from(swept.was_dirty)),
+            references: self.sweeps.references.wrapping_add(swept.references),
+        };
     }
 }
 

@@ -1,11 +1,9 @@
 //! Stores in a race that return what the slot referred to before, or depend on it.
-ghost use Rattle.std.specs.Prelude.{◌≡◌};
-ghost use Rattle.g1_handles.specs.Prelude.{Some, IfOk, IfErr, IsOk, OnErr};
+ghost use Rattle.std.specs.Prelude.{◌⊎◌};
 ghost use Rattle.g1_handles.specs.Prelude.{race_layout};
 ghost use Rattle.g1_handles.specs.Codes.{IsStoreOf, reference_of};
 ghost use Rattle.g1_handles.specs.RaceStores.{Swaps, IsExchange};
-ghost use Rattle.g1_handles.specs.Racing.{OfRacer};
-ghost use Rattle.g1_handles.specs.Refusals.{CanStore, IsRaceStoreRefused, IsRaceExchangeRefused};
+ghost use Rattle.g1_handles.specs.Refusals.{CanStore, SaysNoStore, LacksPlace, IsMadeByRacer};
 
 use crate::code::Reason;
 use crate::one_core::queries::reference_word;
@@ -39,13 +37,9 @@ pub enum Exchange {
 /// has changed.
 #[inline(always)]
 pub fn swap_by(party: &mut Party<Racer>, slot: u32, target: u32) -> Result<Swapped, Reason>
-    ensures swapped { IfOk result (λ swapped. OfRacer (Some party.old) (λ a.
-        OfRacer (Some party.new) (λ b. Swaps a slot (reference_of target)
-        (reference_of swapped.old) swapped.kind b))) }
-    ensures can { IsOk result → OfRacer (Some party.old) (λ a.
-        CanStore a.race a.racer slot target) }
-    ensures why { IfErr result (IsRaceStoreRefused (Some party.old) slot target) }
-    ensures refused { OnErr result (party.new ≡ party.old) }
+    ensures { IsMadeByRacer party.old result party.new (λ a swapped b.
+        CanStore a.race a.racer slot target × Swaps a slot (reference_of target)
+        (reference_of swapped.old) swapped.kind b) (λ a. SaysNoStore a.race a.racer slot target) }
 {
     let Some(racer) = &mut party.role else {
         return Err(Reason::NotOpen);
@@ -68,14 +62,11 @@ pub fn compare_exchange_by(
     expected: u32,
     target: u32,
 ) -> Result<Exchange, Reason>
-    ensures exchange { IfOk result (λ exchange. OfRacer (Some party.old) (λ a.
-        OfRacer (Some party.new) (λ b. IsExchange a slot (reference_of expected)
-        (reference_of target) exchange b))) }
-    ensures can { IsOk result → OfRacer (Some party.old) (λ a.
-        IsStoreOf (race_layout a.race) slot expected
-        × CanStore a.race a.racer slot target) }
-    ensures why { IfErr result (IsRaceExchangeRefused (Some party.old) slot expected target) }
-    ensures refused { OnErr result (party.new ≡ party.old) }
+    ensures { IsMadeByRacer party.old result party.new (λ a exchange b.
+        IsStoreOf (race_layout a.race) slot expected × CanStore a.race a.racer slot target
+        × IsExchange a slot (reference_of expected) (reference_of target) exchange b)
+        (λ a r. SaysNoStore a.race a.racer slot target r
+        ⊎ LacksPlace (race_layout a.race) slot expected r) }
 {
     let Some(racer) = &mut party.role else {
         return Err(Reason::NotOpen);

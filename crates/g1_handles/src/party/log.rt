@@ -1,6 +1,6 @@
 //! The log of a racer.
 ghost use Rattle.std.specs.Prelude.{◌≡◌, ◌⊎◌, ◌<◌};
-ghost use Rattle.g1_handles.specs.{Some, IfOk, IfErr, OnErr, length};
+ghost use Rattle.g1_handles.specs.{IfOk, IfErr, OnErr, length};
 ghost use Rattle.g1_handles.specs.{take, IsWritten, OfRacer, TakesLog, SaysNoParty};
 
 use crate::any_handle::AnyHandle;

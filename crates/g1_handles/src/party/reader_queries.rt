@@ -1,9 +1,7 @@
 //! What a reader answers, as the heap does at its pause.
-ghost use Rattle.std.specs.Prelude.{◌≡◌};
-ghost use Rattle.g1_handles.specs.{Some, IfOk, IfErr, reference_of, OfReader, reader_layout};
-ghost use Rattle.g1_handles.specs.{table_of_reader, TellsTarget, TellsPending, TellsNextMember};
-ghost use Rattle.g1_handles.specs.{TellsWord, ReadsPair};
-ghost use Rattle.g1_handles.specs.{IsReaderRefused, LacksCard, LacksPair, LacksRegion, LacksSlot};
+ghost use Rattle.g1_handles.specs.{reference_of, reader_layout, table_of_reader, TellsTarget};
+ghost use Rattle.g1_handles.specs.{TellsPending, TellsNextMember, TellsWord, ReadsPair, LacksCard};
+ghost use Rattle.g1_handles.specs.{LacksPair, LacksRegion, LacksSlot, IsAnsweredByReader};
 
 use crate::code::{NULL, Reason};
 use crate::one_core::queries::reference_word;
@@ -13,12 +11,8 @@ use g1_race::Reader;
 /// Returns the word of what a slot refers to, by a reader, or `NotOpen` or `NoSlot`. The reader
 /// stays as it is.
 pub fn target_by(party: &mut Party<Reader>, slot: u32) -> Result<u32, Reason>
-    ensures target { IfOk result (λ word.
-        OfReader (Some party.old) (λ a.
-        TellsTarget (table_of_reader a) slot (reference_of word))) }
-    ensures why { IfErr result (IsReaderRefused (Some party.old)
-        (λ a. LacksSlot (reader_layout a) slot)) }
-    ensures same { party.new ≡ party.old }
+    ensures { IsAnsweredByReader party.old result party.new (λ a word. TellsTarget
+        (table_of_reader a) slot (reference_of word)) (λ a. LacksSlot (reader_layout a) slot) }
 {
     let Some(reader) = &mut party.role else {
         return Err(Reason::NotOpen);
@@ -32,12 +26,8 @@ pub fn target_by(party: &mut Party<Reader>, slot: u32) -> Result<u32, Reason>
 /// or data from 2^32 on. Returns `NotOpen` or `NoSlot` if the call was refused. The reader stays as
 /// it is.
 pub fn word_by(party: &mut Party<Reader>, slot: u32) -> Result<u64, Reason>
-    ensures word { IfOk result (λ word.
-        OfReader (Some party.old) (λ a.
-        TellsWord (reader_layout a) a.reader.start slot word)) }
-    ensures why { IfErr result (IsReaderRefused (Some party.old)
-        (λ a. LacksSlot (reader_layout a) slot)) }
-    ensures same { party.new ≡ party.old }
+    ensures { IsAnsweredByReader party.old result party.new (λ a word. TellsWord
+        (reader_layout a) a.reader.start slot word) (λ a. LacksSlot (reader_layout a) slot) }
 {
     let Some(reader) = &mut party.role else {
         return Err(Reason::NotOpen);
@@ -49,12 +39,8 @@ pub fn word_by(party: &mut Party<Reader>, slot: u32) -> Result<u64, Reason>
 /// Returns whether a card is pending, by a reader, or `NotOpen` or `NoCard`. The reader stays as it
 /// is.
 pub fn is_pending_by(party: &mut Party<Reader>, card: u32) -> Result<bool, Reason>
-    ensures pending { IfOk result (λ answer.
-        OfReader (Some party.old) (λ a.
-        TellsPending (table_of_reader a) card answer)) }
-    ensures why { IfErr result (IsReaderRefused (Some party.old)
-        (λ a. LacksCard (reader_layout a) card)) }
-    ensures same { party.new ≡ party.old }
+    ensures { IsAnsweredByReader party.old result party.new (λ a answer. TellsPending
+        (table_of_reader a) card answer) (λ a. LacksCard (reader_layout a) card) }
 {
     let Some(reader) = &mut party.role else {
         return Err(Reason::NotOpen);
@@ -66,11 +52,8 @@ pub fn is_pending_by(party: &mut Party<Reader>, card: u32) -> Result<bool, Reaso
 /// Returns whether a card is recorded for a region, by a reader, or `NotOpen`, `NoCard` or
 /// `NoRegion`. The reader stays as it is.
 pub fn has_by(party: &mut Party<Reader>, card: u32, region: u32) -> Result<bool, Reason>
-    ensures has { IfOk result (λ answer.
-        OfReader (Some party.old) (λ a. ReadsPair a card region answer)) }
-    ensures why { IfErr result (IsReaderRefused (Some party.old)
-        (λ a. LacksPair (reader_layout a) card region)) }
-    ensures same { party.new ≡ party.old }
+    ensures { IsAnsweredByReader party.old result party.new (λ a answer.
+        ReadsPair a card region answer) (λ a. LacksPair (reader_layout a) card region) }
 {
     let Some(reader) = &mut party.role else {
         return Err(Reason::NotOpen);
@@ -85,12 +68,9 @@ pub fn has_by(party: &mut Party<Reader>, card: u32, region: u32) -> Result<bool,
 /// of null if there is none, by a reader. Returns `NotOpen` or `NoRegion` if the call was refused.
 /// The reader stays as it is.
 pub fn next_member_by(party: &mut Party<Reader>, region: u32, from: u32) -> Result<u32, Reason>
-    ensures next { IfOk result (λ word.
-        OfReader (Some party.old) (λ a.
-        TellsNextMember (table_of_reader a) region from (reference_of word))) }
-    ensures why { IfErr result (IsReaderRefused (Some party.old)
-        (λ a. LacksRegion (reader_layout a) region)) }
-    ensures same { party.new ≡ party.old }
+    ensures { IsAnsweredByReader party.old result party.new (λ a word. TellsNextMember
+        (table_of_reader a) region from (reference_of word))
+        (λ a. LacksRegion (reader_layout a) region) }
 {
     let Some(reader) = &mut party.role else {
         return Err(Reason::NotOpen);

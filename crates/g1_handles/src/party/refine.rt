@@ -1,7 +1,5 @@
 //! Concurrent refinement in a race.
-ghost use Rattle.std.specs.Prelude.{◌≡◌, ◌<◌};
-ghost use Rattle.g1_handles.specs.{Some, OnOk, IfErr, OnErr};
-ghost use Rattle.g1_handles.specs.{OfSweeper, Sweeps, IsSweepRefused};
+ghost use Rattle.g1_handles.specs.{Some, OfSweeper, Sweeps, IsSweepRefused, IsMade};
 
 use crate::code::Reason;
 use crate::party::Party;
@@ -11,10 +9,8 @@ use g1_race::Sweeper;
 /// was refused: nothing has changed.
 #[inline(always)]
 pub fn refine_by(party: &mut Party<Sweeper>, card: u32) -> Result<(), Reason>
-    ensures refined { OnOk result (OfSweeper (Some party.old) (λ a.
-        OfSweeper (Some party.new) (λ b. Sweeps a card b))) }
-    ensures why { IfErr result (IsSweepRefused (Some party.old) card) }
-    ensures refused { OnErr result (party.new ≡ party.old) }
+    ensures { IsMade party.old result party.new (λ done. OfSweeper (Some party.old) (λ a.
+        OfSweeper (Some party.new) (λ b. Sweeps a card b))) (IsSweepRefused (Some party.old) card) }
 {
     let Some(sweeper) = &mut party.role else {
         return Err(Reason::NotOpen);

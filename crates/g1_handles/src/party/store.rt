@@ -1,9 +1,7 @@
 //! Lock-free stores in a race.
 ghost use Rattle.std.specs.Prelude.{◌≡◌};
-ghost use Rattle.g1_handles.specs.{Some, IfOk, IfErr, IsOk, OnErr};
-ghost use Rattle.g1_handles.specs.{race_id, racer_race, reference_of};
-ghost use Rattle.g1_handles.specs.{OfRacer, Stores, racing, IsRaceStoreRefused};
-ghost use Rattle.g1_handles.specs.{CanStore, SaysNoStore};
+ghost use Rattle.g1_handles.specs.{IfOk, IfErr, IsOk, OnErr, race_id, racer_race, reference_of};
+ghost use Rattle.g1_handles.specs.{Stores, racing, CanStore, SaysNoStore, IsMadeByRacer};
 
 use crate::code::Reason;
 use crate::one_core::store::store_of;
@@ -17,12 +15,9 @@ use g1_race::{Race, Racer};
 /// nothing has changed.
 #[inline(always)]
 pub fn store_by(party: &mut Party<Racer>, slot: u32, target: u32) -> Result<Kind, Reason>
-    ensures stored { IfOk result (λ kind. OfRacer (Some party.old) (λ a.
-        OfRacer (Some party.new) (λ b. Stores a slot (reference_of target) kind b))) }
-    ensures can { IsOk result → OfRacer (Some party.old) (λ a.
-        CanStore a.race a.racer slot target) }
-    ensures why { IfErr result (IsRaceStoreRefused (Some party.old) slot target) }
-    ensures refused { OnErr result (party.new ≡ party.old) }
+    ensures { IsMadeByRacer party.old result party.new (λ a kind b.
+        CanStore a.race a.racer slot target × Stores a slot (reference_of target) kind b)
+        (λ a. SaysNoStore a.race a.racer slot target) }
 {
     let Some(racer) = &mut party.role else {
         return Err(Reason::NotOpen);

@@ -10,7 +10,7 @@ loop-i-preserved c =
     let s = slice_index_or c.args.stores.now c.loop-i.i none in
     record {
       within = All-more (λ (s : Store). IsStoreOf l s.slot s.target) c.args.stores.now c.loop-i.i none c.loop-i-test.true c.loop-i.invariant.within
-          (subst (λ (l : Shape). IsStoreOf l s.slot s.target) c.loop-i.invariant.race.layout (c.in-Ok.ensures.stored.step 0).allowed.numbers);
+          (subst (λ (l : Shape). IsStoreOf l s.slot s.target) c.loop-i.invariant.race.layout (c.in-Ok.ensures.stored.0.step 0).allowed.numbers);
       race = grind (arith, common_steps);
       words = grind (arith, common_steps);
       table = grind (arith, common_steps);

@@ -1,9 +1,16 @@
 -- The words stand for the core's reply.
-use Rattle.g1_handles.specs.{ℕ, sym, subst, ClearReply, ClearsTo}
+use Rattle.g1_handles.specs.{sym, ClearsTo}
+use Rattle.g1_handles.proofs.{moved_to}
 use Rattle.g1_handles.proofs.one_core.evacuation.clear_in.Goals as goal
 
-pub returns-clause-cleared : goal.returns-clause-cleared
-returns-clause-cleared c =
-    subst (λ (reply : ClearReply). ClearsTo c.args.core.now c.args.region reply c.clear.new.self) (sym c.words_of.ensures.reply)
-    (subst (λ (region : ℕ). ClearsTo c.args.core.now region c.clear.result c.clear.new.self) c.in-Some.ensures.1
-    (record { did = c.clear.ensures.did; step = c.clear.ensures.step; later = c.clear.ensures.later }))
+pub returns : goal.returns
+returns c =
+    let at = rw c.in_ok-region.ensures.ok_part at c.region.ensures in (
+      (
+        c.words_of.ensures.words,
+        moved_to (λ region reply. ClearsTo c.args.core.now region reply c.clear.new.self) at.1 (sym c.words_of.ensures.reply)
+            (record { did = c.clear.ensures.did; step = c.clear.ensures.step; later = c.clear.ensures.later }),
+      ),
+      tt,
+      tt,
+    )

@@ -4,4 +4,5 @@ use Rattle.g1_handles.proofs.one_core.queries.is_pending_in.Goals as goal
 
 pub returns-clause-pending : goal.returns-clause-pending
 returns-clause-pending c =
-    subst (λ (card : ℕ). TellsPending c.args.core.now.state.table card c.is_pending.result) c.in-Some.ensures.1 c.is_pending.ensures.did.told
+    let at = rw c.in_ok-card.ensures.ok_part at c.card.ensures in
+    subst (λ (card : ℕ). TellsPending c.args.core.now.state.table card c.is_pending.result) at.1 c.is_pending.ensures.did.told
