@@ -1,5 +1,6 @@
 -- The calls of a command, and the line of what they answer.
-use Rattle.g1_replay.specs.{◌||◌, if◌then◌else◌, ◌∷◌, ◌≡◌, ◌≢◌, ◌≤◌, ◌⊎◌, ◌∙◌, cases_Bool, ap, sum_by, flat_map, All-head, All-tail, Kind, Logged, Fill, No, Entry, IsOwnFill, IsRefinementBy, counts_in, is_any_short, ℕ, List, [], Option, Some, None, true, false, inl, inr, refl, subst, sym, length, map, arith, Bool, Result, Ok, Err, IsSome, All, All-nil, All-cons, length-map, Full, Helped, StoreReply, RefineReply, Reply, store_entry, refine_entry, State, FlushReply, Refusal, History, CallMade, Stored, Refined, AreCalls, Grows, IsBookCall, Help, IsStored, help_calls, store_answer, flush_answer, nothing_flushed, filled, called, IsRound, Turn, round_calls, replies_of, round_size, Command, IsAnswered, IsCallPlayed, IfErr, MayStop, At, deeds_of, book_draining, Piece, IsSetBy, store_text, refine_text, work_text, call_line, Stop, played_one, HasPlayed, IsBookFull, Does, flush_text, plain_piece, IsOfBuffer, IsOfNone, IsLineOf, more_may_come}
+use Rattle.std.specs.Prelude.{◌||◌, if◌then◌else◌, ◌∷◌, ◌≡◌, ◌≢◌, ◌≤◌, ◌⊎◌}
+use Rattle.g1_replay.specs.{◌∙◌, cases_Bool, ap, sum_by, flat_map, All-head, All-tail, Kind, Logged, Fill, No, Entry, IsOwnFill, IsRefinementBy, counts_in, is_any_short, ℕ, List, [], Option, Some, None, true, false, inl, inr, refl, subst, sym, length, map, arith, Bool, Result, Ok, Err, IsSome, All, All-nil, All-cons, length-map, Full, Helped, StoreReply, RefineReply, Reply, store_entry, refine_entry, State, FlushReply, Refusal, History, CallMade, Stored, Refined, AreCalls, Grows, IsBookCall, Help, IsStored, help_calls, store_answer, flush_answer, nothing_flushed, filled, called, IsRound, Turn, round_calls, replies_of, round_size, Command, IsAnswered, IsCallPlayed, IfErr, MayStop, At, deeds_of, book_draining, Piece, IsSetBy, store_text, refine_text, work_text, call_line, Stop, played_one, HasPlayed, IsBookFull, Does, flush_text, plain_piece, IsOfBuffer, IsOfNone, IsLineOf, more_may_come}
 use Rattle.g1_core.specs.declared.entry.Call.{Call}
 use Rattle.g1_core.specs.Refinement.{IsRefined}
 use Rattle.g1_log.specs.declared.parcel.Parcel.{Parcel}

@@ -1,5 +1,6 @@
 -- Drains of the core that a race has become.
-use Rattle.g1_replay.specs.{◌≡◌, ◌≢◌, ◌⊎◌, ◌∷◌, ◌∙◌, ℕ, List, [], append-nil, ap, sym, subst, refl, inl, inr, ⊎_elim, Option, true, Contains, arith, Bool, Result, Err, true≢false, Shape, card_of, region_of, region_of_card, Drained, Cards, Short, drain_entry, drain_reply, Machine, IsStep, Table, Holds, IsCovered, IsRecorded, held, refined, Ended, refs_of, table_of, Command, Drain, Call, call_line, Stop, NoMemory, BookFull, Prints, AreDrains, CoreDrained, core_drained_none, Does, At, at, deeds_of, core_draining, Appends-nil, AreExact, IsExactByStores, drain_text, referring, IsTableLeftBy}
+use Rattle.std.specs.Prelude.{◌≡◌, ◌≢◌, ◌⊎◌, ◌∷◌}
+use Rattle.g1_replay.specs.{◌∙◌, ℕ, List, [], append-nil, ap, sym, subst, refl, inl, inr, ⊎_elim, Option, true, Contains, arith, Bool, Result, Err, true≢false, Shape, card_of, region_of, region_of_card, Drained, Cards, Short, drain_entry, drain_reply, Machine, IsStep, Table, Holds, IsCovered, IsRecorded, held, refined, Ended, refs_of, table_of, Command, Drain, Call, call_line, Stop, NoMemory, BookFull, Prints, AreDrains, CoreDrained, core_drained_none, Does, At, at, deeds_of, core_draining, Appends-nil, AreExact, IsExactByStores, drain_text, referring, IsTableLeftBy}
 use Rattle.std.specs.FinSet as set
 use Rattle.std.specs.Ordering.{nat_cmp}
 use Rattle.g1_layout.specs.Sets.{CardSet}

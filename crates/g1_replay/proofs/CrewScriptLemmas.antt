@@ -1,5 +1,6 @@
 -- Scripts of a crew or a race: they are kept as their trace is read, and fit its heap.
-use Rattle.g1_replay.specs.{◌≡◌, ◌≢◌, ◌==◌, ◌<◌, ◌+◌, ◌∷◌, ◌++◌, ◌-◌, ◌∙◌, map, zero-add, get_or-map, All-nil, All-cons, All-push, AreScripts, with_flush, ℕ, List, [], suc, add-one, add-zero, length, get_or, set, drop, drop-cons, refl, sym, subst, ap, append-nil, inl, inr, Option, Some, None, true, nat_lt, Bool, arith, rules, All, unwrap_or, filter_map, cons_option, cond, count_by, sum_by, sum_by-append, sum_by-cons, sum_by-set, All-head, All-tail, Ask, asks_of, is_store_ask, is_store_command, stores_in, cases_Bool, eq-eqb, eqb-true, ne_eqb, false≢true, get_or-set_same, get_or-set_other, length-set, length-drop, Shape, slot_count, StepFits, ScriptFits, Step, Script, Mutate, Refine, Command, Store, IsCommandOf, AllFrom, AreKept, IsScriptAt, asked_in, own_step, step_for}
+use Rattle.std.specs.Prelude.{◌≡◌, ◌≢◌, ◌==◌, ◌<◌, ◌+◌, ◌∷◌, ◌++◌, ◌-◌}
+use Rattle.g1_replay.specs.{◌∙◌, map, zero-add, get_or-map, All-nil, All-cons, All-push, AreScripts, with_flush, ℕ, List, [], suc, add-one, add-zero, length, get_or, set, drop, drop-cons, refl, sym, subst, ap, append-nil, inl, inr, Option, Some, None, true, nat_lt, Bool, arith, rules, All, unwrap_or, filter_map, cons_option, cond, count_by, sum_by, sum_by-append, sum_by-cons, sum_by-set, All-head, All-tail, Ask, asks_of, is_store_ask, is_store_command, stores_in, cases_Bool, eq-eqb, eqb-true, ne_eqb, false≢true, get_or-set_same, get_or-set_other, length-set, length-drop, Shape, slot_count, StepFits, ScriptFits, Step, Script, Mutate, Refine, Command, Store, IsCommandOf, AllFrom, AreKept, IsScriptAt, asked_in, own_step, step_for}
 use Rattle.std.proofs.lemmas.List.{map-append}
 use Rattle.g1_steps.specs.Ask.{ask_of}
 use Rattle.g1_steps.specs.declared.crew.desk.Step.TheVariants as step

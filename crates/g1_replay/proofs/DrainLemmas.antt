@@ -1,5 +1,6 @@
 -- How many stores there were, and drains of the first regions, one behind the other.
-use Rattle.g1_replay.specs.{◌≡◌, ◌+◌, ◌∷◌, ◌++◌, ◌∙◌, ℕ, suc, List, [], refl, sym, subst, append-nil, append_assoc, arith, Ok, Err, Result, Drain, Command, Call, puts_then, Stop, BookFull, Prints, drains, HasDrained, Draining, Does, At, at, Option, deeds_of, ap, IsUndone, more_may_come, written_by, stores_text}
+use Rattle.std.specs.Prelude.{◌≡◌, ◌+◌, ◌∷◌, ◌++◌}
+use Rattle.g1_replay.specs.{◌∙◌, ℕ, suc, List, [], refl, sym, subst, append-nil, append_assoc, arith, Ok, Err, Result, Drain, Command, Call, puts_then, Stop, BookFull, Prints, drains, HasDrained, Draining, Does, At, at, Option, deeds_of, ap, IsUndone, more_may_come, written_by, stores_text}
 use Rattle.g1_replay.proofs.EndLemmas.{written_as}
 
 module _ {S : Type 0} (d : Draining S) (stores : ℕ) where

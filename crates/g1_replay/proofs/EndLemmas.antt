@@ -1,5 +1,6 @@
 -- The line of the end, and the whole output where the end says what it is.
-use Rattle.g1_replay.specs.{◌≡◌, ◌∷◌, ◌++◌, ◌∙◌, EndWriteFailed, ℕ, List, [], refl, ap, subst, append-nil, append_assoc, Option, Some, None, false, Result, Ok, Err, IfSome, Appends-trans, Appends, Consumes, Shape, Options, Command, Dialect, TraceFault, AppendsFront, read_trace, before, front_then, End, Whole, Refused, Stop, Fault, WriteFailed, Tale, Saying, Story, Spot, spot, with_heap, streams, dialect_in, Run, Told, IsEndWritten, IsReplayed, ending_line, end_of, IsDoneText, IsRunText, IsUndone, IsWholeOutput, IsRefusedOutput, end_met, Prints, Reads, place, IsLeftToRead}
+use Rattle.std.specs.Prelude.{◌≡◌, ◌∷◌, ◌++◌}
+use Rattle.g1_replay.specs.{◌∙◌, EndWriteFailed, ℕ, List, [], refl, ap, subst, append-nil, append_assoc, Option, Some, None, false, Result, Ok, Err, IfSome, Appends-trans, Appends, Consumes, Shape, Options, Command, Dialect, TraceFault, AppendsFront, read_trace, before, front_then, End, Whole, Refused, Stop, Fault, WriteFailed, Tale, Saying, Story, Spot, spot, with_heap, streams, dialect_in, Run, Told, IsEndWritten, IsReplayed, ending_line, end_of, IsDoneText, IsRunText, IsUndone, IsWholeOutput, IsRefusedOutput, end_met, Prints, Reads, place, IsLeftToRead}
 use Rattle.g1_replay.proofs.ReadingLemmas.{left_none}
 
 nil_front : (f l : List ℕ) → [] ≡ f ++ l → f ≡ []

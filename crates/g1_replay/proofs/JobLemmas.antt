@@ -1,5 +1,6 @@
 -- What the jobs of a crew came to, by their outcomes and by the callers that are left.
-use Rattle.g1_replay.specs.{◌≡◌, ◌+◌, ◌<◌, ◌≤◌, ◌∷◌, ◌++◌, ◌∙◌, entries_by, replicate, ℕ, zero, suc, List, [], length, map, drop, drop-cons, length-drop, add-zero, zero-add, option_or, Mutate, Refine, asks_of, refusal_in, stores_in, cond, get_or, refl, sym, subst, ap, arith, Option, Some, None, Result, Ok, Err, count_by, sum_by, All, AllZip, get_or-map, length-map, length_all_zip, sum_by-cons, Refusal, Ask, asks_in, is_store_ask, JobRan, Ran, Script, Step, Job, CallerCounts, CallerState, IsScriptAt, IsScriptFor, AreScripts, Options, Command, first_refusal, JobEnd, asked_by, stored_by, made_by, stores_asked, IsRefusedWithin, Entry, AreMadeBy, Shape, entries_made, is_store, HasEntered, HasCome, most_for}
+use Rattle.std.specs.Prelude.{◌≡◌, ◌+◌, ◌<◌, ◌≤◌, ◌∷◌, ◌++◌}
+use Rattle.g1_replay.specs.{◌∙◌, entries_by, replicate, ℕ, zero, suc, List, [], length, map, drop, drop-cons, length-drop, add-zero, zero-add, option_or, Mutate, Refine, asks_of, refusal_in, stores_in, cond, get_or, refl, sym, subst, ap, arith, Option, Some, None, Result, Ok, Err, count_by, sum_by, All, AllZip, get_or-map, length-map, length_all_zip, sum_by-cons, Refusal, Ask, asks_in, is_store_ask, JobRan, Ran, Script, Step, Job, CallerCounts, CallerState, IsScriptAt, IsScriptFor, AreScripts, Options, Command, first_refusal, JobEnd, asked_by, stored_by, made_by, stores_asked, IsRefusedWithin, Entry, AreMadeBy, Shape, entries_made, is_store, HasEntered, HasCome, most_for}
 use Rattle.std.proofs.lemmas.List.{nil_from_length}
 use Rattle.g1_shared.specs.Callers.{CallerMark, HasOwn}
 use Rattle.g1_shared.specs.Did.{DeskDid, CallerDid}

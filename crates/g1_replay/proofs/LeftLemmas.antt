@@ -1,5 +1,6 @@
 -- The table that a race of scripts leaves, by what its racers have stored.
-use Rattle.g1_replay.specs.{◌^◌, ◌≡◌, ◌≢◌, ◌⊎◌, ◌<◌, ◌+◌, ◌-◌, ◌≤◌, ◌∙◌, ℕ, List, length, take, ap, sym, subst, refl, arith, Option, Some, None, inl, inr, ⊎_elim, Contains, get_or, length-map, slot_count, card_count, Holds, IsCovered, IsRecorded, IsPairOf, View, Begun, StoreHistory, BeganInto, In, histories_of, last_to, Among, AmongStores, IsKnown, IsOver, shape_of, word_of, null_begun, Ended, refs_of, table_of, target_of_word, in_contains, reads_as, read_at, Command, Store, AreLeftBy, StoresInto, last_by, IsTableLeftBy}
+use Rattle.std.specs.Prelude.{◌^◌, ◌≡◌, ◌≢◌, ◌⊎◌, ◌<◌, ◌+◌, ◌-◌, ◌≤◌}
+use Rattle.g1_replay.specs.{◌∙◌, ℕ, List, length, take, ap, sym, subst, refl, arith, Option, Some, None, inl, inr, ⊎_elim, Contains, get_or, length-map, slot_count, card_count, Holds, IsCovered, IsRecorded, IsPairOf, View, Begun, StoreHistory, BeganInto, In, histories_of, last_to, Among, AmongStores, IsKnown, IsOver, shape_of, word_of, null_begun, Ended, refs_of, table_of, target_of_word, in_contains, reads_as, read_at, Command, Store, AreLeftBy, StoresInto, last_by, IsTableLeftBy}
 use mathlib.Core.Option.{some}
 use lib.ListN.{get_elem?}
 use Rattle.std.proofs.lemmas.List.{length-take-le}

@@ -1,5 +1,6 @@
 -- A line that goes on in the bytes that a reader shows.
-use Rattle.g1_replay.specs.{◌≡◌, ◌≢◌, ◌+◌, ◌<◌, ◌≤◌, ◌∷◌, ◌++◌, ◌∙◌, inl, inr, ℕ, List, [], length, take, get_or, sym, ap, subst, arith, append_assoc, append-nil, add-one, length-take-le, Option, Some, None, zero, suc, true, Ok, Err, Consumes-nil, Consumes-trans, eq-eqb, eqb-true, cases_Bool, cond-true, cond-false, false≢true, YieldsFirst, unwrap_or, is_byte, places_from, Consumes, IsPart, Part, More, Nothing, Fault, EndsAtFeed, GoesIntoLine, HasPart, IsSettled, ReadsByte, ReadsPart, ReadsLine}
+use Rattle.std.specs.Prelude.{◌≡◌, ◌≢◌, ◌+◌, ◌<◌, ◌≤◌, ◌∷◌, ◌++◌}
+use Rattle.g1_replay.specs.{◌∙◌, inl, inr, ℕ, List, [], length, take, get_or, sym, ap, subst, arith, append_assoc, append-nil, add-one, length-take-le, Option, Some, None, zero, suc, true, Ok, Err, Consumes-nil, Consumes-trans, eq-eqb, eqb-true, cases_Bool, cond-true, cond-false, false≢true, YieldsFirst, unwrap_or, is_byte, places_from, Consumes, IsPart, Part, More, Nothing, Fault, EndsAtFeed, GoesIntoLine, HasPart, IsSettled, ReadsByte, ReadsPart, ReadsLine}
 use Rattle.std.proofs.Common.{length-append}
 use Rattle.std.proofs.Math.Seq.{take-suc}
 use Rattle.g1_trace.specs.declared.fault.TraceFault.TheVariants as fault

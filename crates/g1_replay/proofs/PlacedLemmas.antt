@@ -1,5 +1,6 @@
 -- Lists whose items fit their places, and lists of parties, by kinds.
-use Rattle.g1_replay.specs.{◌≡◌, ◌+◌, ◌∷◌, ◌++◌, ◌∙◌, Racer, Sender, Sweeper, Taker, Returned, HasBack, ℕ, suc, List, [], length, map, ap, sym, subst, refl, arith, append_assoc, All, Option, append-nil, sum_by, filter_map, filter_map-append, All-nil, All-cons, All-head, All-tail, sum_by-cons, sum_by_push, Line, sender_rights, taker_rights, IsSenderOf, IsTakerOf, null_of, race_id, racer_race, racer_start, sweeper_race, sweeper_start, Party, Racing, Sweeping, IsPartyOf, party_rights, AllFrom, racer_in, sender_in, sweeper_in, taker_in}
+use Rattle.std.specs.Prelude.{◌≡◌, ◌+◌, ◌∷◌, ◌++◌}
+use Rattle.g1_replay.specs.{◌∙◌, Racer, Sender, Sweeper, Taker, Returned, HasBack, ℕ, suc, List, [], length, map, ap, sym, subst, refl, arith, append_assoc, All, Option, append-nil, sum_by, filter_map, filter_map-append, All-nil, All-cons, All-head, All-tail, sum_by-cons, sum_by_push, Line, sender_rights, taker_rights, IsSenderOf, IsTakerOf, null_of, race_id, racer_race, racer_start, sweeper_race, sweeper_start, Party, Racing, Sweeping, IsPartyOf, party_rights, AllFrom, racer_in, sender_in, sweeper_in, taker_in}
 use Rattle.std.proofs.lemmas.List.{nil_from_length}
 use Rattle.g1_race.specs.declared.race.Race.{Race}
 

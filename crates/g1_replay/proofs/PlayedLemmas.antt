@@ -1,5 +1,6 @@
 -- What a command comes to, by the steps of the callers.
-use Rattle.g1_replay.specs.{◌≡◌, ◌<◌, ◌∙◌, All, Line, IsSenderOf, AreNewMutators, ℕ, List, Bool, true, false, arith, length, set, vec_len, slice_index_or, refl, sym, ap, subst, inl, inr, Option, Result, Ok, Err, IsErrAnd, err_from_is_err_and, Appends, AppendsFront, Appends-nil, History, Reply, Refusal, Mutator, Taker, MutatorSteps, FirstSteps, IsStopped, MakesAsked, Machinery, AnswersAt, Says, IsPlayed, IsDoneAndSaid, StandIf, StandStill, call_line, is_pause, Stop, WriteFailed, stop_of, At, at, IsCallPlayed}
+use Rattle.std.specs.Prelude.{◌≡◌, ◌<◌}
+use Rattle.g1_replay.specs.{◌∙◌, All, Line, IsSenderOf, AreNewMutators, ℕ, List, Bool, true, false, arith, length, set, vec_len, slice_index_or, refl, sym, ap, subst, inl, inr, Option, Result, Ok, Err, IsErrAnd, err_from_is_err_and, Appends, AppendsFront, Appends-nil, History, Reply, Refusal, Mutator, Taker, MutatorSteps, FirstSteps, IsStopped, MakesAsked, Machinery, AnswersAt, Says, IsPlayed, IsDoneAndSaid, StandIf, StandStill, call_line, is_pause, Stop, WriteFailed, stop_of, At, at, IsCallPlayed}
 use Rattle.g1_core.specs.declared.entry.Call.{Call}
 use Rattle.g1_steps.proofs.OpeningLemmas.{mutators_each}
 use Rattle.g1_trace.specs.declared.command.Command.TheVariants as command

@@ -1,5 +1,6 @@
 -- Lines that were played: one, and one after another.
-use Rattle.g1_replay.specs.{◌≡◌, ◌≢◌, ◌+◌, ◌∷◌, ◌++◌, ◌<◌, ◌≤◌, ◌⊎◌, ◌∙◌, ℕ, List, [], refl, inl, inr, sym, ap, subst, append_assoc, append-nil, take, drop, length, Option, Some, None, true, arith, Bool, Result, Ok, Err, IfErr, IsErrAnd, err_from_is_err_and, OnOk, Consumes, Appends, Puts, Refusal, stop_of, IsSaid, take-take, drop-take, take-append-drop, Shape, Command, Dialect, puts_none, puts_then, Stop, Fault, NoMemory, BookFull, WriteFailed, IsUndone, Does, MayStop, Deeds, At, Scene, Plays, Follows, FollowsFront, PlaysFirst, Prints, written_by, IsReadStop, IsOfTrace, Reads, place, ReadsBehind, Commands, more_may_come}
+use Rattle.std.specs.Prelude.{◌≡◌, ◌≢◌, ◌+◌, ◌∷◌, ◌++◌, ◌<◌, ◌≤◌, ◌⊎◌}
+use Rattle.g1_replay.specs.{◌∙◌, ℕ, List, [], refl, inl, inr, sym, ap, subst, append_assoc, append-nil, take, drop, length, Option, Some, None, true, arith, Bool, Result, Ok, Err, IfErr, IsErrAnd, err_from_is_err_and, OnOk, Consumes, Appends, Puts, Refusal, stop_of, IsSaid, take-take, drop-take, take-append-drop, Shape, Command, Dialect, puts_none, puts_then, Stop, Fault, NoMemory, BookFull, WriteFailed, IsUndone, Does, MayStop, Deeds, At, Scene, Plays, Follows, FollowsFront, PlaysFirst, Prints, written_by, IsReadStop, IsOfTrace, Reads, place, ReadsBehind, Commands, more_may_come}
 use Rattle.g1_history.specs.declared.refusal.Refusal.TheVariants as refusal
 use Rattle.g1_replay.proofs.ReadingLemmas.{reads_none, reads_then}
 

@@ -1,5 +1,6 @@
 -- What a race writes.
-use Rattle.g1_replay.specs.{◌≡◌, ◌++◌, ◌∙◌, ℕ, List, [], refl, subst, ap, Option, inl, inr, Result, Err, IfErr, count_by, Shape, Machine, Table, Ended, refs_of, table_of, Command, stores_text, puts_none, Stop, BookFull, AreDrains, drains, core_draining, at, HasDrained, MayStop, PrintsSome, written_by, RaceRan, is_store_command, IsTableLeftBy, IsUnstarted}
+use Rattle.std.specs.Prelude.{◌≡◌, ◌++◌}
+use Rattle.g1_replay.specs.{◌∙◌, ℕ, List, [], refl, subst, ap, Option, inl, inr, Result, Err, IfErr, count_by, Shape, Machine, Table, Ended, refs_of, table_of, Command, stores_text, puts_none, Stop, BookFull, AreDrains, drains, core_draining, at, HasDrained, MayStop, PrintsSome, written_by, RaceRan, is_store_command, IsTableLeftBy, IsUnstarted}
 use Rattle.g1_replay.proofs.CoreDrainLemmas.{are_exact, from_itself}
 use Rattle.g1_replay.proofs.RanLemmas.{drains_alone, may_end}
 

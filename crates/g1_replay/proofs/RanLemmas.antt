@@ -1,5 +1,6 @@
 -- What the jobs of a crew come to, by its book.
-use Rattle.g1_replay.specs.{◌≡◌, ◌≢◌, ◌≤◌, ◌==◌, ◌++◌, ◌∙◌, PrintsSome, ℕ, List, [], length, refl, sym, subst, ap, append-nil, Option, inl, inr, arith, Result, Ok, Err, IfErr, IfSome, cases_Bool, eqb-true, count_by, Shape, opening, Entry, IsPermitted, is_store, History, IsHistory, BookTerms, Refusal, Command, is_store_command, layout_in, stores_text, puts_none, Stop, BookFull, NoThread, CrewRan, CrewDrained, crew_book, AreOfCallers, Options, Some, None, crew_stop, book_draining, at, HasDrained, entries_of, MayStop, Prints, written_by, IsRunEnd, IsUnstarted}
+use Rattle.std.specs.Prelude.{◌≡◌, ◌≢◌, ◌≤◌, ◌==◌, ◌++◌}
+use Rattle.g1_replay.specs.{◌∙◌, PrintsSome, ℕ, List, [], length, refl, sym, subst, ap, append-nil, Option, inl, inr, arith, Result, Ok, Err, IfErr, IfSome, cases_Bool, eqb-true, count_by, Shape, opening, Entry, IsPermitted, is_store, History, IsHistory, BookTerms, Refusal, Command, is_store_command, layout_in, stores_text, puts_none, Stop, BookFull, NoThread, CrewRan, CrewDrained, crew_book, AreOfCallers, Options, Some, None, crew_stop, book_draining, at, HasDrained, entries_of, MayStop, Prints, written_by, IsRunEnd, IsUnstarted}
 use Rattle.g1_history.specs.declared.refusal.Refusal.TheVariants as refusal
 
 pub may_end : (r : Result (Unit {0}) Stop) → IfErr r MayStop → IsRunEnd r

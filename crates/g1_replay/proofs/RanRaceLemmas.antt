@@ -1,5 +1,6 @@
 -- What the parties of a race have stored once its jobs were run.
-use Rattle.g1_replay.specs.{◌≡◌, ◌<◌, ◌≤◌, ◌+◌, ◌∷◌, ◌∙◌, ℕ, get_or-map, suc, List, [], length, map, ap, sym, subst, refl, arith, true, false, append-nil, Option, Some, None, inl, inr, Result, Ok, Err, All, sum_by, filter_map, AllZip, option_or, true≢false, false≢true, le-ltb, lt-ltb, All-nil, All-cons, sum_by-cons, Line, View, StoreHistory, In, histories_of, Among, racer_view, Job, Script, Mutate, Refine, Refusal, Step, Ask, asks_in, asks_of, JobRan, Ran, Party, Racing, Sweeping, IsPartyOf, PartyDid, histories_after, party_rights, AllFrom, IsNewParty, with_flush, IsScriptAt, racer_in, first_refusal, refusal_in}
+use Rattle.std.specs.Prelude.{◌≡◌, ◌<◌, ◌≤◌, ◌+◌, ◌∷◌}
+use Rattle.g1_replay.specs.{◌∙◌, ℕ, get_or-map, suc, List, [], length, map, ap, sym, subst, refl, arith, true, false, append-nil, Option, Some, None, inl, inr, Result, Ok, Err, All, sum_by, filter_map, AllZip, option_or, true≢false, false≢true, le-ltb, lt-ltb, All-nil, All-cons, sum_by-cons, Line, View, StoreHistory, In, histories_of, Among, racer_view, Job, Script, Mutate, Refine, Refusal, Step, Ask, asks_in, asks_of, JobRan, Ran, Party, Racing, Sweeping, IsPartyOf, PartyDid, histories_after, party_rights, AllFrom, IsNewParty, with_flush, IsScriptAt, racer_in, first_refusal, refusal_in}
 use native.Mathlib.Decide.{ℕ_discrete}
 use Rattle.g1_race.specs.declared.race.Race.{Race}
 use Rattle.g1_replay.proofs.JobLemmas.{none_first}

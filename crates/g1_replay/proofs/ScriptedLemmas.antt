@@ -1,5 +1,6 @@
 -- A trace that is read to its end before its scripts are run: what that comes to, and its whole output.
-use Rattle.g1_replay.specs.{◌≡◌, ◌≢◌, ◌≤◌, ◌⊎◌, ℕ, List, [], refl, subst, sym, arith, Option, Some, None, inl, inr, ⊎_elim, true, false, Bool, Result, Ok, Err, All, Appends, Shape, Command, Mode, Options, TraceFault, puts_then, End, Stop, Fault, NoMemory, Scene, Follows, keeping, AreScripts, stores_in, sum_by, count_by-le-length, is_store_command, Prints, written_by, PrintsSome, IsEndWritten, ending_line, IsReadStop, Reads, place, IsRunEnd, IsScriptReplayed, Scripting, scripting, ran_in, CrewRan, Spot, spot, with_heap, streams, IfSome}
+use Rattle.std.specs.Prelude.{◌≡◌, ◌≢◌, ◌≤◌, ◌⊎◌}
+use Rattle.g1_replay.specs.{ℕ, List, [], refl, subst, sym, arith, Option, Some, None, inl, inr, ⊎_elim, true, false, Bool, Result, Ok, Err, All, Appends, Shape, Command, Mode, Options, TraceFault, puts_then, End, Stop, Fault, NoMemory, Scene, Follows, keeping, AreScripts, stores_in, sum_by, count_by-le-length, is_store_command, Prints, written_by, PrintsSome, IsEndWritten, ending_line, IsReadStop, Reads, place, IsRunEnd, IsScriptReplayed, Scripting, scripting, ran_in, CrewRan, Spot, spot, with_heap, streams, IfSome}
 use Rattle.g1_trace.specs.declared.mode.Mode.TheVariants as mode
 use Rattle.g1_replay.specs.Scripted.{Scripted}
 use Rattle.g1_replay.specs.declared.scripts.Scripts.{Scripts}

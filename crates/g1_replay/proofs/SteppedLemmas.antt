@@ -1,5 +1,6 @@
 -- What the steps of commands come to: the calls that were entered, their line, and what may be played next.
-use Rattle.g1_replay.specs.{◌≡◌, ◌≤◌, ◌∷◌, ◌++◌, ◌∙◌, ℕ, List, [], Bool, true, false, refl, sym, ap, subst, append-nil, arith, length, length-set, set, inl, inr, IfErr, MayStop, IsSaid, stop_of, Grows, grows_none, Mutator, Result, Ok, Err, OnOk, vec_len, capacity_of, BookTerms, Shape, Dialect, Command, Machinery, StoreReply, RefineReply, FlushReply, Reply, Refusal, CallsBy, StoresAt, RefinesAt, WorksAt, StandIf, Makes, Says, AnswersAt, store_text, flush_text, refine_text, work_text, call_line, is_pause, AreMade, WasRefused, StepsThrough, IsPlayed, stepping, At, HasPlayed, Does, Stop, played_none, played_then, more_may_come}
+use Rattle.std.specs.Prelude.{◌≡◌, ◌≤◌, ◌∷◌, ◌++◌}
+use Rattle.g1_replay.specs.{◌∙◌, ℕ, List, [], Bool, true, false, refl, sym, ap, subst, append-nil, arith, length, length-set, set, inl, inr, IfErr, MayStop, IsSaid, stop_of, Grows, grows_none, Mutator, Result, Ok, Err, OnOk, vec_len, capacity_of, BookTerms, Shape, Dialect, Command, Machinery, StoreReply, RefineReply, FlushReply, Reply, Refusal, CallsBy, StoresAt, RefinesAt, WorksAt, StandIf, Makes, Says, AnswersAt, store_text, flush_text, refine_text, work_text, call_line, is_pause, AreMade, WasRefused, StepsThrough, IsPlayed, stepping, At, HasPlayed, Does, Stop, played_none, played_then, more_may_come}
 use Rattle.g1_history.specs.declared.refusal.Refusal.TheVariants.{NoMemory, BookFull}
 use Rattle.g1_trace.specs.declared.command.Command.TheVariants as command
 use Rattle.g1_steps.specs.Steps.{IsFlushed}

@@ -1,5 +1,6 @@
 -- What a script's stores come to: a racer's history, and its stores as the commands of the trace.
-use Rattle.g1_replay.specs.{◌≡◌, ◌<◌, ◌^◌, ◌∷◌, ◌++◌, ◌==◌, ◌&&◌, if◌then◌else◌, ◌∙◌, ℕ, List, [], length, map, get_or, arith, All, All-head, All-tail, StepFits, Step, AreScripts, Bool, true, false, cond, eqb, ap, sym, refl, inl, inr, append_assoc, append-nil, Option, Some, None, ⊎_elim, option_or, cons_option, filter_map, In, last_to, word_of, in_either, Ask, AskStore, AskFlush, AskWork, asks_of, Command, Store, histories_after, last_by, step_for}
+use Rattle.std.specs.Prelude.{◌≡◌, ◌<◌, ◌^◌, ◌∷◌, ◌++◌, ◌==◌, ◌&&◌, if◌then◌else◌}
+use Rattle.g1_replay.specs.{◌∙◌, ℕ, List, [], length, map, get_or, arith, All, All-head, All-tail, StepFits, Step, AreScripts, Bool, true, false, cond, eqb, ap, sym, refl, inl, inr, append_assoc, append-nil, Option, Some, None, ⊎_elim, option_or, cons_option, filter_map, In, last_to, word_of, in_either, Ask, AskStore, AskFlush, AskWork, asks_of, Command, Store, histories_after, last_by, step_for}
 use Rattle.g1_race.proofs.StoreCalls.{word_fits}
 use Rattle.g1_steps.specs.declared.crew.desk.Step.TheVariants as step
 use Rattle.g1_trace.specs.declared.command.Command.TheVariants.{Flush}

@@ -1,5 +1,6 @@
 -- Cards that were swept, one after another.
-use Rattle.g1_replay.specs.{◌≡◌, ◌<◌, ◌+◌, ◌∷◌, ℕ, List, length, take, get_or, sym, subst, refl, All, Contains, inl, inr, Result, Ok, Err, OnOk, take_more, All-push, contains_in, in_contains}
+use Rattle.std.specs.Prelude.{◌≡◌, ◌<◌, ◌+◌, ◌∷◌}
+use Rattle.g1_replay.specs.{ℕ, List, length, take, get_or, sym, subst, refl, All, Contains, inl, inr, Result, Ok, Err, OnOk, take_more, All-push, contains_in, in_contains}
 
 -- where a card was refined, the others still do
 pub kept_ok : {V E : Type 0} (r : Result V E) (old new : List ℕ) (card : ℕ) → new ≡ card ∷ old → OnOk r ((other : ℕ) → Contains old other → Contains new other)

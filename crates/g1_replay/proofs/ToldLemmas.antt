@@ -1,5 +1,6 @@
 -- From what was read and played to the text of a permitted run.
-use Rattle.g1_replay.specs.{◌≡◌, ◌≢◌, ◌≤◌, ◌++◌, ◌⊎◌, ◌∙◌, Bool, ℕ, List, [], refl, length, sym, ap, subst, arith, Option, Some, None, true, Result, Ok, Err, IfErr, IfSome, IfNone, Shape, opening, Entry, IsPermitted, History, IsHistory, BookTerms, layout_in, Command, Options, Stop, NoMemory, BookFull, NoThread, Told, PrintsSome, written_by, puts_none, ⊎_elim, end_met, AreSetBy, entries_of, IsNewMachinery, Machinery, stepping, Scene, Follows, inl, inr, MayStop, IsReadStop, Reads, place, Spot, spot, with_heap, dialect_in, Run}
+use Rattle.std.specs.Prelude.{◌≡◌, ◌≢◌, ◌≤◌, ◌++◌, ◌⊎◌}
+use Rattle.g1_replay.specs.{◌∙◌, Bool, ℕ, List, [], refl, length, sym, ap, subst, arith, Option, Some, None, true, Result, Ok, Err, IfErr, IfSome, IfNone, Shape, opening, Entry, IsPermitted, History, IsHistory, BookTerms, layout_in, Command, Options, Stop, NoMemory, BookFull, NoThread, Told, PrintsSome, written_by, puts_none, ⊎_elim, end_met, AreSetBy, entries_of, IsNewMachinery, Machinery, stepping, Scene, Follows, inl, inr, MayStop, IsReadStop, Reads, place, Spot, spot, with_heap, dialect_in, Run}
 use Rattle.g1_replay.proofs.EndLemmas.{written_as}
 use Rattle.g1_replay.proofs.PlayingLemmas.{none_undone, reads_behind}
 use Rattle.g1_replay.proofs.SteppedLemmas.{stepped_played}

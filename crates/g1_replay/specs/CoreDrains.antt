@@ -1,5 +1,6 @@
 -- Drains of a core, one after another.
-use Rattle.g1_replay.specs.Prelude.{◌≡◌, ◌∷◌, ◌++◌, ◌∙◌, ℕ, List, [], refl, sym, ap, subst}
+use Rattle.std.specs.Prelude.{◌≡◌, ◌∷◌, ◌++◌}
+use Rattle.g1_replay.specs.Prelude.{◌∙◌, ℕ, List, [], refl, sym, ap, subst}
 use Rattle.g1_replay.specs.Prelude.{flat_map-append, Drained, drain_entry, Machine, IsStep, Table}
 use Rattle.g1_replay.specs.Prelude.{Command, Drain, Call}
 use Rattle.g1_replay.specs.Drains.{Draining}

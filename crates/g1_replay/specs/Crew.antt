@@ -1,5 +1,6 @@
 -- What a crew writes: how many stores its run has, and the drains that end it.
-use Rattle.g1_replay.specs.Prelude.{◌≡◌, ◌≢◌, ◌≤◌, ◌==◌, ◌⊎◌, ◌+◌, ◌++◌, if◌then◌else◌, ℕ, List, []}
+use Rattle.std.specs.Prelude.{◌≡◌, ◌≢◌, ◌≤◌, ◌==◌, ◌⊎◌, ◌+◌, ◌++◌, if◌then◌else◌}
+use Rattle.g1_replay.specs.Prelude.{ℕ, List, []}
 use Rattle.g1_replay.specs.Prelude.{Result, Ok, Err, length, count_by, Shape, opening, Entry}
 use Rattle.g1_replay.specs.Prelude.{IsPermitted, is_store, Refusal, Command, stores_text, Option}
 use Rattle.g1_replay.specs.Prelude.{None, IfSome, IsErrAnd, Options, Stop, BookFull, NoMemory}

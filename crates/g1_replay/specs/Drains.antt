@@ -1,5 +1,6 @@
 -- The drains that end a crew or a race.
-use Rattle.g1_replay.specs.Prelude.{◌≡◌, ◌∷◌, ◌++◌, stores_text, ℕ, zero, suc, List, [], Result, Ok}
+use Rattle.std.specs.Prelude.{◌≡◌, ◌∷◌, ◌++◌}
+use Rattle.g1_replay.specs.Prelude.{stores_text, ℕ, zero, suc, List, [], Result, Ok}
 use Rattle.g1_replay.specs.Prelude.{Err, Command, Drain, Call, Shape, Stop, BookFull}
 use Rattle.g1_replay.specs.Playing.{At, Deeds, Prints}
 

@@ -1,5 +1,6 @@
 -- Pieces behind pieces, and plays that follow each other.
-use Rattle.g1_replay.specs.Prelude.{◌≡◌, ◌∷◌, ◌++◌, ◌∙◌, ℕ, List, [], refl, sym, ap, subst}
+use Rattle.std.specs.Prelude.{◌≡◌, ◌∷◌, ◌++◌}
+use Rattle.g1_replay.specs.Prelude.{◌∙◌, ℕ, List, [], refl, sym, ap, subst}
 use Rattle.g1_replay.specs.Prelude.{append_assoc, vec_len, append-nil, flat_map-append, Settings}
 use Rattle.g1_replay.specs.Prelude.{Entry, History, BookTerms, layout_in, Grows, grows_none}
 use Rattle.g1_replay.specs.Prelude.{grows_then, Command}

@@ -1,5 +1,6 @@
 -- What a read of one line takes from the bytes that a reader has left.
-use Rattle.g1_replay.specs.Prelude.{◌≡◌, ◌≢◌, ◌∷◌, ◌++◌, ◌≤◌, ◌<◌, ℕ, List, [], length, take}
+use Rattle.std.specs.Prelude.{◌≡◌, ◌≢◌, ◌∷◌, ◌++◌, ◌≤◌, ◌<◌}
+use Rattle.g1_replay.specs.Prelude.{ℕ, List, [], length, take}
 use Rattle.g1_replay.specs.Prelude.{slice_index, Bool, true, false, Result, Ok, Err, Option, Some}
 use Rattle.g1_replay.specs.Prelude.{None, Consumes, IsAtEnd, IsPart, TooLong, Cut, Stop, Fault}
 use Rattle.g1_replay.specs.Prelude.{ReadFailed}

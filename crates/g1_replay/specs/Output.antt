@@ -1,5 +1,6 @@
 -- What a replay writes: the text of a permitted run of the commands that were read.
-use Rattle.g1_replay.specs.Prelude.{◌≡◌, ◌≢◌, ◌≤◌, ◌⊎◌, ◌++◌, ℕ, List, [], Bool, false, Result, Ok}
+use Rattle.std.specs.Prelude.{◌≡◌, ◌≢◌, ◌≤◌, ◌⊎◌, ◌++◌}
+use Rattle.g1_replay.specs.Prelude.{ℕ, List, [], Bool, false, Result, Ok}
 use Rattle.g1_replay.specs.Prelude.{Err, Option, Some, None, IfSome, IfNone, length, Appends, Shape}
 use Rattle.g1_replay.specs.Prelude.{opening, IsPermitted, Command, Dialect, TraceFault, Options}
 use Rattle.g1_replay.specs.Prelude.{AppendsFront, fault_line, no_memory_line, book_full_line}

@@ -1,5 +1,6 @@
 -- Racers and sweepers at desks, each with its end of a queue of completed buffers.
-use Rattle.g1_replay.specs.Prelude.{◌≡◌, ◌∷◌, ◌++◌, ◌∙◌, ℕ, List, [], Bool, true, false, refl, ap}
+use Rattle.std.specs.Prelude.{◌≡◌, ◌∷◌, ◌++◌}
+use Rattle.g1_replay.specs.Prelude.{◌∙◌, ℕ, List, [], Bool, true, false, refl, ap}
 use Rattle.g1_replay.specs.Prelude.{sym, array_vec_len, Line, line_home, sender_home, taker_home}
 use Rattle.g1_replay.specs.Prelude.{sender_rights, taker_rights, Race, Start, StoreHistory, null_of}
 use Rattle.g1_replay.specs.Prelude.{gains_store, word_of, race_id, race_shape, racer_race}

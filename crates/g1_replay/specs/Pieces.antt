@@ -1,5 +1,6 @@
 -- The calls that each command of a trace makes, and the line that is printed of them.
-use Rattle.g1_replay.specs.Prelude.{◌≡◌, ◌≤◌, ◌⊎◌, ◌||◌, ◌∷◌, ◌++◌, if◌then◌else◌, ℕ, Bool, true}
+use Rattle.std.specs.Prelude.{◌≡◌, ◌≤◌, ◌⊎◌, ◌||◌, ◌∷◌, ◌++◌, if◌then◌else◌}
+use Rattle.g1_replay.specs.Prelude.{ℕ, Bool, true}
 use Rattle.g1_replay.specs.Prelude.{false, List, [], All, flat_map, sum_by, length, Kind, Logged}
 use Rattle.g1_replay.specs.Prelude.{Fill, No, Full, Helped, Entry, Reply, Settings, round_size}
 use Rattle.g1_replay.specs.Prelude.{Command, stored_line, flushed_line, refined_line, worked_line}

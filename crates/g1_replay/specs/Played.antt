@@ -1,5 +1,6 @@
 -- What each command of a trace does to the machinery that it is played on, and what it answers.
-use Rattle.g1_replay.specs.Prelude.{◌≡◌, ◌<◌, ◌⊎◌, Drain, Redirect, ℕ, Bool, true, false, List, []}
+use Rattle.std.specs.Prelude.{◌≡◌, ◌<◌, ◌⊎◌}
+use Rattle.g1_replay.specs.Prelude.{Drain, Redirect, ℕ, Bool, true, false, List, []}
 use Rattle.g1_replay.specs.Prelude.{length, set, slice_index_or, Option, Result, Ok, Err, Appends}
 use Rattle.g1_replay.specs.Prelude.{Puts, Reply, History, layout_in, card_of, StoreReply}
 use Rattle.g1_replay.specs.Prelude.{RefineReply, FlushReply, Refusal, Mutator, Taker, CallMade}

@@ -1,6 +1,7 @@
 -- What is done with the commands of a trace, between two states of the reader, the writer and the
 -- one that plays.
-use Rattle.g1_replay.specs.Prelude.{◌≡◌, ◌≤◌, ◌∷◌, ◌++◌, ◌⊎◌, ◌<◌, ◌+◌, ℕ, List, [], Bool, Result}
+use Rattle.std.specs.Prelude.{◌≡◌, ◌≤◌, ◌∷◌, ◌++◌, ◌⊎◌, ◌<◌, ◌+◌}
+use Rattle.g1_replay.specs.Prelude.{ℕ, List, [], Bool, Result}
 use Rattle.g1_replay.specs.Prelude.{Ok, Err, Option, length, take, IfErr, IfSome, IsNone, OnOk}
 use Rattle.g1_replay.specs.Prelude.{Consumes, Shape, Line, capacity_of, History, opened, layout_in}
 use Rattle.g1_replay.specs.Prelude.{Grows, Refusal, Command, Dialect, Options, Puts, Stop, NoMemory}

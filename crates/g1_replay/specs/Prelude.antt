@@ -29,8 +29,7 @@ pub use Rattle.std.specs.Prelude.{[], All, Bool, codes, count_by, Err, IfErr, If
 pub use Rattle.std.specs.Prelude.{IsErrAnd, IsNone, IsSome, MatchResult, Ok, OnErr, OnOk}
 pub use Rattle.std.specs.Prelude.{option_to_list, Result, slice_index, slice_index_or, sum_by}
 pub use Rattle.std.specs.Prelude.{unwrap_or, zero}
-pub use Rattle.std.specs.Prelude.{replicate, filter, if◌then◌else◌, ◌≡◌, ◌≢◌, ◌<◌, ◌≤◌, ◌+◌, ◌-◌}
-pub use Rattle.std.specs.Prelude.{◌*◌, ◌^◌, ◌==◌, ◌&&◌, ◌||◌, ◌⊎◌, ◌∷◌, ◌++◌}
+pub use Rattle.std.specs.Prelude.{replicate, filter}
 pub use Rattle.std.specs.Vec.Iter.{into_iter_items, into_iter_len}
 pub use Rattle.arrayvec.specs.ArrayVec.{array_vec_len}
 pub use Rattle.g1_core.specs.Adoption.{IsPairOf}

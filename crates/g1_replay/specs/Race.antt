@@ -1,5 +1,6 @@
 -- What a race writes: how many stores were made, and what the drains that follow answer.
-use Rattle.g1_replay.specs.Prelude.{◌≡◌, ◌≢◌, ◌⊎◌, ◌<◌, ◌==◌, ◌&&◌, if◌then◌else◌, ◌∷◌, ◌++◌, Mode}
+use Rattle.std.specs.Prelude.{◌≡◌, ◌≢◌, ◌⊎◌, ◌<◌, ◌==◌, ◌&&◌, if◌then◌else◌, ◌∷◌, ◌++◌}
+use Rattle.g1_replay.specs.Prelude.{Mode}
 use Rattle.g1_replay.specs.Prelude.{ℕ, List, [], Result, Ok, Err, Option, Some, None, Contains}
 use Rattle.g1_replay.specs.Prelude.{codes, flat_map, count_by, length, slice_index_or, option_or}
 use Rattle.g1_replay.specs.Prelude.{Shape, slot_count, card_of, region_of, region_of_card, Table}

@@ -1,5 +1,6 @@
 -- What a race is opened with, its jobs, and the table that they leave.
-use Rattle.g1_replay.specs.Prelude.{◌+◌, ◌≡◌, ◌⊎◌, ◌∷◌, ◌++◌, vec_len, sum_by, Shape, Options}
+use Rattle.std.specs.Prelude.{◌+◌, ◌≡◌, ◌⊎◌, ◌∷◌, ◌++◌}
+use Rattle.g1_replay.specs.Prelude.{vec_len, sum_by, Shape, Options}
 use Rattle.g1_replay.specs.Prelude.{capacity_of, line_rights, race_layout, race_shape, shape_of, ℕ}
 use Rattle.g1_replay.specs.Prelude.{suc, nat_lt, List, [], Option, Some, None, filter_map, Sender}
 use Rattle.g1_replay.specs.Prelude.{Taker, Line, Race, Racer, Sweeper, racer_view, Ended, refs_of}

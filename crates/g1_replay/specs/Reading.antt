@@ -1,5 +1,6 @@
 -- What the calls that read lines take from the reader, and which part of the trace that is.
-use Rattle.g1_replay.specs.Prelude.{◌≡◌, ◌≤◌, ◌+◌, ◌*◌, ◌^◌, ◌∷◌, ◌++◌, ℕ, List, [], length, Bool}
+use Rattle.std.specs.Prelude.{◌≡◌, ◌≤◌, ◌+◌, ◌*◌, ◌^◌, ◌∷◌, ◌++◌}
+use Rattle.g1_replay.specs.Prelude.{ℕ, List, [], length, Bool}
 use Rattle.g1_replay.specs.Prelude.{true, false, Result, Ok, Err, Option, Some, None, IsSome}
 use Rattle.g1_replay.specs.Prelude.{Consumes, IsAtEnd, Shape, Command, Dialect, IsCommandOf}
 use Rattle.g1_replay.specs.Prelude.{read_on, before, faulty, IsPart, Stop, Fault, ReadFailed}

@@ -1,5 +1,6 @@
 -- A trace that is read whole before its scripts run.
-use Rattle.g1_replay.specs.Prelude.{◌≡◌, ◌⊎◌, ℕ, List, [], false, Result, Ok, Option, Some, None}
+use Rattle.std.specs.Prelude.{◌≡◌, ◌⊎◌}
+use Rattle.g1_replay.specs.Prelude.{ℕ, List, [], false, Result, Ok, Option, Some, None}
 use Rattle.g1_replay.specs.Prelude.{IfSome, IfErr, IsErrAnd, Shape, Command, Dialect, End, Stop}
 use Rattle.g1_replay.specs.Prelude.{NoMemory, NoThread}
 use Rattle.g1_replay.specs.Output.{IsReplayed, Streams, Tale, end_met}

@@ -1,5 +1,6 @@
 -- The scripts of a crew or a race: what each caller is to do.
-use Rattle.g1_replay.specs.Prelude.{◌≡◌, ◌<◌, ◌≤◌, ◌==◌, ◌+◌, ◌∷◌, ◌++◌, if◌then◌else◌, ◌∙◌, filter}
+use Rattle.std.specs.Prelude.{◌≡◌, ◌<◌, ◌≤◌, ◌==◌, ◌+◌, ◌∷◌, ◌++◌, if◌then◌else◌}
+use Rattle.g1_replay.specs.Prelude.{◌∙◌, filter}
 use Rattle.g1_replay.specs.Prelude.{ℕ, List, [], Bool, true, false, length, take, map, count_by}
 use Rattle.g1_replay.specs.Prelude.{slice_index_or, Option, Some, None, Result, Err, refl, sym}
 use Rattle.g1_replay.specs.Prelude.{subst, ap, append-nil, append_assoc, filter_map-append}

@@ -1,5 +1,6 @@
 -- What the commands of a run come to, one after another: the steps of a new machinery.
-use Rattle.g1_replay.specs.Prelude.{◌≡◌, ◌∷◌, ◌++◌, ℕ, List, [], All, vec_len, Option, Some, Ok}
+use Rattle.std.specs.Prelude.{◌≡◌, ◌∷◌, ◌++◌}
+use Rattle.g1_replay.specs.Prelude.{ℕ, List, [], All, vec_len, Option, Some, Ok}
 use Rattle.g1_replay.specs.Prelude.{Err, Shape, Options, Command, Refusal, capacity_of}
 use Rattle.g1_replay.specs.Prelude.{AreNewMutators, IsNewTaker}
 use Rattle.g1_replay.specs.declared.runs.machinery.Machinery.{Machinery}

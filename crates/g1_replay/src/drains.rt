@@ -1,7 +1,8 @@
 //! What a crew or a race prints: how many stores there were, and the drains that end it, one of
 //! each region, in order, each with its line.
-ghost use Rattle.g1_replay.specs.{◌≡◌, ◌<◌, ◌∷◌, [], IfErr, HasDrained, Does, at, deeds_of};
-ghost use Rattle.g1_replay.specs.{MayStop, more_may_come, book_draining, core_draining};
+ghost use Rattle.std.specs.Prelude.{◌≡◌, ◌<◌, ◌∷◌};
+ghost use Rattle.g1_replay.specs.{[], IfErr, HasDrained, Does, at, deeds_of, MayStop};
+ghost use Rattle.g1_replay.specs.{more_may_come, book_draining, core_draining};
 
 use crate::calls::{play_call, put_call};
 use crate::stop::Stop;

@@ -1,5 +1,6 @@
 //! How a replay ends: the line of its end, and the exit status that tells so.
-ghost use Rattle.g1_replay.specs.{◌≡◌, IsEndWritten, ending_line, end_or_failed, exit_status};
+ghost use Rattle.std.specs.Prelude.{◌≡◌};
+ghost use Rattle.g1_replay.specs.{IsEndWritten, ending_line, end_or_failed, exit_status};
 
 use crate::stop::Stop;
 use g1_trace::{

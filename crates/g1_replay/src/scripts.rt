@@ -1,7 +1,7 @@
 //! The scripts of a trace: what each mutator of a crew or a race is to do, kept as the trace is
 //! read, and why a job was refused.
-ghost use Rattle.g1_replay.specs.Prelude.{◌≡◌, ◌<◌, ◌+◌, ◌^◌, ◌++◌, ℕ, [], drop, All, IfOk, OnOk};
-ghost use Rattle.g1_replay.specs.Prelude.{OnErr, vec_len, sum_by};
+ghost use Rattle.std.specs.Prelude.{◌≡◌, ◌<◌, ◌+◌, ◌^◌, ◌++◌};
+ghost use Rattle.g1_replay.specs.Prelude.{ℕ, [], drop, All, IfOk, OnOk, OnErr, vec_len, sum_by};
 ghost use Rattle.g1_replay.specs.Scripts.{IsScriptAt, asked_in, calls_in, keeping, refusal_in};
 ghost use Rattle.g1_replay.specs.Scripts.{stores_in};
 ghost use Rattle.g1_steps.specs.declared.crew.desk.Step.{Step};

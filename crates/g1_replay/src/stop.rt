@@ -1,5 +1,5 @@
 //! Why a replay goes no further.
-ghost use Rattle.g1_replay.specs.Prelude.{◌≡◌};
+ghost use Rattle.std.specs.Prelude.{◌≡◌};
 ghost use Rattle.g1_replay.specs.Playing.{stop_of};
 ghost use Rattle.g1_replay.specs.declared.stop.Stop.TheVariants as stops;
 

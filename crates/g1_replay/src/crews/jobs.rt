@@ -1,9 +1,10 @@
 //! The jobs of a crew, and the book that they leave.
-ghost use Rattle.g1_replay.specs.{◌≡◌, ◌+◌, ◌≤◌, ◌^◌, ◌<◌, [], true, IfErr, IfOk, All, map};
-ghost use Rattle.g1_replay.specs.{count_by, sum_by, vec_len, vec_capacity, IsCallerOf, is_store};
-ghost use Rattle.g1_replay.specs.{kept_terms, shared_terms, terms_of, slot_count, StepFits};
-ghost use Rattle.g1_replay.specs.{AllFrom, IsUnstarted, first_refusal, HasCome, IsScriptAt};
-ghost use Rattle.g1_replay.specs.{stored_by, layout_in, IsOpened};
+ghost use Rattle.std.specs.Prelude.{◌≡◌, ◌+◌, ◌≤◌, ◌^◌, ◌<◌};
+ghost use Rattle.g1_replay.specs.{[], true, IfErr, IfOk, All, map, count_by, sum_by, vec_len};
+ghost use Rattle.g1_replay.specs.{vec_capacity, IsCallerOf, is_store, kept_terms, shared_terms};
+ghost use Rattle.g1_replay.specs.{terms_of, slot_count, StepFits, AllFrom, IsUnstarted};
+ghost use Rattle.g1_replay.specs.{first_refusal, HasCome, IsScriptAt, stored_by, layout_in};
+ghost use Rattle.g1_replay.specs.{IsOpened};
 
 use crate::scripts::{next_script, refusal_of};
 use crate::stop::Stop;

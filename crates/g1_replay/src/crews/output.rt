@@ -1,5 +1,6 @@
 //! What a crew prints of its book: how many stores there were, and a drain of each region.
-ghost use Rattle.g1_replay.specs.{◌≡◌, List, None, length, count_by, is_store, is_store_command};
+ghost use Rattle.std.specs.Prelude.{◌≡◌};
+ghost use Rattle.g1_replay.specs.{List, None, length, count_by, is_store, is_store_command};
 ghost use Rattle.g1_replay.specs.{Command, IsHistory, layout_in, CrewDrained, crew_book, crew_stop};
 ghost use Rattle.g1_replay.specs.{PrintsSome};
 

@@ -1,7 +1,7 @@
 //! Makes the calls of each mutator in a thread of its own, and prints the result.
-ghost use Rattle.g1_replay.specs.{◌≡◌, List, true, vec_len, All, slot_count, AreScripts};
-ghost use Rattle.g1_replay.specs.{PrintsSome, StepFits, Command, CrewRan, IsScriptReplayed};
-ghost use Rattle.g1_replay.specs.{crewing, streams};
+ghost use Rattle.std.specs.Prelude.{◌≡◌};
+ghost use Rattle.g1_replay.specs.{List, true, vec_len, All, slot_count, AreScripts, PrintsSome};
+ghost use Rattle.g1_replay.specs.{StepFits, Command, CrewRan, IsScriptReplayed, crewing, streams};
 
 use crate::crews::jobs::run_jobs;
 use crate::crews::output::put_crew;

@@ -1,6 +1,7 @@
 //! One line of a trace at a time, of at most 64 bytes before its line feed.
-ghost use Rattle.g1_replay.specs.Prelude.{◌≡◌, ◌≤◌, ◌<◌, ◌^◌, ◌+◌, ℕ, List, [], length, Ok, true};
-ghost use Rattle.g1_replay.specs.Prelude.{Option, IfErr, Consumes, IsPart};
+ghost use Rattle.std.specs.Prelude.{◌≡◌, ◌≤◌, ◌<◌, ◌^◌, ◌+◌};
+ghost use Rattle.g1_replay.specs.Prelude.{ℕ, List, [], length, Ok, true, Option, IfErr, Consumes};
+ghost use Rattle.g1_replay.specs.Prelude.{IsPart};
 ghost use Rattle.g1_replay.specs.Lines.{GoesIntoLine, HasPart, ReadsPartOfShown, IsSettled};
 ghost use Rattle.g1_replay.specs.Lines.{ReadsPart, ReadsByte, ReadsLine, EndsAtFeed};
 ghost use Rattle.g1_replay.specs.Reading.{IsReadStop};

@@ -1,5 +1,6 @@
 //! A line of a trace that the reader does not show as a whole.
-ghost use Rattle.g1_replay.specs.Prelude.{◌≤◌, ◌*◌, ◌^◌, [], ℕ, List, Option, IfOk, IfErr};
+ghost use Rattle.std.specs.Prelude.{◌≤◌, ◌*◌, ◌^◌};
+ghost use Rattle.g1_replay.specs.Prelude.{[], ℕ, List, Option, IfOk, IfErr};
 ghost use Rattle.g1_replay.specs.Lines.{HasPart};
 ghost use Rattle.g1_replay.specs.Reading.{ReadsBehind, commands_of, next_met, IsNextCommandOf};
 ghost use Rattle.g1_replay.specs.Reading.{IsOfTrace, IsReadStop};

@@ -1,7 +1,8 @@
 //! The lines of a trace up to its header.
 
-ghost use Rattle.g1_replay.specs.{◌≡◌, ◌<◌, [], Ok, None, IfErr, Dialect, Reads, place};
-ghost use Rattle.g1_replay.specs.{more_may_come, opened_by, IsReadStop};
+ghost use Rattle.std.specs.Prelude.{◌≡◌, ◌<◌};
+ghost use Rattle.g1_replay.specs.{[], Ok, None, IfErr, Dialect, Reads, place, more_may_come};
+ghost use Rattle.g1_replay.specs.{opened_by, IsReadStop};
 ghost use Rattle.std.specs.Result.{result_ok};
 
 use crate::lines::line::next_line;

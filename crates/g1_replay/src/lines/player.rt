@@ -1,5 +1,6 @@
 //! What is done with the commands of a trace.
-ghost use Rattle.g1_replay.specs.{◌∷◌, OnOk, IfErr, [], IsCommandOf, Does, at, more_may_come};
+ghost use Rattle.std.specs.Prelude.{◌∷◌};
+ghost use Rattle.g1_replay.specs.{OnOk, IfErr, [], IsCommandOf, Does, at, more_may_come};
 
 use crate::stop::Stop;
 use g1_layout::Layout;

@@ -1,7 +1,7 @@
 //! The lines of a trace behind its header, which are read and played.
-ghost use Rattle.g1_replay.specs.{◌≡◌, ◌<◌, ◌≤◌, ◌*◌, ◌^◌, ◌⊎◌, ℕ, List, Option, [], Ok, true};
-ghost use Rattle.g1_replay.specs.{IfErr, OnOk, take, length, HasPart, end_met, Follows, scene};
-ghost use Rattle.g1_replay.specs.{IsOfTrace, IsReadStop};
+ghost use Rattle.std.specs.Prelude.{◌≡◌, ◌<◌, ◌≤◌, ◌*◌, ◌^◌, ◌⊎◌};
+ghost use Rattle.g1_replay.specs.{ℕ, List, Option, [], Ok, true, IfErr, OnOk, take, length};
+ghost use Rattle.g1_replay.specs.{HasPart, end_met, Follows, scene, IsOfTrace, IsReadStop};
 
 use crate::lines::line::Part;
 use crate::lines::next::Next;

@@ -1,7 +1,7 @@
 //! The lines that a reader shows as a whole, read where they lie and played one after the other.
-ghost use Rattle.g1_replay.specs.{◌≡◌, ◌≤◌, ◌+◌, ◌⊎◌, take, length, IfErr, OnOk, FollowsFront};
-ghost use Rattle.g1_replay.specs.{PlaysFirst, IsReadStop, more_may_come, HasRoomFor, IsOfTrace};
-ghost use Rattle.g1_replay.specs.{scene};
+ghost use Rattle.std.specs.Prelude.{◌≡◌, ◌≤◌, ◌+◌, ◌⊎◌};
+ghost use Rattle.g1_replay.specs.{take, length, IfErr, OnOk, FollowsFront, PlaysFirst, IsReadStop};
+ghost use Rattle.g1_replay.specs.{more_may_come, HasRoomFor, IsOfTrace, scene};
 
 use crate::lines::line::{LINE_LIMIT, Part, part_of};
 use crate::lines::player::Player;

@@ -1,5 +1,5 @@
 //! How far a replay has come in its input, and what reads the commands there.
-ghost use Rattle.g1_replay.specs.Prelude.{◌≡◌, ◌≤◌, ◌+◌, ◌*◌, ◌^◌};
+ghost use Rattle.std.specs.Prelude.{◌≡◌, ◌≤◌, ◌+◌, ◌*◌, ◌^◌};
 
 use g1_layout::Layout;
 use g1_trace::Dialect;

@@ -1,10 +1,11 @@
 //! A desk at a race: a racer with the end of a queue into which it puts its logs, or a sweeper with
 //! one from which it takes them.
-ghost use Rattle.g1_replay.specs.Prelude.{◌≡◌, ◌<◌, ◌≤◌, ℕ, All, Contains, OnOk, props};
-ghost use Rattle.g1_replay.specs.Prelude.{array_vec_len, slot_count, card_count, line_home, put_of};
-ghost use Rattle.g1_replay.specs.Prelude.{IsSenderOf, IsSameSender, race_id, race_layout};
-ghost use Rattle.g1_replay.specs.Prelude.{racer_race, racer_start, racer_view, sweeper_race};
-ghost use Rattle.g1_replay.specs.Prelude.{sweeper_start, sweeper_view, PutsBy};
+ghost use Rattle.std.specs.Prelude.{◌≡◌, ◌<◌, ◌≤◌};
+ghost use Rattle.g1_replay.specs.Prelude.{ℕ, All, Contains, OnOk, props, array_vec_len, slot_count};
+ghost use Rattle.g1_replay.specs.Prelude.{card_count, line_home, put_of, IsSenderOf, IsSameSender};
+ghost use Rattle.g1_replay.specs.Prelude.{race_id, race_layout, racer_race, racer_start};
+ghost use Rattle.g1_replay.specs.Prelude.{racer_view, sweeper_race, sweeper_start, sweeper_view};
+ghost use Rattle.g1_replay.specs.Prelude.{PutsBy};
 ghost use Rattle.g1_replay.specs.Parties.{is_racer, party_home, party_logged, party_race, PartyDid};
 ghost use Rattle.g1_replay.specs.Parties.{party_did_none, party_did_then};
 

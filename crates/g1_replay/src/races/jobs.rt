@@ -1,7 +1,8 @@
 //! The jobs of a race, and the table that they leave.
-ghost use Rattle.g1_replay.specs.{◌≡◌, ◌+◌, ℕ, List, drop, true, All, IfErr, IfOk, OnOk, None, map};
-ghost use Rattle.g1_replay.specs.{vec_len, slot_count, race_layout, ScriptFits, StepFits, Command};
-ghost use Rattle.g1_replay.specs.{is_racer, AllFrom, AreScripts, HasBack, IsNewParty, IsScriptAt};
+ghost use Rattle.std.specs.Prelude.{◌≡◌, ◌+◌};
+ghost use Rattle.g1_replay.specs.{ℕ, List, drop, true, All, IfErr, IfOk, OnOk, None, map, vec_len};
+ghost use Rattle.g1_replay.specs.{slot_count, race_layout, ScriptFits, StepFits, Command, is_racer};
+ghost use Rattle.g1_replay.specs.{AllFrom, AreScripts, HasBack, IsNewParty, IsScriptAt};
 ghost use Rattle.g1_replay.specs.{IsTableLeftBy, IsUnstarted, first_refusal, with_flush};
 ghost use Rattle.g1_replay.specs.{IsOpenedBy, capacity_of};
 

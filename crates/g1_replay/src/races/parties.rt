@@ -1,9 +1,10 @@
 //! The parties of a race: each racer with an end of the queue into which it puts its logs, each
 //! sweeper with one from which it takes them.
-ghost use Rattle.g1_replay.specs.Prelude.{◌≡◌, ◌+◌, ◌++◌, ◌∷◌, List, [], All, IfOk, OnOk, sum_by};
-ghost use Rattle.g1_replay.specs.Prelude.{vec_len, sender_rights, taker_rights, IsSenderOf};
-ghost use Rattle.g1_replay.specs.Prelude.{IsTakerOf, null_of, race_shape, AreFreshRacers};
-ghost use Rattle.g1_replay.specs.Prelude.{AreFreshSweepers, HaveBegun};
+ghost use Rattle.std.specs.Prelude.{◌≡◌, ◌+◌, ◌++◌, ◌∷◌};
+ghost use Rattle.g1_replay.specs.Prelude.{List, [], All, IfOk, OnOk, sum_by, vec_len};
+ghost use Rattle.g1_replay.specs.Prelude.{sender_rights, taker_rights, IsSenderOf, IsTakerOf};
+ghost use Rattle.g1_replay.specs.Prelude.{null_of, race_shape, AreFreshRacers, AreFreshSweepers};
+ghost use Rattle.g1_replay.specs.Prelude.{HaveBegun};
 ghost use Rattle.g1_replay.specs.Parties.{party_rights};
 ghost use Rattle.g1_replay.specs.RaceJobs.{AllFrom, HasBack, IsNewParty};
 ghost use Rattle.g1_replay.specs.declared.races.desk.Party.{Party};

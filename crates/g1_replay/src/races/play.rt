@@ -1,7 +1,8 @@
 //! Makes the stores of each mutator in a race, in a thread of its own, and prints the result.
-ghost use Rattle.g1_replay.specs.{◌≡◌, ◌<◌, ◌^◌, List, true, All, vec_len, sum_by, slot_count};
-ghost use Rattle.g1_replay.specs.{StepFits, Command, AreScripts, RaceRan, IsScriptReplayed};
-ghost use Rattle.g1_replay.specs.{PrintsSome, racing, IfOk, core_of, stores_in, streams};
+ghost use Rattle.std.specs.Prelude.{◌≡◌, ◌<◌, ◌^◌};
+ghost use Rattle.g1_replay.specs.{List, true, All, vec_len, sum_by, slot_count, StepFits, Command};
+ghost use Rattle.g1_replay.specs.{AreScripts, RaceRan, IsScriptReplayed, PrintsSome, racing, IfOk};
+ghost use Rattle.g1_replay.specs.{core_of, stores_in, streams};
 
 use crate::drains::put_left;
 use crate::end::End;

@@ -1,5 +1,6 @@
 //! What the commands of a trace are played on.
-ghost use Rattle.g1_replay.specs.Prelude.{◌≡◌, ◌≤◌, vec_len, All, props, IsSenderOf, IsTakerOf};
+ghost use Rattle.std.specs.Prelude.{◌≡◌, ◌≤◌};
+ghost use Rattle.g1_replay.specs.Prelude.{vec_len, All, props, IsSenderOf, IsTakerOf};
 
 use g1_history::Book;
 use g1_log::{Line, Taker};

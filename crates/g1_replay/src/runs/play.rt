@@ -1,8 +1,9 @@
 //! The calls of a command, and its output line.
-ghost use Rattle.g1_replay.specs.{◌≡◌, ◌<◌, true, IfSome, vec_len, slot_count, layout_in};
-ghost use Rattle.g1_replay.specs.{IsCommandCall, IsCommandOf, stepping, at, is_pause, AreStill};
-ghost use Rattle.g1_replay.specs.{IsPlayed, StoresAt, FlushesAt, RefinesAt, WorksAt, IsCallPlayed};
-ghost use Rattle.g1_replay.specs.{StandIf, StandStill};
+ghost use Rattle.std.specs.Prelude.{◌≡◌, ◌<◌};
+ghost use Rattle.g1_replay.specs.{true, IfSome, vec_len, slot_count, layout_in, IsCommandCall};
+ghost use Rattle.g1_replay.specs.{IsCommandOf, stepping, at, is_pause, AreStill, IsPlayed};
+ghost use Rattle.g1_replay.specs.{StoresAt, FlushesAt, RefinesAt, WorksAt, IsCallPlayed, StandIf};
+ghost use Rattle.g1_replay.specs.{StandStill};
 
 use crate::calls::play_call;
 use crate::lines::player::Player;

@@ -1,4 +1,5 @@
-use Rattle.g1_replay.specs.{◌≡◌, ◌+◌, ◌∙◌, ℕ, refl, arith, subst, Ok, Err, WriteFailed, HasDrained, at}
+use Rattle.std.specs.Prelude.{◌≡◌, ◌+◌}
+use Rattle.g1_replay.specs.{◌∙◌, ℕ, refl, arith, subst, Ok, Err, WriteFailed, HasDrained, at}
 use Rattle.g1_replay.proofs.{err_is}
 use Rattle.g1_replay.proofs.DrainLemmas.{drained_none, drained_then}
 use Rattle.g1_replay.proofs.drains.put_left.Goals as goal

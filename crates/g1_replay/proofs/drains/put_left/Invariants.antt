@@ -1,4 +1,5 @@
-use Rattle.g1_replay.specs.{◌≡◌, ◌≤◌, Ok, HasDrained, at}
+use Rattle.std.specs.Prelude.{◌≡◌, ◌≤◌}
+use Rattle.g1_replay.specs.{Ok, HasDrained, at}
 use Rattle.g1_replay.proofs.drains.put_left.Given as goal
 
 -- the heap is the same, and the regions so far were drained

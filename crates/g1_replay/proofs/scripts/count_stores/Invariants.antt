@@ -1,4 +1,5 @@
-use Rattle.g1_replay.specs.{◌≡◌, take, sum_by, stores_in}
+use Rattle.std.specs.Prelude.{◌≡◌}
+use Rattle.g1_replay.specs.{take, sum_by, stores_in}
 use Rattle.g1_replay.proofs.scripts.count_stores.Given as goal
 
 -- the stores of the scripts so far

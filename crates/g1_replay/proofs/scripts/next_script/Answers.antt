@@ -1,4 +1,5 @@
-use Rattle.g1_replay.specs.{◌<◌, length, refl, rules}
+use Rattle.std.specs.Prelude.{◌<◌}
+use Rattle.g1_replay.specs.{length, refl, rules}
 use Rattle.g1_replay.proofs.{some_left}
 use Rattle.g1_replay.proofs.scripts.next_script.Goals as goal
 

@@ -1,4 +1,5 @@
-use Rattle.g1_replay.specs.{◌≡◌, ◌≤◌, take, stores_in}
+use Rattle.std.specs.Prelude.{◌≡◌, ◌≤◌}
+use Rattle.g1_replay.specs.{take, stores_in}
 use Rattle.g1_replay.proofs.scripts.stores_of.Given as goal
 
 -- the stores among the calls so far

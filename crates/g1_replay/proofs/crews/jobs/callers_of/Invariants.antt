@@ -1,4 +1,5 @@
-use Rattle.g1_replay.specs.{◌≡◌, ◌+◌, ◌≤◌, ◌<◌, ◌^◌, ◌++◌, map, vec_len, vec_capacity, sum_by, option_or, into_iter_len, into_iter_items, first_refusal, stored_by}
+use Rattle.std.specs.Prelude.{◌≡◌, ◌+◌, ◌≤◌, ◌<◌, ◌^◌, ◌++◌}
+use Rattle.g1_replay.specs.{map, vec_len, vec_capacity, sum_by, option_or, into_iter_len, into_iter_items, first_refusal, stored_by}
 use Rattle.g1_replay.proofs.crews.jobs.callers_of.Given as goal
 
 -- one caller a job so far, with the sum of their stores unless it is too large, and the first refusal is the one so far, or the first of the jobs that are left

@@ -1,4 +1,5 @@
-use Rattle.g1_replay.specs.{◌≡◌, ◌+◌, ◌++◌, ◌∙◌, ℕ, drop, map, add-one, ap, sym, subst, vec_len, All, arith, into_iter_items, All-nil, All-push, IsCallerOf, AllFrom, IsScriptAt}
+use Rattle.std.specs.Prelude.{◌≡◌, ◌+◌, ◌++◌}
+use Rattle.g1_replay.specs.{◌∙◌, ℕ, drop, map, add-one, ap, sym, subst, vec_len, All, arith, into_iter_items, All-nil, All-push, IsCallerOf, AllFrom, IsScriptAt}
 use Rattle.g1_steps.proofs.WorkerLemmas.{started_more}
 use Rattle.g1_replay.proofs.{all_from_rest}
 use Rattle.g1_replay.proofs.crews.jobs.jobs_of.Goals as goal

@@ -1,4 +1,5 @@
-use Rattle.g1_replay.specs.{◌≡◌, ◌+◌, ◌≤◌, ◌++◌, drop, map, vec_len, vec_capacity, All, into_iter_len, into_iter_items, IsCallerOf, AllFrom, IsScriptAt}
+use Rattle.std.specs.Prelude.{◌≡◌, ◌+◌, ◌≤◌, ◌++◌}
+use Rattle.g1_replay.specs.{drop, map, vec_len, vec_capacity, All, into_iter_len, into_iter_items, IsCallerOf, AllFrom, IsScriptAt}
 use Rattle.g1_replay.proofs.crews.jobs.jobs_of.Given as goal
 
 -- the callers that are left are of the book, and each job so far has the script of its caller

@@ -1,4 +1,5 @@
-use Rattle.g1_replay.specs.{◌≡◌, ◌+◌, ◌∙◌, ℕ, length, ap, arith, subst, Shape, History, BookTerms, layout_in, NoMemory, CrewDrained, crew_book, AreOfCallers, HasCome, IsScriptFor, PrintsSome}
+use Rattle.std.specs.Prelude.{◌≡◌, ◌+◌}
+use Rattle.g1_replay.specs.{◌∙◌, ℕ, length, ap, arith, subst, Shape, History, BookTerms, layout_in, NoMemory, CrewDrained, crew_book, AreOfCallers, HasCome, IsScriptFor, PrintsSome}
 use Rattle.g1_replay.proofs.{err_is, not_started, crew_ran}
 use Rattle.g1_replay.proofs.JobLemmas.{all_stored, come_for}
 use Rattle.g1_replay.proofs.crews.play.run_scripts.Goals as goal

@@ -1,4 +1,5 @@
-use Rattle.g1_replay.specs.{◌≤◌, ◌-◌, length, arith, subst, unwrap_or, EndsAtFeed, YieldsFirst}
+use Rattle.std.specs.Prelude.{◌≤◌, ◌-◌}
+use Rattle.g1_replay.specs.{length, arith, subst, unwrap_or, EndsAtFeed, YieldsFirst}
 use Rattle.g1_replay.proofs.{feed_found}
 use Rattle.g1_replay.proofs.lines.line.part_len.Goals as goal
 

@@ -1,4 +1,5 @@
-use Rattle.g1_replay.specs.{◌≤◌, ◌^◌, ◌-◌, ℕ, List, Option, length, HasPart}
+use Rattle.std.specs.Prelude.{◌≤◌, ◌^◌, ◌-◌}
+use Rattle.g1_replay.specs.{ℕ, List, Option, length, HasPart}
 use Rattle.g1_replay.proofs.lines.line.rest_of_line.Given as goal
 
 -- the last part that was taken belongs to the line

@@ -1,4 +1,5 @@
-use Rattle.g1_replay.specs.{◌≡◌, ◌≢◌, ◌<◌, length, subst, arith, ReadsByte, Byte}
+use Rattle.std.specs.Prelude.{◌≡◌, ◌≢◌, ◌<◌}
+use Rattle.g1_replay.specs.{length, subst, arith, ReadsByte, Byte}
 use Rattle.g1_replay.proofs.{byte_more}
 use Rattle.g1_replay.proofs.lines.line.settle_byte.Goals as goal
 

@@ -1,4 +1,5 @@
-use Rattle.g1_replay.specs.{◌^◌, ◌-◌, [], None, true, Ok, Dialect, Reads, place}
+use Rattle.std.specs.Prelude.{◌^◌, ◌-◌}
+use Rattle.g1_replay.specs.{[], None, true, Ok, Dialect, Reads, place}
 use Rattle.g1_replay.proofs.lines.opening.read_layout.Given as goal
 
 -- what was passed over so far

@@ -1,4 +1,5 @@
-use Rattle.g1_replay.specs.{◌<◌, ◌∙◌, ℕ, subst, Contains, card_count, race_layout, sweeper_view}
+use Rattle.std.specs.Prelude.{◌<◌}
+use Rattle.g1_replay.specs.{◌∙◌, ℕ, subst, Contains, card_count, race_layout, sweeper_view}
 use Rattle.g1_replay.proofs.SweptLemmas.{swept_more}
 use Rattle.g1_replay.proofs.races.desk.refine_all.Goals as goal
 

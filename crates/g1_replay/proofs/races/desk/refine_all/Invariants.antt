@@ -1,4 +1,5 @@
-use Rattle.g1_replay.specs.{◌≡◌, ◌<◌, All, Contains, take, card_count, race_id, race_layout, sweeper_race, sweeper_start, sweeper_view}
+use Rattle.std.specs.Prelude.{◌≡◌, ◌<◌}
+use Rattle.g1_replay.specs.{All, Contains, take, card_count, race_id, race_layout, sweeper_race, sweeper_start, sweeper_view}
 use Rattle.g1_replay.proofs.races.desk.refine_all.Given as goal
 
 -- the cards so far were swept

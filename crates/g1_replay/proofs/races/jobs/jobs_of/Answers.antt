@@ -1,4 +1,5 @@
-use Rattle.g1_replay.specs.{◌≡◌, ◌+◌, ◌∙◌, ℕ, suc, drop, vec_len, with_flush, ap, sym, subst, arith, into_iter_items, All-push, All-same, slot_count, race_layout, ScriptFits, Party, is_racer, AllFrom, IsNewParty, IsScriptAt}
+use Rattle.std.specs.Prelude.{◌≡◌, ◌+◌}
+use Rattle.g1_replay.specs.{◌∙◌, ℕ, suc, drop, vec_len, with_flush, ap, sym, subst, arith, into_iter_items, All-push, All-same, slot_count, race_layout, ScriptFits, Party, is_racer, AllFrom, IsNewParty, IsScriptAt}
 use Rattle.g1_race.specs.declared.race.Race.{Race}
 use Rattle.g1_steps.proofs.WorkerLemmas.{started_more}
 use Rattle.g1_replay.proofs.{all_from_next, all_from_rest, flushes_fit, script_at_fits}

@@ -1,4 +1,5 @@
-use Rattle.g1_replay.specs.{◌≡◌, ◌+◌, ◌++◌, ◌≤◌, drop, map, vec_len, vec_capacity, All, into_iter_len, into_iter_items, slot_count, race_layout, ScriptFits, is_racer, AllFrom, IsNewParty, with_flush, IsScriptAt}
+use Rattle.std.specs.Prelude.{◌≡◌, ◌+◌, ◌++◌, ◌≤◌}
+use Rattle.g1_replay.specs.{drop, map, vec_len, vec_capacity, All, into_iter_len, into_iter_items, slot_count, race_layout, ScriptFits, is_racer, AllFrom, IsNewParty, with_flush, IsScriptAt}
 use Rattle.g1_replay.proofs.races.jobs.jobs_of.Given as goal
 
 -- the jobs so far are those of the parties that came first

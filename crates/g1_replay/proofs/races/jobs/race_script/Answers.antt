@@ -1,4 +1,5 @@
-use Rattle.g1_replay.specs.{◌∷◌, ◌++◌, ◌∙◌, List, [], ap, Step}
+use Rattle.std.specs.Prelude.{◌∷◌, ◌++◌}
+use Rattle.g1_replay.specs.{◌∙◌, List, [], ap, Step}
 use Rattle.g1_steps.specs.declared.crew.desk.Step.TheVariants.{Flush}
 use Rattle.g1_replay.proofs.races.jobs.race_script.Goals as goal
 

@@ -1,4 +1,5 @@
-use Rattle.g1_replay.specs.{◌∷◌, ◌++◌, List, [], map, subst, arith, length-map, into_iter_items, Party, HasBack}
+use Rattle.std.specs.Prelude.{◌∷◌, ◌++◌}
+use Rattle.g1_replay.specs.{List, [], map, subst, arith, length-map, into_iter_items, Party, HasBack}
 use Rattle.g1_replay.proofs.{all_moved, next_behind}
 use Rattle.g1_replay.proofs.RanRaceLemmas.{first_left}
 use Rattle.g1_replay.proofs.races.jobs.returned_by.Goals as goal

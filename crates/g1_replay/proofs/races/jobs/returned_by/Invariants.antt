@@ -1,4 +1,5 @@
-use Rattle.g1_replay.specs.{◌≡◌, ◌++◌, List, map, into_iter_items, Party, HasBack, first_refusal}
+use Rattle.std.specs.Prelude.{◌≡◌, ◌++◌}
+use Rattle.g1_replay.specs.{List, map, into_iter_items, Party, HasBack, first_refusal}
 use Rattle.g1_replay.proofs.races.jobs.returned_by.Given as goal
 
 -- the parties of the jobs so far are back, and none of these was refused

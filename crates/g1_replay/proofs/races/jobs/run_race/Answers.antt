@@ -1,4 +1,5 @@
-use Rattle.g1_replay.specs.{◌^◌, ◌≡◌, ◌+◌, ◌<◌, ◌∙◌, List, length, map, ap, refl, sym, subst, arith, All, sum_by, [], ℕ, true, In, length-map, StepFits, slot_count, IsPairOf, Racer, Begun, beginning, null_of, IsKnown, IsOver, shape_of, null_begun, race_begun, racer_view, sweeper_view, Party, party_rights}
+use Rattle.std.specs.Prelude.{◌^◌, ◌≡◌, ◌+◌, ◌<◌}
+use Rattle.g1_replay.specs.{◌∙◌, List, length, map, ap, refl, sym, subst, arith, All, sum_by, [], ℕ, true, In, length-map, StepFits, slot_count, IsPairOf, Racer, Begun, beginning, null_of, IsKnown, IsOver, shape_of, null_begun, race_begun, racer_view, sweeper_view, Party, party_rights}
 use Rattle.g1_layout.specs.Shape as layout
 use Rattle.g1_race_words.specs.declared.view.RaceShape.{RaceShape}
 use Rattle.g1_race.proofs.Fresh.{begun_as}

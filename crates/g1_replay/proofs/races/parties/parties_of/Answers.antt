@@ -1,4 +1,5 @@
-use Rattle.g1_replay.specs.{◌≡◌, ◌<◌, ap, sym, refl, arith, nat_lt, true, false, length, Some, vec_len, lt-ltb, le-ltb, All-head, All-pop, All-rest, All-same, sender_rights, taker_rights, IsSenderOf, IsTakerOf, Racer, Sweeper, null_of, racer_start, sweeper_start, IsFreshRacer, IsFreshSweeper, IsNewParty}
+use Rattle.std.specs.Prelude.{◌≡◌, ◌<◌}
+use Rattle.g1_replay.specs.{ap, sym, refl, arith, nat_lt, true, false, length, Some, vec_len, lt-ltb, le-ltb, All-head, All-pop, All-rest, All-same, sender_rights, taker_rights, IsSenderOf, IsTakerOf, Racer, Sweeper, null_of, racer_start, sweeper_start, IsFreshRacer, IsFreshSweeper, IsNewParty}
 use Rattle.g1_replay.proofs.{all_from_next, rights_move}
 use Rattle.g1_replay.proofs.races.parties.parties_of.Goals as goal
 

@@ -1,4 +1,5 @@
-use Rattle.g1_replay.specs.{◌≡◌, ◌≤◌, ◌+◌, All, vec_len, sum_by, into_iter_len, into_iter_items, sender_rights, taker_rights, IsSenderOf, IsTakerOf, null_of, racer_start, sweeper_start, IsFreshRacer, IsFreshSweeper, party_rights, AllFrom, IsNewParty}
+use Rattle.std.specs.Prelude.{◌≡◌, ◌≤◌, ◌+◌}
+use Rattle.g1_replay.specs.{All, vec_len, sum_by, into_iter_len, into_iter_items, sender_rights, taker_rights, IsSenderOf, IsTakerOf, null_of, racer_start, sweeper_start, IsFreshRacer, IsFreshSweeper, party_rights, AllFrom, IsNewParty}
 use Rattle.g1_replay.proofs.races.parties.parties_of.Given as goal
 
 abbrev pub invariant-loop-racer : goal.invariant-loop-racer

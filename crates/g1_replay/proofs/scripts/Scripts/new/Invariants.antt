@@ -1,4 +1,5 @@
-use Rattle.g1_replay.specs.{◌≡◌, ◌≤◌, ◌-◌, [], All, vec_len, vec_capacity}
+use Rattle.std.specs.Prelude.{◌≡◌, ◌≤◌, ◌-◌}
+use Rattle.g1_replay.specs.{[], All, vec_len, vec_capacity}
 use Rattle.g1_replay.proofs.scripts.Scripts.new.Given as goal
 
 -- no calls of those so far, and room for the rest

@@ -1,4 +1,5 @@
-use Rattle.g1_replay.specs.{◌<◌, ◌∷◌, ◌++◌, ◌∙◌, ℕ, Option, Some, None, Appends-nil, Err, NoMemory, Ok, List, [], All, length, refl, sym, subst, ap, append-nil, true, arith, All-push, All-set, slot_count, StepFits, Step, asked_calls, keeping}
+use Rattle.std.specs.Prelude.{◌<◌, ◌∷◌, ◌++◌}
+use Rattle.g1_replay.specs.{◌∙◌, ℕ, Option, Some, None, Appends-nil, Err, NoMemory, Ok, List, [], All, length, refl, sym, subst, ap, append-nil, true, arith, All-push, All-set, slot_count, StepFits, Step, asked_calls, keeping}
 use Rattle.g1_replay.proofs.{err_is, kept_at, kept_none, asks_one, asked_none, asked_own, asked_other, asked_fits, stores_none, stores_one, one_done, one_undone}
 use Rattle.g1_replay.proofs.scripts.ScriptsPlayer.play.Goals as goal
 use Rattle.g1_replay.proofs.scripts.ScriptsPlayer.play.Goals.{In-Some}

@@ -1,4 +1,5 @@
-use Rattle.g1_replay.specs.{◌^◌, ◌-◌, true, Ok, Follows, scene, IsOfTrace}
+use Rattle.std.specs.Prelude.{◌^◌, ◌-◌}
+use Rattle.g1_replay.specs.{true, Ok, Follows, scene, IsOfTrace}
 use Rattle.g1_replay.proofs.lines.source.Commands.play_all.Given as goal
 
 -- what was done so far

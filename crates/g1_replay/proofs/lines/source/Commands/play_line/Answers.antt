@@ -1,4 +1,5 @@
-use Rattle.g1_replay.specs.{◌∷◌, [], true, false}
+use Rattle.std.specs.Prelude.{◌∷◌}
+use Rattle.g1_replay.specs.{[], true, false}
 use Rattle.g1_replay.proofs.{err_is, line_passed, line_unread, line_stopped}
 use Rattle.g1_replay.proofs.lines.source.Commands.play_line.Goals as goal
 

@@ -1,4 +1,5 @@
-use Rattle.g1_replay.specs.{◌≡◌, ◌+◌, ◌-◌, ◌≤◌, take, length, true, Ok, FollowsFront, scene, IsOfTrace}
+use Rattle.std.specs.Prelude.{◌≡◌, ◌+◌, ◌-◌, ◌≤◌}
+use Rattle.g1_replay.specs.{take, length, true, Ok, FollowsFront, scene, IsOfTrace}
 use Rattle.g1_replay.proofs.lines.source.Commands.play_shown.Given as goal
 
 -- what was done so far

@@ -1,4 +1,5 @@
-use Rattle.g1_replay.specs.{◌≡◌, [], List, ℕ, Some, None, subst, sym, rules, HasPart}
+use Rattle.std.specs.Prelude.{◌≡◌}
+use Rattle.g1_replay.specs.{[], List, ℕ, Some, None, subst, sym, rules, HasPart}
 use Rattle.g1_replay.proofs.{err_is}
 use Rattle.g1_replay.proofs.ReadingLemmas.{line_stopped, no_line, command_read, command_faulty}
 use Rattle.g1_replay.proofs.lines.source.Commands.read_next.Goals as goal
